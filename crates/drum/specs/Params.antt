@@ -1,0 +1,72 @@
+-- Document 01, "Parameters": the capacities and sizes that belong to a file description p, and which descriptions are good.
+use Prim.Native.Nat.{ℕ, _+_, _*_, _-_, _/_, _%_}
+use mathlib.Core.Bool.{Bool, true, _&&_}
+use mathlib.Core.List.{List, [], _∷_}
+use lib.Dec.{leb, eqb}
+use Rattle.table.specs.declared.Shape.{Shape}
+use Rattle.drum.specs.declared.Description.{Description}
+
+-- "D = (WPB−1)/WPR", rounded down: records that a detail block holds
+unfoldable pub D : Description → ℕ
+D p = (p .wpb - 1) / p .wpr
+
+-- "I = (WPB−1)/(K+1)", rounded down: entries that an index block holds
+unfoldable pub I : Description → ℕ
+I p = (p .wpb - 1) / (p .k + 1)
+
+-- "FD = D−SPACE, FI = I−SPACE"
+unfoldable pub FD : Description → ℕ
+FD p = D p - p .space
+
+unfoldable pub FI : Description → ℕ
+FI p = I p - p .space
+
+-- "the master, 3+CONTROL·(K+1) words made even"
+unfoldable pub masterSize : Description → ℕ
+masterSize p = let w = 3 + p .control * (p .k + 1) in w + w % 2
+
+-- "The file is exactly the master .. then N blocks"
+unfoldable pub fileSize : Description → ℕ
+fileSize p = masterSize p + p .n * p .wpb
+
+-- "block b starts (b−1)·WPB words after the master"
+unfoldable pub start : Description → ℕ → ℕ
+start p b = masterSize p + (b - 1) * p .wpb
+
+-- each of the tests holds
+unfoldable pub every : List Bool → Bool
+every [] = true
+every (t ∷ ts) = t && every ts
+
+-- "Parameters", the most sections that CONTROL may allow
+abbrev pub mostSections : ℕ
+mostSections = 4095
+
+-- the table of ranges, a line each, with "D .. and I .., each at least 2"
+unfoldable pub goodParams : Description → Bool
+goodParams p =
+    every
+    (eqb (p .wpb % 2) 0 ∷ leb 6 (p .wpb) ∷ leb (p .wpb) 4096
+    ∷ leb 1 (p .k) ∷ leb (p .k) 63
+    ∷ leb (p .k) (p .wpr)
+    ∷ leb 2 (D p) ∷ leb 2 (I p)
+    ∷ leb (p .space) (D p - 2) ∷ leb (p .space) (I p - 2)
+    ∷ leb 1 (p .control) ∷ leb (p .control) mostSections
+    ∷ leb 2 (p .n) ∷ leb (p .n) 262142
+    ∷ [])
+
+-- 020007 for file and buffer: "The file is exactly ..", "Buffer: exactly WPB words"
+unfoldable pub sized : Description → ℕ → ℕ → Bool
+sized p file buffer = every (goodParams p ∷ eqb file (fileSize p) ∷ eqb buffer (p .wpb) ∷ [])
+
+-- "Layout": "Master: .. Then entries: key and index block", from word 3 on
+unfoldable pub masterShape : Description → Shape
+masterShape p = record { base = 3; stride = p .k + 1; width = p .k }
+
+-- "Index block: word 0 count, then entries: key and detail block"
+unfoldable pub indexShape : Description → Shape
+indexShape p = record { base = 1; stride = p .k + 1; width = p .k }
+
+-- "Detail block: word 0 count, then records"
+unfoldable pub detailShape : Description → Shape
+detailShape p = record { base = 1; stride = p .wpr; width = p .k }

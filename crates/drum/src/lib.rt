@@ -1,0 +1,275 @@
+// The lower layer: the file description, and blocks moved between file and buffer. Only this crate knows where a block lies in a file.
+use table::Shape;
+ghost use mathlib.Core.Path.{_≡_};
+ghost use mathlib.Core.Bool.{true};
+ghost use Prim.Native.Nat.{_+_, _*_, _-_, _≤_, _<_};
+ghost use lib.ListN.{length};
+ghost use Rattle.drum.specs.Params.{D, I, FD, FI, masterSize, fileSize, start as startOf, goodParams, sized, masterShape, indexShape, detailShape};
+ghost use Rattle.drum.specs.Blocks.{blockAt, putBlock, Fitting, Block, seen, textOf};
+
+// The parameters of a search file. Set up field by field, each step handing the description on.
+pub struct Description {
+    pub wpb: usize,
+    pub wpr: usize,
+    pub k: usize,
+    pub space: usize,
+    pub control: usize,
+    pub n: usize,
+}
+
+impl Description {
+    // The smallest and the largest WPB, K, CONTROL and N that the rules allow.
+    pub const LEAST_WPB: usize = 6;
+
+    pub const MOST_WPB: usize = 4096;
+
+    pub const MOST_K: usize = 63;
+
+    pub const MOST_CONTROL: usize = 4095;
+
+    pub const MOST_N: usize = 262142;
+
+    pub fn new() -> Self
+        ensures { λ r. ⌜ r ≡ record { wpb = 0; wpr = 0; k = 0; space = 0; control = 0; n = 0 } ⌝ }
+    {
+        Self {
+            wpb: 0,
+            wpr: 0,
+            k: 0,
+            space: 0,
+            control: 0,
+            n: 0,
+        }
+    }
+
+    pub fn with_wpb(mut self, x: usize) -> Self
+        ensures { λ r. ⌜ r ≡ record { wpb = x; wpr = self .wpr; k = self .k; space = self .space; control = self .control; n = self .n } ⌝ }
+    {
+        self.wpb = x;
+        self
+    }
+
+    pub fn with_wpr(mut self, x: usize) -> Self
+        ensures { λ r. ⌜ r ≡ record { wpb = self .wpb; wpr = x; k = self .k; space = self .space; control = self .control; n = self .n } ⌝ }
+    {
+        self.wpr = x;
+        self
+    }
+
+    pub fn with_k(mut self, x: usize) -> Self
+        ensures { λ r. ⌜ r ≡ record { wpb = self .wpb; wpr = self .wpr; k = x; space = self .space; control = self .control; n = self .n } ⌝ }
+    {
+        self.k = x;
+        self
+    }
+
+    pub fn with_space(mut self, x: usize) -> Self
+        ensures { λ r. ⌜ r ≡ record { wpb = self .wpb; wpr = self .wpr; k = self .k; space = x; control = self .control; n = self .n } ⌝ }
+    {
+        self.space = x;
+        self
+    }
+
+    pub fn with_control(mut self, x: usize) -> Self
+        ensures { λ r. ⌜ r ≡ record { wpb = self .wpb; wpr = self .wpr; k = self .k; space = self .space; control = x; n = self .n } ⌝ }
+    {
+        self.control = x;
+        self
+    }
+
+    pub fn with_n(mut self, x: usize) -> Self
+        ensures { λ r. ⌜ r ≡ record { wpb = self .wpb; wpr = self .wpr; k = self .k; space = self .space; control = self .control; n = x } ⌝ }
+    {
+        self.n = x;
+        self
+    }
+
+    // D: records that a detail block holds.
+    pub fn d(self) -> usize
+        ensures { λ r. ⌜ r ≡ D self ⌝ }
+    {
+        let wpb = self.wpb;
+        let wpr = self.wpr;
+        if wpr == 0 {
+            return 0;
+        }
+        if wpb == 0 {
+            return 0;
+        }
+        (wpb - 1) / wpr
+    }
+
+    // I: entries that an index block holds.
+    pub fn i(self) -> usize
+        ensures { λ r. ⌜ r ≡ I self ⌝ }
+    {
+        let wpb = self.wpb;
+        let k = self.k;
+        if wpb <= k {
+            return 0;
+        }
+        (wpb - 1) / (k + 1)
+    }
+
+    // FD: records up to which XTEND fills a detail block.
+    pub fn fd(self) -> usize
+        ensures { λ r. ⌜ r ≡ FD self ⌝ }
+    {
+        let d = self.d();
+        let space = self.space;
+        if d < space {
+            return 0;
+        }
+        d - space
+    }
+
+    // FI: entries up to which XTEND fills an index block.
+    pub fn fi(self) -> usize
+        ensures { λ r. ⌜ r ≡ FI self ⌝ }
+    {
+        let i = self.i();
+        let space = self.space;
+        if i < space {
+            return 0;
+        }
+        i - space
+    }
+
+    // Whether the parameters keep document 01's table.
+    pub fn is_good(self) -> bool
+        ensures { λ r. ⌜ r ≡ goodParams self ⌝ }
+    {
+        let wpb = self.wpb;
+        let k = self.k;
+        if wpb % 2 != 0 {
+            return false;
+        }
+        if wpb < Self::LEAST_WPB {
+            return false;
+        }
+        if Self::MOST_WPB < wpb {
+            return false;
+        }
+        if k < 1 {
+            return false;
+        }
+        if Self::MOST_K < k {
+            return false;
+        }
+        if self.wpr < k {
+            return false;
+        }
+        has_room(self)
+    }
+
+    // The words of the master.
+    pub fn master_size(self) -> usize
+        requires { ⌜ goodParams self ≡ true ⌝ }
+        ensures { λ r. ⌜ r ≡ masterSize self ⌝ }
+    {
+        let w = 3 + self.control * (self.k + 1);
+        w + w % 2
+    }
+
+    // The words of the file.
+    pub fn file_size(self) -> usize
+        requires { ⌜ goodParams self ≡ true ⌝ }
+        ensures { λ r. ⌜ r ≡ fileSize self ⌝ }
+    {
+        self.master_size() + self.n * self.wpb
+    }
+
+    // Where block b starts; block N + 1 would start where the file ends.
+    pub fn start(self, b: usize) -> usize
+        requires { ⌜ (goodParams self ≡ true) × (1 ≤ b) × (b ≤ self .n + 1) ⌝ }
+        ensures { λ r. ⌜ r ≡ startOf self b ⌝ }
+    {
+        self.master_size() + (b - 1) * self.wpb
+    }
+
+    // The tables of a file.
+    pub fn master_shape(self) -> Shape
+        requires { ⌜ goodParams self ≡ true ⌝ }
+        ensures { λ r. ⌜ r ≡ masterShape self ⌝ }
+    {
+        Shape {
+            base: 3,
+            stride: self.k + 1,
+            width: self.k,
+        }
+    }
+
+    pub fn index_shape(self) -> Shape
+        requires { ⌜ goodParams self ≡ true ⌝ }
+        ensures { λ r. ⌜ r ≡ indexShape self ⌝ }
+    {
+        Shape {
+            base: 1,
+            stride: self.k + 1,
+            width: self.k,
+        }
+    }
+
+    pub fn detail_shape(self) -> Shape
+        ensures { λ r. ⌜ r ≡ detailShape self ⌝ }
+    {
+        Shape {
+            base: 1,
+            stride: self.wpr,
+            width: self.k,
+        }
+    }
+
+    // Whether the parameters are good, and file and buffer have the lengths that they give.
+    pub fn is_sized(self, file: usize, buffer: usize) -> bool
+        ensures { λ r. ⌜ r ≡ sized self file buffer ⌝ }
+    {
+        if !self.is_good() {
+            return false;
+        }
+        if file != self.file_size() {
+            return false;
+        }
+        buffer == self.wpb
+    }
+}
+
+// Brings block b of the file into the buffer.
+pub fn read_block(p: Description, file: &[u32], buffer: &mut [u32], b: usize)
+    requires { ⌜ Fitting p (now file) (now buffer) × Block p b ⌝ }
+    ensures { λ _. ⌜ now (buffer .exit) ≡ blockAt p (now (file .entry)) b ⌝ }
+{
+    let wpb = p.wpb;
+    let start = p.start(b);
+    words::copy_words(buffer, 0, file, start, wpb);
+}
+
+// Writes the buffer over block b of the file.
+pub fn write_block(p: Description, file: &mut [u32], buffer: &[u32], b: usize)
+    requires { ⌜ Fitting p (now file) (now buffer) × Block p b ⌝ }
+    ensures { λ _. ⌜ now (file .exit) ≡ putBlock p (now (file .entry)) b (now (buffer .entry)) ⌝ }
+{
+    let wpb = p.wpb;
+    let start = p.start(b);
+    words::copy_words(file, start, buffer, 0, wpb);
+}
+
+// Lends the current text of block b: a part of the buffer or of the file.
+pub fn text_of<'a>(
+    p: Description,
+    current: usize,
+    file: &'a [u32],
+    buffer: &'a [u32],
+    b: usize,
+) -> &'a [u32]
+    requires { ⌜ Fitting p (now file) (now buffer) × Block p b ⌝ }
+    ensures { λ r. ⌜ now r ≡ textOf (seen p current (now (file .entry)) (now (buffer .entry))) b ⌝ }
+{
+    if b == current {
+        return buffer;
+    }
+    let wpb = p.wpb;
+    let start = p.start(b);
+    let end = start + wpb;
+    &file[start..end]
+}

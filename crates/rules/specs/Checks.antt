@@ -1,0 +1,26 @@
+-- The refusals before a call's own steps. Document 01, "Numbers returned (octal)", in its order.
+use Prim.Native.Nat.{ℕ}
+use mathlib.Core.Bool.{Bool, not, _&&_}
+use lib.Dec.{eqb}
+use lib.ListN.{length}
+use Rattle.numbers.specs.Numbers.{wrongSize, isClosed, wrongKey}
+use Rattle.numbers.specs.Checked.{Checked, require}
+use Rattle.words.specs.Words.{part, allWords}
+use Rattle.words.specs.Keys.{isOnes}
+use Rattle.drum.specs.Params.{sized}
+use Rattle.rules.specs.State.{State, desc, keyIn}
+
+-- 020007: "parameter or slice length wrong", of file and buffer; "Workspace: WPR"
+unfoldable pub sizesOk : State → Checked Bool
+sizesOk st = require (sized (desc st) (length (st .file)) (length (st .buffer))) wrongSize
+
+unfoldable pub workOk : State → Checked Bool
+workOk st = require (eqb (length (st .work)) (desc st .wpr)) wrongSize
+
+-- 020005: "other call, closed"
+unfoldable pub isOpen : State → Checked Bool
+isOpen st = require (st .session .opened) isClosed
+
+-- 030001: "workspace word it reads above 262143, or key ONES (SEEK, DLETE read the key only)"
+unfoldable pub keyOk : ℕ → State → Checked Bool
+keyOk reads st = require (allWords (part 0 reads (st .work)) && not (isOnes (keyIn (desc st) (st .work)))) wrongKey

@@ -1,0 +1,48 @@
+-- Document 01: "New blocks come from the chain's head first, then word 2; detail before index." And the test of 070001.
+use Prim.Native.Nat.{ℕ, _+_}
+use mathlib.Core.Bool.{Bool, true, false, cond, not, _&&_}
+use mathlib.Core.List.{List, [], _∷_}
+use lib.Dec.{ltb, eqb}
+use lib.ListN.{set}
+use Rattle.numbers.specs.Numbers.{noneFree, done}
+use Rattle.numbers.specs.Checked.{Checked, passed, refused, _>>=_, _>>_, require, within, upTo}
+use Rattle.drum.specs.declared.Description.{Description}
+use Rattle.drum.specs.Params.{D}
+use Rattle.drum.specs.Blocks.{Texts, textOf, linkIn}
+use Rattle.rules.specs.declared.Path.{Path}
+use Rattle.rules.specs.declared.Taken.{Taken}
+
+-- whether no block is free, with these words 1 and 2: the chain is empty and word 2 is N+1 ("word 2 may be N+1, a chain link 0")
+unfoldable pub noneLeft : Description → ℕ → ℕ → Checked Bool
+noneLeft p head lowest = do
+  upTo (p .n) head
+  cond (eqb head 0) (do
+    within 1 (p .n + 1) lowest
+    passed (ltb (p .n) lowest))
+      (passed false)
+
+-- one new block (0: none is free), and words 1 and 2 then: the chain's head, whose link becomes the head; else the lowest never used
+unfoldable pub granted : Texts → ℕ → ℕ → Checked Taken
+granted v head lowest = do
+  none ← noneLeft (v .desc) head lowest
+  cond none (passed (record { block = 0; head = head; lowest = lowest }))
+      (cond (eqb head 0) (passed (record { block = lowest; head = 0; lowest = lowest + 1 })) (do
+        link ← upTo (v .desc .n) (linkIn (textOf v head))
+        passed (record { block = head; head = link; lowest = lowest })))
+
+-- "a new block equal to any other block in the call's list of transfers" is bad: those are the index block and the detail block of the way,
+-- and the current block if it is written
+abbrev pub isNew : ℕ → Bool → Path → ℕ → Bool
+isNew cur flag w b = not (eqb b (w .index)) && (not (eqb b (w .detail)) && not (flag && eqb b cur))
+
+-- "stored; the record's block now holds D and no block is free": 070001, else 0
+unfoldable pub storedNumber : Description → ℕ → ℕ → ℕ → Checked ℕ
+storedNumber p n head lowest =
+    cond (eqb n (D p)) (do
+      none ← noneLeft p head lowest
+      passed (cond none noneFree done))
+    (passed done)
+
+-- the file with these words 1 and 2
+unfoldable pub withFree : ℕ → ℕ → List ℕ → List ℕ
+withFree head lowest f = set (set f 1 head) 2 lowest

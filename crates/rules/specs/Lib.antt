@@ -1,0 +1,17 @@
+pub mod State
+pub mod Checks
+pub mod Paths
+pub mod Lookup
+pub mod Free
+pub mod Open
+pub mod Close
+pub mod Seek
+pub mod Adv
+pub mod Nsert
+pub mod NsertDone
+pub mod Dlete
+pub mod Xtend
+pub mod XtendDone
+pub mod Requests
+pub mod Run
+pub mod Computing

@@ -1,0 +1,67 @@
+-- Document 01: SEEK and UPDAT.
+use Prim.Native.Nat.{ℕ}
+use mathlib.Core.Bool.{Bool, true}
+use mathlib.Core.List.{List}
+use Rattle.numbers.specs.Numbers.{done, notFound, badFile}
+use Rattle.numbers.specs.Checked.{Checked, passed, refused, _>>=_, _>>_}
+use Rattle.table.specs.Tables.{row, replaced}
+use Rattle.drum.specs.Params.{detailShape}
+use Rattle.drum.specs.Blocks.{Texts}
+use Rattle.rules.specs.declared.Way.the-variants.{By}
+use Rattle.rules.specs.declared.Look.{Look}
+use Rattle.rules.specs.declared.Look.the-variants.{Bad, Found, Missing}
+use Rattle.rules.specs.State.{State, Outcome, Effect, desc, texts, keyIn, recordIn, settle}
+use Rattle.rules.specs.Checks.{sizesOk, workOk, isOpen, keyOk}
+use Rattle.rules.specs.Lookup.{Reached, reached, look, stopping, storing}
+
+-- "SEEK found: record to workspace, position = key."
+unfoldable pub giving : Texts → Reached → ℕ → ℕ → Bool → Effect
+giving v r number i keyed = record {
+  number = number;
+  transfers = r .moves;
+  current = r .current;
+  flag = r .flag;
+  keyed = keyed;
+  file = r .file;
+  buffer = r .buffer;
+  work = row (detailShape (v .desc)) (r .buffer) i;
+}
+
+unfoldable pub seekDone : Texts → Bool → List ℕ → Look → Checked Effect
+seekDone v flag work Bad = refused badFile
+seekDone v flag work (Found way i) = passed (giving v (reached v flag way) done i true)
+seekDone v flag work (Missing w) = passed (stopping notFound work (reached v flag (By w)))
+
+unfoldable pub seekSteps : Texts → Bool → List ℕ → Checked Effect
+seekSteps v flag work = do
+  l ← look v flag (keyIn (v .desc) work)
+  seekDone v flag work l
+
+unfoldable pub seek : State → Outcome
+seek st = settle st do
+  sizesOk st
+  workOk st
+  isOpen st
+  keyOk (desc st .k) st
+  seekSteps (texts st) (st .session .flag) (st .work)
+
+-- "UPDAT found: record replaced, flag on, position = key."
+unfoldable pub updatDone : Texts → Bool → List ℕ → Look → Checked Effect
+updatDone v flag work Bad = refused badFile
+updatDone v flag work (Found way i) =
+    let r = reached v flag way in
+    passed (storing done work r (replaced (detailShape (v .desc)) i (recordIn (v .desc) work) (r .buffer)))
+updatDone v flag work (Missing w) = passed (stopping notFound work (reached v flag (By w)))
+
+unfoldable pub updatSteps : Texts → Bool → List ℕ → Checked Effect
+updatSteps v flag work = do
+  l ← look v flag (keyIn (v .desc) work)
+  updatDone v flag work l
+
+unfoldable pub updat : State → Outcome
+updat st = settle st do
+  sizesOk st
+  workOk st
+  isOpen st
+  keyOk (desc st .wpr) st
+  updatSteps (texts st) (st .session .flag) (st .work)

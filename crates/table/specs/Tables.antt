@@ -1,0 +1,91 @@
+-- Tables. Master, index block and detail block are one thing: a count in word 0, and from word `base` on that many rows of `stride`
+-- words, each of which begins with a key of `width` words. Document 01, "Layout".
+use Prim.Native.Nat.{ℕ, zero, suc, _+_, _*_, _-_}
+use mathlib.Core.Bool.{Bool, true, false}
+use mathlib.Core.List.{List, _∷_, _++_}
+use lib.ListN.{length, getD, set}
+use Rattle.words.specs.Words.{part, put, zeros}
+use Rattle.words.specs.Keys.{keyLt, keyLe, sameKey}
+use Rattle.words.specs.declared.Order.{Order}
+use Rattle.words.specs.declared.Order.the-variants.{Below, Same, Above}
+use Rattle.table.specs.declared.Shape.{Shape}
+use Rattle.table.specs.declared.Want.{Want}
+use Rattle.table.specs.declared.Want.the-variants.{Equal, NotBelow, Over}
+
+-- "word 0 count" (of the master: "word 0 sections in use")
+abbrev pub count : List ℕ → ℕ
+count t = getD t 0 0
+
+-- where row i begins
+abbrev pub place : Shape → ℕ → ℕ
+place h i = h .base + i * h .stride
+
+-- row i; its key; the word after its key, of an entry the block that it names
+unfoldable pub row : Shape → List ℕ → ℕ → List ℕ
+row h t i = part (place h i) (h .stride) t
+
+unfoldable pub keyAt : Shape → List ℕ → ℕ → List ℕ
+keyAt h t i = part (place h i) (h .width) t
+
+unfoldable pub blockIn : Shape → List ℕ → ℕ → ℕ
+blockIn h t i = getD t (place h i + h .width) 0
+
+-- "Searches take the first that fits": the first i below n at which the test holds, else n
+unfoldable pub firstWhere : (ℕ → Bool) → ℕ → ℕ
+firstWhere test zero = zero
+firstWhere test (suc n) = elim (test zero) [ true ↦ zero | false ↦ suc (firstWhere (λ i. test (suc i)) n) ]
+
+-- whether a row's key x is one that a search for the key wants
+abbrev pub wanted : Want → List ℕ → List ℕ → Bool
+wanted Equal key x = sameKey x key
+wanted NotBelow key x = keyLe key x
+wanted Over key x = keyLt key x
+
+-- the same, by how x stands to the key
+abbrev pub asked : Want → Order → Bool
+asked Equal Below = false
+asked Equal Same = true
+asked Equal Above = false
+asked NotBelow Below = false
+asked NotBelow Same = true
+asked NotBelow Above = true
+asked Over Below = false
+asked Over Same = false
+asked Over Above = true
+
+unfoldable pub fits : Want → Shape → List ℕ → List ℕ → ℕ → Bool
+fits w h key t i = wanted w key (keyAt h t i)
+
+-- the first row whose key is the key; is not below it; is above it: else the count
+abbrev pub rowWith : Shape → List ℕ → List ℕ → ℕ
+rowWith h key t = firstWhere (fits Equal h key t) (count t)
+
+abbrev pub rowFrom : Shape → List ℕ → List ℕ → ℕ
+rowFrom h key t = firstWhere (fits NotBelow h key t) (count t)
+
+abbrev pub rowAbove : Shape → List ℕ → List ℕ → ℕ
+rowAbove h key t = firstWhere (fits Over h key t) (count t)
+
+-- t with the words s before its words a to e, which move up
+unfoldable pub opened : List ℕ → ℕ → ℕ → List ℕ → List ℕ
+opened t a e s = put t a (s ++ part a (e - a) t)
+
+-- t without its words a to a + n, those up to e moved down and zeros after them
+unfoldable pub closed : List ℕ → ℕ → ℕ → ℕ → List ℕ
+closed t a e n = put t a (part (a + n) (e - (a + n)) t ++ zeros n)
+
+-- t with row r put in at place i
+unfoldable pub inserted : Shape → ℕ → List ℕ → List ℕ → List ℕ
+inserted h i r t = set (opened t (place h i) (place h (count t)) r) 0 (count t + 1)
+
+-- t with the row at place i taken out; the words given up become 0
+unfoldable pub removed : Shape → ℕ → List ℕ → List ℕ
+removed h i t = set (closed t (place h i) (place h (count t)) (h .stride)) 0 (count t - 1)
+
+-- t with the words r over row i from its first word on: a whole row, or its key alone
+unfoldable pub replaced : Shape → ℕ → List ℕ → List ℕ → List ℕ
+replaced h i r t = put t (place h i) r
+
+-- a block of w words written anew: the count, the rows' words, and "All other words are 0"
+unfoldable pub laid : ℕ → ℕ → List ℕ → List ℕ
+laid w n rows = n ∷ (rows ++ zeros (w - 1 - length rows))
