@@ -2,9 +2,11 @@
 use table::Shape;
 ghost use mathlib.Core.Path.{_≡_};
 ghost use mathlib.Core.Bool.{true};
+ghost use mathlib.Core.List.{[], _∷_};
 ghost use Prim.Native.Nat.{_+_, _*_, _-_, _≤_, _<_};
+ghost use lib.Dec.{leb};
 ghost use lib.ListN.{length};
-ghost use Rattle.drum.specs.Params.{D, I, FD, FI, masterSize, fileSize, start as startOf, goodParams, sized, masterShape, indexShape, detailShape};
+ghost use Rattle.drum.specs.Params.{D, I, FD, FI, masterSize, fileSize, start as startOf, every, goodParams, mostSections, sized, masterShape, indexShape, detailShape};
 ghost use Rattle.drum.specs.Blocks.{blockAt, putBlock, Fitting, Block, seen, textOf};
 
 // The parameters of a search file. Set up field by field, each step handing the description on.
@@ -232,6 +234,37 @@ impl Description {
         }
         buffer == self.wpb
     }
+}
+
+// The rest of document 01's table: room for two records and two entries, and the ranges of SPACE, CONTROL and N.
+fn has_room(p: Description) -> bool
+    ensures { λ r. ⌜ r ≡ every (leb 2 (D p) ∷ leb 2 (I p) ∷ leb (p .space) (D p - 2) ∷ leb (p .space) (I p - 2) ∷ leb 1 (p .control) ∷ leb (p .control) mostSections ∷ leb 2 (p .n) ∷ leb (p .n) 262142 ∷ []) ⌝ }
+{
+    let d = p.d();
+    let i = p.i();
+    let space = p.space;
+    if d < 2 {
+        return false;
+    }
+    if i < 2 {
+        return false;
+    }
+    if d - 2 < space {
+        return false;
+    }
+    if i - 2 < space {
+        return false;
+    }
+    if p.control < 1 {
+        return false;
+    }
+    if Description::MOST_CONTROL < p.control {
+        return false;
+    }
+    if p.n < 2 {
+        return false;
+    }
+    p.n <= Description::MOST_N
 }
 
 // Brings block b of the file into the buffer.

@@ -1,1 +1,4 @@
 // What a good file is.
+pub fn one() -> u32 {
+    1
+}

@@ -12,6 +12,8 @@ pub mod NsertDone
 pub mod Dlete
 pub mod Xtend
 pub mod XtendDone
+pub mod Fits
+pub mod Told
 pub mod Requests
 pub mod Run
 pub mod Computing

@@ -1,9 +1,9 @@
 -- Keys and their order. Document 01, "What is built" and "Layout". All that is above compares keys through keyLt and sameKey alone.
-use Prim.Native.Nat.{ℕ}
+use Prim.Native.Nat.{ℕ, _+_, _*_, _^_}
 use mathlib.Core.Bool.{Bool, true, false, not, _&&_, _||_}
 use mathlib.Core.List.{List, [], _∷_}
 use lib.Dec.{ltb, eqb}
-use lib.ListN.{replicate}
+use lib.ListN.{length, replicate}
 use Rattle.words.specs.declared.Order.{Order}
 use Rattle.words.specs.declared.Order.the-variants.{Below, Same, Above}
 use Rattle.words.specs.Words.{topWord, allAre}
@@ -41,3 +41,8 @@ pick false a b = b
 -- how a stands to b
 unfoldable pub order : List ℕ → List ℕ → Order
 order a b = pick (keyLt a b) Below (pick (sameKey a b) Same Above)
+
+-- a key as one number, its words the digits: of keys of one length the one below has the smaller number
+unfoldable pub val : List ℕ → ℕ
+val [] = 0
+val (x ∷ key) = x * 262144 ^ length key + val key

@@ -1,0 +1,21 @@
+-- What the code tells of a block reached.
+use Prim.Native.Nat.{ℕ}
+use mathlib.Core.Bool.{Bool}
+use mathlib.Core.List.{List}
+use lib.ListN.{length}
+use Rattle.rules.specs.Lookup.{Reached}
+use Rattle.acts.specs.declared.Reach.{Reach}
+
+-- what some steps come to, with their transfers counted
+pub record Come : Type 0 where
+  pub file : List ℕ
+  pub current : ℕ
+  pub flag : Bool
+  pub buffer : List ℕ
+  pub transfers : ℕ
+
+abbrev pub come : Reached → Come
+come r = record { file = r .file; current = r .current; flag = r .flag; buffer = r .buffer; transfers = length (r .moves) }
+
+abbrev pub came : Reach → List ℕ → List ℕ → Come
+came r f b = record { file = f; current = r .current; flag = r .flag; buffer = b; transfers = r .transfers }

@@ -1,0 +1,226 @@
+// What the calls do once they are planned: blocks reached, the master's free words set, rows changed in a block of the file where it lies.
+use drum::Description;
+use rules::Done;
+use rules::Way;
+use table::Shape;
+ghost use mathlib.Core.Path.{_≡_};
+ghost use mathlib.Core.Bool.{true};
+ghost use Prim.Native.Nat.{_+_, _*_, _≤_, _<_};
+ghost use lib.ListN.{length};
+ghost use Rattle.words.specs.Words.{part};
+ghost use Rattle.table.specs.Tables.{count, place, row, inserted, removed, replaced, laid};
+ghost use Rattle.drum.specs.Params.{goodParams, fileSize, detailShape};
+ghost use Rattle.drum.specs.Blocks.{Fitting, Block, blockAt, putBlock, written, seen, textOf};
+ghost use Rattle.rules.specs.Lookup.{flushMoves, reached, stopping};
+ghost use Rattle.rules.specs.Told.{gave, told};
+ghost use Rattle.numbers.specs.Checked.{passed};
+ghost use mathlib.Core.List.{[]};
+ghost use Rattle.rules.specs.Free.{withFree};
+ghost use Rattle.rules.specs.Fits.{FlushFits, WayFits};
+ghost use Rattle.acts.specs.Reach.{come, came};
+
+// A block reached: the transfers made for it, and the current block and flag then.
+pub struct Reach {
+    pub transfers: usize,
+    pub current: usize,
+    pub flag: bool,
+}
+
+// Writes the buffer over its block if it is flagged, and counts it.
+pub fn flush(p: Description, current: usize, flag: bool, file: &mut [u32], buffer: &[u32]) -> usize
+    requires { ⌜ Fitting p (now file) (now buffer) × FlushFits (seen p current (now file) (now buffer)) flag ⌝ }
+    ensures { λ r. ⌜ (r ≡ length (flushMoves (seen p current (now (file .entry)) (now (buffer .entry))) flag)) × (now (file .exit) ≡ written p (flushMoves (seen p current (now (file .entry)) (now (buffer .entry))) flag) (now (file .entry))) ⌝ }
+{
+    if !flag {
+        return 0;
+    }
+    drum::write_block(p, file, buffer, current);
+    1
+}
+
+// Lets the file have the current text of block b.
+pub fn stage(p: Description, current: usize, file: &mut [u32], buffer: &[u32], b: usize)
+    requires { ⌜ Fitting p (now file) (now buffer) × Block p b ⌝ }
+    ensures { λ _. ⌜ now (file .exit) ≡ putBlock p (now (file .entry)) b (textOf (seen p current (now (file .entry)) (now (buffer .entry))) b) ⌝ }
+{
+    if b != current {
+        return;
+    }
+    drum::write_block(p, file, buffer, b);
+}
+
+// Brings the current text of block b into the buffer.
+pub fn load(p: Description, current: usize, file: &[u32], buffer: &mut [u32], b: usize)
+    requires { ⌜ Fitting p (now file) (now buffer) × Block p b ⌝ }
+    ensures { λ _. ⌜ now (buffer .exit) ≡ textOf (seen p current (now (file .entry)) (now (buffer .entry))) b ⌝ }
+{
+    if b == current {
+        return;
+    }
+    drum::read_block(p, file, buffer, b);
+}
+
+// Writes the buffer if it is flagged, and brings the current text of block b into it. The index blocks that are read on the way are
+// looked at where they lie, and the caller counts them.
+pub fn bring(
+    p: Description,
+    current: usize,
+    flag: bool,
+    file: &mut [u32],
+    buffer: &mut [u32],
+    b: usize,
+) -> usize
+    requires { ⌜ Fitting p (now file) (now buffer) × FlushFits (seen p current (now file) (now buffer)) flag × Block p b ⌝ }
+    ensures { λ r. ⌜ (r ≡ length (flushMoves (seen p current (now (file .entry)) (now (buffer .entry))) flag)) × (now (file .exit) ≡ written p (flushMoves (seen p current (now (file .entry)) (now (buffer .entry))) flag) (now (file .entry))) × (now (buffer .exit) ≡ textOf (seen p current (now (file .entry)) (now (buffer .entry))) b) ⌝ }
+{
+    let wrote = flush(p, current, flag, file, buffer);
+    load(p, current, file, buffer, b);
+    wrote
+}
+
+// Reaches the block at the end of the way.
+pub fn reach(
+    p: Description,
+    current: usize,
+    flag: bool,
+    file: &mut [u32],
+    buffer: &mut [u32],
+    way: Way,
+) -> Reach
+    requires { ⌜ Fitting p (now file) (now buffer) × WayFits (seen p current (now file) (now buffer)) flag way ⌝ }
+    ensures { λ r. ⌜ came r (now (file .exit)) (now (buffer .exit)) ≡ come (reached (seen p current (now (file .entry)) (now (buffer .entry))) flag way) ⌝ }
+{
+    match way {
+        Way::Here => Reach {
+            transfers: 0,
+            current,
+            flag,
+        },
+        Way::By(w) => {
+            let b = w.detail;
+            let wrote = bring(p, current, flag, file, buffer, b);
+            Reach {
+                transfers: wrote + 2,
+                current: b,
+                flag: false,
+            }
+        }
+    }
+}
+
+// Reaches the block, and the call stops there with its number.
+pub fn stop(
+    p: Description,
+    current: usize,
+    flag: bool,
+    file: &mut [u32],
+    buffer: &mut [u32],
+    way: Way,
+    number: u32,
+) -> Done
+    requires { ⌜ Fitting p (now file) (now buffer) × WayFits (seen p current (now file) (now buffer)) flag way ⌝ }
+    ensures { λ r. ⌜ gave r (now (file .exit)) (now (buffer .exit)) [] ≡ told (seen p current (now (file .entry)) (now (buffer .entry))) flag [] (passed (stopping number [] (reached (seen p current (now (file .entry)) (now (buffer .entry))) flag way))) ⌝ }
+{
+    let here = reach(p, current, flag, file, buffer, way);
+    Done {
+        number,
+        transfers: here.transfers,
+        current: here.current,
+        flag: here.flag,
+        keyed: false,
+    }
+}
+
+// Record i of the buffer to the workspace.
+pub fn give(p: Description, buffer: &[u32], work: &mut [u32], i: usize)
+    requires { ⌜ (place (detailShape p) i + p .wpr ≤ length (now buffer)) × (length (now work) ≡ p .wpr) ⌝ }
+    ensures { λ _. ⌜ now (work .exit) ≡ row (detailShape p) (now (buffer .entry)) i ⌝ }
+{
+    let wpr = p.wpr;
+    words::copy_words(work, 0, buffer, 1 + i * wpr, wpr);
+}
+
+// Words 1 and 2 of the master.
+pub fn set_free(file: &mut [u32], head: usize, lowest: u32)
+    requires { ⌜ (3 ≤ length (now file)) × (head ≤ 262143) ⌝ }
+    ensures { λ _. ⌜ now (file .exit) ≡ withFree head lowest (now (file .entry)) ⌝ }
+{
+    words::put_word(file, 1, head);
+    file[2] = lowest;
+}
+
+// Writes a block of the file anew: a count, n words of src, and zeros.
+pub fn lay_block(
+    p: Description,
+    file: &mut [u32],
+    b: usize,
+    count: usize,
+    src: &[u32],
+    from: usize,
+    n: usize,
+)
+    requires { ⌜ (goodParams p ≡ true) × (length (now file) ≡ fileSize p) × Block p b × (1 + n ≤ p .wpb) × (from + n ≤ length (now src)) × (count ≤ 262143) ⌝ }
+    ensures { λ _. ⌜ now (file .exit) ≡ putBlock p (now (file .entry)) b (laid (p .wpb) count (part from n (now (src .entry)))) ⌝ }
+{
+    let start = p.start(b);
+    let end = start + p.wpb;
+    lay_rows(&mut file[start..end], count, src, from, n);
+}
+
+// A count, n words of src, and zeros, over all words of a text.
+fn lay_rows(dst: &mut [u32], count: usize, src: &[u32], from: usize, n: usize)
+    requires { ⌜ (1 + n ≤ length (now dst)) × (from + n ≤ length (now src)) × (count ≤ 262143) ⌝ }
+    ensures { λ _. ⌜ now (dst .exit) ≡ laid (length (now (dst .entry))) count (part from n (now (src .entry))) ⌝ }
+{
+    words::put_word(dst, 0, count);
+    words::copy_words(dst, 1, src, from, n);
+    let rest = dst.len() - 1 - n;
+    words::zero_words(dst, 1 + n, rest);
+}
+
+// Puts a row in before row i of block b, where it lies in the file.
+pub fn insert_in(
+    p: Description,
+    h: Shape,
+    file: &mut [u32],
+    b: usize,
+    i: usize,
+    row: &[u32],
+    from: usize,
+)
+    requires { ⌜ (goodParams p ≡ true) × (length (now file) ≡ fileSize p) × Block p b × (1 ≤ h .base) × (place h (count (blockAt p (now file) b)) + h .stride ≤ p .wpb) × (i ≤ count (blockAt p (now file) b)) × (count (blockAt p (now file) b) < 262143) × (from + h .stride ≤ length (now row)) ⌝ }
+    ensures { λ _. ⌜ now (file .exit) ≡ putBlock p (now (file .entry)) b (inserted h i (part from (h .stride) (now (row .entry))) (blockAt p (now (file .entry)) b)) ⌝ }
+{
+    let start = p.start(b);
+    let end = start + p.wpb;
+    table::insert_row(h, &mut file[start..end], i, row, from);
+}
+
+// Takes row i of block b out, where it lies in the file.
+pub fn remove_in(p: Description, h: Shape, file: &mut [u32], b: usize, i: usize)
+    requires { ⌜ (goodParams p ≡ true) × (length (now file) ≡ fileSize p) × Block p b × (1 ≤ h .base) × (place h (count (blockAt p (now file) b)) ≤ p .wpb) × (i < count (blockAt p (now file) b)) × (count (blockAt p (now file) b) ≤ 262143) ⌝ }
+    ensures { λ _. ⌜ now (file .exit) ≡ putBlock p (now (file .entry)) b (removed h i (blockAt p (now (file .entry)) b)) ⌝ }
+{
+    let start = p.start(b);
+    let end = start + p.wpb;
+    table::remove_row(h, &mut file[start..end], i);
+}
+
+// Writes n words over row i of block b, where it lies in the file.
+pub fn replace_in(
+    p: Description,
+    h: Shape,
+    file: &mut [u32],
+    b: usize,
+    i: usize,
+    row: &[u32],
+    from: usize,
+    n: usize,
+)
+    requires { ⌜ (goodParams p ≡ true) × (length (now file) ≡ fileSize p) × Block p b × (place h i + n ≤ p .wpb) × (from + n ≤ length (now row)) ⌝ }
+    ensures { λ _. ⌜ now (file .exit) ≡ putBlock p (now (file .entry)) b (replaced h i (part from n (now (row .entry))) (blockAt p (now (file .entry)) b)) ⌝ }
+{
+    let start = p.start(b);
+    let end = start + p.wpb;
+    table::replace_row(h, &mut file[start..end], i, row, from, n);
+}

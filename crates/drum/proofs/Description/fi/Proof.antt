@@ -1,0 +1,23 @@
+-- FI is I less SPACE, 0 where SPACE is the larger.
+use native.Mathlib.Omega.{arith}
+use Rattle.drum.specs.Params.{FI}
+use borrow.Author.Needs.{needs}
+use Rattle.drum.proofs.Description.fi.Statement.{statement}
+use Rattle.drum.proofs.Description.fi.Tie as tie
+use Rattle.drum.proofs.Description.fi.Reads as reads
+use Rattle.drum.proofs.Description.fi.Lts as lts
+use Rattle.drum.proofs.Description.i.Reads as i-reads
+
+i-requires : tie.Need-i-requires
+i-requires c κs = search needs
+
+returns : tie.Need-returns
+unfolding FI
+returns c = omega arith
+
+returns-2 : tie.Need-returns-2
+unfolding FI
+returns-2 c = omega arith
+
+pub fi-spec : {M : Type 1} → statement M
+fi-spec = tie.close (tie.spec i-requires returns returns-2)

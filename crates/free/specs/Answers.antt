@@ -1,0 +1,17 @@
+-- The enums of the code as answers of the definitions' steps: `Bad` is a bad number, 070003.
+use Prim.Native.Nat.{ℕ}
+use Rattle.numbers.specs.Numbers.{badFile}
+use Rattle.numbers.specs.Checked.{Checked, passed, refused}
+use Rattle.rules.specs.declared.Taken.{Taken}
+use Rattle.free.specs.declared.Grant.{Grant}
+use Rattle.free.specs.declared.Grant.the-variants as grant-is
+use Rattle.free.specs.declared.Number.{Number}
+use Rattle.free.specs.declared.Number.the-variants as number-is
+
+abbrev pub asGrant : Grant → Checked Taken
+asGrant grant-is.Bad = refused badFile
+asGrant (grant-is.Got t) = passed t
+
+abbrev pub asNumber : Number → Checked ℕ
+asNumber number-is.Bad = refused badFile
+asNumber (number-is.Is n) = passed n

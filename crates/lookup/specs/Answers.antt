@@ -1,0 +1,32 @@
+-- The enums of the code as answers of the definitions' steps: `Bad` is a bad number, 070003.
+use mathlib.Core.Bool.{Bool, true, false}
+use Rattle.numbers.specs.Numbers.{badFile}
+use Rattle.numbers.specs.Checked.{Checked, passed, refused}
+use Rattle.rules.specs.declared.Entry.{Entry}
+use Rattle.rules.specs.declared.Path.{Path}
+use Rattle.rules.specs.declared.Look.{Look}
+use Rattle.rules.specs.declared.Look.the-variants as look-is
+use Rattle.lookup.specs.declared.Pick.{Pick}
+use Rattle.lookup.specs.declared.Pick.the-variants as pick-is
+use Rattle.lookup.specs.declared.Route.{Route}
+use Rattle.lookup.specs.declared.Route.the-variants as route-is
+use Rattle.lookup.specs.declared.Test.{Test}
+use Rattle.lookup.specs.declared.Test.the-variants as test-is
+
+abbrev pub asPick : Pick → Checked Entry
+asPick pick-is.Bad = refused badFile
+asPick (pick-is.At e) = passed e
+
+abbrev pub asRoute : Route → Checked Path
+asRoute route-is.Bad = refused badFile
+asRoute (route-is.To w) = passed w
+
+abbrev pub asTest : Test → Checked Bool
+asTest test-is.Bad = refused badFile
+asTest test-is.No = passed false
+asTest test-is.Yes = passed true
+
+abbrev pub asLook : Look → Checked Look
+asLook look-is.Bad = refused badFile
+asLook (look-is.Found way i) = passed (look-is.Found way i)
+asLook (look-is.Missing w) = passed (look-is.Missing w)

@@ -1,0 +1,282 @@
+// What a call looks at before it stores anything: ways to blocks, and where a key is. Every number on the way is checked, in current
+// texts; the places come back beside the block numbers.
+use drum::Description;
+use rules::Entry;
+use rules::Look;
+use rules::Path;
+use rules::Way;
+use rules::Which;
+use table::Shape;
+use table::Want;
+ghost use mathlib.Core.Path.{_≡_};
+ghost use mathlib.Core.Bool.{true};
+ghost use mathlib.Core.List.{[]};
+ghost use Prim.Native.Nat.{_+_, _*_, _≤_, _<_};
+ghost use lib.ListN.{length};
+ghost use Rattle.words.specs.Words.{part};
+ghost use Rattle.table.specs.Tables.{count, place};
+ghost use Rattle.drum.specs.Params.{goodParams};
+ghost use Rattle.drum.specs.Blocks.{Fitting, Block, seen, textOf};
+ghost use Rattle.rules.specs.Paths.{chosen, entryOf, pathAt, pathUnder, pathBy};
+ghost use Rattle.rules.specs.Lookup.{onBuffer, flushOk, lookAt, lookOutside, look as looked};
+ghost use Rattle.lookup.specs.Answers.{asPick, asRoute, asTest, asLook};
+ghost use Rattle.rules.specs.Fits.{PathFits, BufferFits};
+
+pub enum Pick {
+    Bad,
+    At(Entry),
+}
+
+pub enum Route {
+    Bad,
+    To(Path),
+}
+
+pub enum Test {
+    Bad,
+    No,
+    Yes,
+}
+
+// The place that is wanted in a table of n rows.
+fn place_of(which: Which, h: Shape, t: &[u32], n: usize, key: &[u32]) -> usize
+    requires { ⌜ (n ≡ count (now t)) × (1 ≤ n) × (place h n ≤ length (now t)) × (h .width ≤ h .stride) × (h .width ≤ length (now key)) ⌝ }
+    ensures { λ r. ⌜ r ≡ chosen which h (part 0 (h .width) (now (key .entry))) (now (t .entry)) ⌝ }
+{
+    match which {
+        Which::First => 0,
+        Which::Last => n - 1,
+        Which::Place(i) => i,
+        Which::Covering => table::find(Want::NotBelow, h, t, n, key, 0),
+    }
+}
+
+// The entry that is wanted, of the master or of an index block.
+pub fn entry_of(p: Description, h: Shape, most: usize, which: Which, t: &[u32], key: &[u32]) -> Pick
+    requires { ⌜ (1 ≤ h .base) × (h .width ≡ p .k) × (h .stride ≡ p .k + 1) × (place h most ≤ length (now t)) × (p .k ≤ length (now key)) ⌝ }
+    ensures { λ r. ⌜ asPick r ≡ entryOf p h most which (part 0 (p .k) (now (key .entry))) (now (t .entry)) ⌝ }
+{
+    let n = words::word_at(t, 0);
+    if n < 1 {
+        return Pick::Bad;
+    }
+    if most < n {
+        return Pick::Bad;
+    }
+    let i = place_of(which, h, t, n, key);
+    if n <= i {
+        return Pick::Bad;
+    }
+    let b = words::word_at(t, h.base + i * h.stride + h.width);
+    if b < 1 {
+        return Pick::Bad;
+    }
+    if p.n < b {
+        return Pick::Bad;
+    }
+    Pick::At(Entry { place: i, block: b })
+}
+
+// The way by master entry m and index entry e.
+fn path_at<'a>(
+    p: Description,
+    current: usize,
+    file: &'a [u32],
+    buffer: &'a [u32],
+    m: Entry,
+    e: Entry,
+) -> Route
+    requires { ⌜ Fitting p (now file) (now buffer) × Block p (e .block) ⌝ }
+    ensures { λ r. ⌜ asRoute r ≡ pathAt (seen p current (now (file .entry)) (now (buffer .entry))) m e ⌝ }
+{
+    let index = m.block;
+    let detail = e.block;
+    if index == detail {
+        return Route::Bad;
+    }
+    let t = drum::text_of(p, current, file, buffer, detail);
+    let n = words::word_at(t, 0);
+    if n < 1 {
+        return Route::Bad;
+    }
+    if p.d() < n {
+        return Route::Bad;
+    }
+    Route::To(Path {
+        section: m.place,
+        index,
+        entry: e.place,
+        detail,
+    })
+}
+
+// The way by master entry m and the entry of its index block that is wanted.
+fn path_under<'a>(
+    p: Description,
+    current: usize,
+    file: &'a [u32],
+    buffer: &'a [u32],
+    which: Which,
+    key: &[u32],
+    m: Entry,
+) -> Route
+    requires { ⌜ Fitting p (now file) (now buffer) × (p .k ≤ length (now key)) × Block p (m .block) ⌝ }
+    ensures { λ r. ⌜ asRoute r ≡ pathUnder (seen p current (now (file .entry)) (now (buffer .entry))) which (part 0 (p .k) (now (key .entry))) m ⌝ }
+{
+    let index = m.block;
+    let h = p.index_shape();
+    let t = drum::text_of(p, current, file, buffer, index);
+    let found = entry_of(p, h, p.i(), which, t, key);
+    match found {
+        Pick::Bad => Route::Bad,
+        Pick::At(e) => path_at(p, current, file, buffer, m, e),
+    }
+}
+
+// The way by the master's entry that is wanted, and its index block's.
+pub fn path_by<'a>(
+    p: Description,
+    current: usize,
+    file: &'a [u32],
+    buffer: &'a [u32],
+    top: Which,
+    which: Which,
+    key: &[u32],
+) -> Route
+    requires { ⌜ Fitting p (now file) (now buffer) × (p .k ≤ length (now key)) ⌝ }
+    ensures { λ r. ⌜ asRoute r ≡ pathBy (seen p current (now (file .entry)) (now (buffer .entry))) top which (part 0 (p .k) (now (key .entry))) ⌝ }
+{
+    let h = p.master_shape();
+    let found = entry_of(p, h, p.control, top, file, key);
+    match found {
+        Pick::Bad => Route::Bad,
+        Pick::At(m) => path_under(p, current, file, buffer, which, key, m),
+    }
+}
+
+// Whether a block is buffered, so that a test of its keys can be made.
+pub fn on_buffer(p: Description, current: usize, buffer: &[u32]) -> Test
+    requires { ⌜ 1 ≤ length (now buffer) ⌝ }
+    ensures { λ r. ⌜ asTest r ≡ onBuffer (seen p current [] (now (buffer .entry))) true ⌝ }
+{
+    if current == 0 {
+        return Test::No;
+    }
+    if p.n < current {
+        return Test::Bad;
+    }
+    let n = words::word_at(buffer, 0);
+    if n < 1 {
+        return Test::Bad;
+    }
+    if p.d() < n {
+        return Test::Bad;
+    }
+    Test::Yes
+}
+
+// Whether the buffer, if it is flagged, has a block to be written to.
+pub fn can_flush(p: Description, current: usize, flag: bool) -> bool
+    ensures { λ r. ⌜ r ≡ flushOk (seen p current [] []) flag ⌝ }
+{
+    if !flag {
+        return true;
+    }
+    if current < 1 {
+        return false;
+    }
+    current <= p.n
+}
+
+// Where the key is in the block at the end of the way.
+fn look_at<'a>(
+    p: Description,
+    current: usize,
+    file: &'a [u32],
+    buffer: &'a [u32],
+    key: &[u32],
+    w: Path,
+) -> Look
+    requires { ⌜ Fitting p (now file) (now buffer) × (p .k ≤ length (now key)) × PathFits (seen p current (now file) (now buffer)) w ⌝ }
+    ensures { λ r. ⌜ r ≡ lookAt (seen p current (now (file .entry)) (now (buffer .entry))) (part 0 (p .k) (now (key .entry))) w ⌝ }
+{
+    let t = drum::text_of(p, current, file, buffer, w.detail);
+    let n = words::word_at(t, 0);
+    let i = table::find(Want::Equal, p.detail_shape(), t, n, key, 0);
+    if i < n {
+        return Look::Found(Way::By(w), i);
+    }
+    Look::Missing(w)
+}
+
+// Where the key is, by way of the master.
+fn look_outside<'a>(
+    p: Description,
+    current: usize,
+    flag: bool,
+    file: &'a [u32],
+    buffer: &'a [u32],
+    key: &[u32],
+) -> Look
+    requires { ⌜ Fitting p (now file) (now buffer) × (p .k ≤ length (now key)) ⌝ }
+    ensures { λ r. ⌜ asLook r ≡ lookOutside (seen p current (now (file .entry)) (now (buffer .entry))) flag (part 0 (p .k) (now (key .entry))) ⌝ }
+{
+    let route = path_by(
+        p,
+        current,
+        file,
+        buffer,
+        Which::Covering,
+        Which::Covering,
+        key,
+    );
+    match route {
+        Route::Bad => Look::Bad,
+        Route::To(w) => {
+            if !can_flush(p, current, flag) {
+                return Look::Bad;
+            }
+            look_at(p, current, file, buffer, key, w)
+        }
+    }
+}
+
+// Where the key is, while a block is buffered.
+fn look_buffered<'a>(
+    p: Description,
+    current: usize,
+    flag: bool,
+    file: &'a [u32],
+    buffer: &'a [u32],
+    key: &[u32],
+) -> Look
+    requires { ⌜ Fitting p (now file) (now buffer) × (p .k ≤ length (now key)) × BufferFits (seen p current (now file) (now buffer)) ⌝ }
+    ensures { λ r. ⌜ asLook r ≡ looked (seen p current (now (file .entry)) (now (buffer .entry))) flag (part 0 (p .k) (now (key .entry))) ⌝ }
+{
+    let n = words::word_at(buffer, 0);
+    let i = table::find(Want::Equal, p.detail_shape(), buffer, n, key, 0);
+    if i < n {
+        return Look::Found(Way::Here, i);
+    }
+    look_outside(p, current, flag, file, buffer, key)
+}
+
+// Where the key is.
+pub fn look<'a>(
+    p: Description,
+    current: usize,
+    flag: bool,
+    file: &'a [u32],
+    buffer: &'a [u32],
+    key: &[u32],
+) -> Look
+    requires { ⌜ Fitting p (now file) (now buffer) × (p .k ≤ length (now key)) ⌝ }
+    ensures { λ r. ⌜ asLook r ≡ looked (seen p current (now (file .entry)) (now (buffer .entry))) flag (part 0 (p .k) (now (key .entry))) ⌝ }
+{
+    let held = on_buffer(p, current, buffer);
+    match held {
+        Test::Bad => Look::Bad,
+        Test::No => look_outside(p, current, flag, file, buffer, key),
+        Test::Yes => look_buffered(p, current, flag, file, buffer, key),
+    }
+}

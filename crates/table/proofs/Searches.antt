@@ -1,0 +1,39 @@
+-- Laws of `firstWhere`, and of what a search wants: by the order of the keys, and by the keys.
+use mathlib.Core.Path.{_≡_, refl, sym, ap, _∙_}
+use mathlib.Core.Bool.{Bool, true, false}
+use mathlib.Core.List.{List}
+use Prim.Native.Nat.{ℕ, zero, suc, _<_}
+use native.Mathlib.Nat.{not-suc-le-zero}
+use native.Mathlib.Omega.{arith}
+use Rattle.words.specs.Keys.{order}
+use Rattle.words.proofs.Keys.{Stands, below, same, above, stands, order-lt, order-eq, order-gt, keyLt-asym, keyLt-not-same, same-not-lt, sameKey-eq, sameKey-ne, keyLt-ne, keyLe-yes, keyLe-no}
+use Rattle.table.specs.declared.Want.{Want}
+use Rattle.table.specs.declared.Want.the-variants.{Equal, NotBelow, Over}
+use Rattle.table.specs.Tables.{firstWhere, asked, wanted}
+
+-- a search that stops at i stops at the first, and one that runs to the end found none
+pub first-at : (t : ℕ → Bool) (n i : ℕ) → i < n → ((k : ℕ) → k < i → t k ≡ false) → t i ≡ true → firstWhere t n ≡ i
+unfolding firstWhere
+first-at t zero i h f g = absurd (not-suc-le-zero h)
+first-at t (suc n) zero h f g = rw (g, firstWhere)
+first-at t (suc n) (suc i) h f g = rw (f 0 (omega arith), firstWhere) (ap suc (first-at (λ j. t (suc j)) n i (omega arith) (λ k l. f (suc k) (omega arith)) g))
+
+pub first-none : (t : ℕ → Bool) (n : ℕ) → ((k : ℕ) → k < n → t k ≡ false) → firstWhere t n ≡ n
+unfolding firstWhere
+first-none t zero f = refl
+first-none t (suc n) f = rw (f 0 (omega arith), firstWhere) (ap suc (first-none (λ j. t (suc j)) n (λ k l. f (suc k) (omega arith))))
+
+-- what a search wants, told by the order of a row's key x to the key
+pub asked-wanted : (w : Want) (key x : List ℕ) → asked w (order x key) ≡ wanted w key x
+asked-wanted w key x = go w (stands x key)
+  where
+    go : (w : Want) → Stands x key → asked w (order x key) ≡ wanted w key x
+    go Equal (below p) = rw (order-lt x key p, keyLt-not-same x key p)
+    go Equal (same e) = rw (order-eq x key e, sameKey-eq x key e)
+    go Equal (above p) = rw (order-gt x key p, sameKey-ne x key (λ e. keyLt-ne key x p (sym e)))
+    go NotBelow (below p) = rw (order-lt x key p, keyLe-no key x p)
+    go NotBelow (same e) = rw (order-eq x key e, keyLe-yes key x (same-not-lt x key e))
+    go NotBelow (above p) = rw (order-gt x key p, keyLe-yes key x (keyLt-asym key x p))
+    go Over (below p) = rw (order-lt x key p, keyLt-asym x key p)
+    go Over (same e) = rw (order-eq x key e, same-not-lt key x (sym e))
+    go Over (above p) = rw (order-gt x key p, p)

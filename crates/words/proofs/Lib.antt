@@ -1,0 +1,5 @@
+pub mod Parts
+pub mod Turns
+pub mod Keys
+pub mod All
+pub mod Values
