@@ -1,15 +1,14 @@
 -- What good parameters and right sizes are, as facts: the table of ranges, and the bounds of capacities and places that follow from it.
-use mathlib.Core.Path.{_≡_, refl, sym, ap, _∙_}
-use mathlib.Core.Bool.{Bool, true, false, _&&_}
+use mathlib.Core.Path.{_≡_, refl}
+use mathlib.Core.Bool.{Bool, true, false}
 use mathlib.Core.List.{List, [], _∷_}
-use Prim.Native.Nat.{ℕ, suc, _+_, _*_, _-_, _/_, _%_, _≤_, _<_}
-use native.Mathlib.Nat.{mul-le-mul, mul-le-mul-left, mul-le-mul-right, suc-mul, div-mul-le-self, div-le-self}
+use Prim.Native.Nat.{ℕ, _+_, _*_, _-_, _/_, _%_, _≤_, _<_}
+use native.Mathlib.Nat.{mul-le-mul, mul-le-mul-right, div-mul-le-self, div-le-self}
 use native.Mathlib.Omega.{arith}
 use borrow.Author.Tests.{le-leb, leb-true, eq-eqb, eqb-true}
-use lib.Dec.{leb, eqb}
 use Rattle.words.proofs.All.{and-both}
 use Rattle.drum.specs.declared.Description.{Description}
-use Rattle.drum.specs.Params.{D, I, FD, FI, masterSize, fileSize, start, every, mostSections, goodParams, sized}
+use Rattle.drum.specs.Params.{D, I, FD, FI, masterSize, fileSize, every, mostSections, goodParams, sized}
 
 -- tests that all hold, one by one
 abbrev pub Hold : List Bool → Type 0
@@ -126,14 +125,7 @@ caps p h =
       file-is = refl;
     }
 
--- where a block lies
-pub start-next : (p : Description) (b : ℕ) → 1 ≤ b → start p (b + 1) ≡ start p b + p .wpb
-unfolding start
-start-next p b l =
-    let e : b + 1 - 1 ≡ suc (b - 1) = omega arith in
-    rw (e, suc-mul) (omega arith)
-
--- "right sizes"
+-- a file and a buffer of the right lengths
 pub record Sized (p : Description) (file buffer : ℕ) : Type 0 where
   pub good : goodParams p ≡ true
   pub file-is : file ≡ fileSize p

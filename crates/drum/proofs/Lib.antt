@@ -1,2 +1,4 @@
 pub mod Good
 pub mod Blocks
+pub mod Written
+pub mod Examples

@@ -1,7 +1,7 @@
 -- Blocks of the file, transfers, and current texts. Document 01, "Parameters", "The session", "The calls and their transfers".
 use Prim.Native.Nat.{ℕ, _≤_}
 use mathlib.Core.Path.{_≡_}
-use mathlib.Core.Bool.{Bool, true, cond}
+use mathlib.Core.Bool.{Bool, true, false, cond, _||_}
 use mathlib.Core.List.{List, [], _∷_}
 use lib.Dec.{eqb}
 use lib.ListN.{length, getD}
@@ -22,11 +22,17 @@ pub data Transfer : Type 0 where
   Read : ℕ → Transfer
   Write : ℕ → List ℕ → Transfer
 
--- the file after a list of transfers: "no block of the file changes unless that list writes it"
+-- the file after a list of transfers
 unfoldable pub written : Description → List Transfer → List ℕ → List ℕ
 written p [] f = f
 written p (Read b ∷ moves) f = written p moves f
 written p (Write b t ∷ moves) f = written p moves (putBlock p f b t)
+
+-- whether a list of transfers writes block b: "no block of the file changes unless that list writes it"
+unfoldable pub writes : List Transfer → ℕ → Bool
+writes [] b = false
+writes (Read c ∷ moves) b = writes moves b
+writes (Write c t ∷ moves) b = eqb b c || writes moves b
 
 -- "word 0 sections in use, word 1 head of the free chain (0 none), word 2 lowest block never used (N+1 when none)"
 abbrev pub sections : List ℕ → ℕ

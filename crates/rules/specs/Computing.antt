@@ -1,11 +1,12 @@
 -- One name that opens every definition that document 01 is rendered by: a proof by computation says `unfolding computing`.
 use Prim.Native.Nat.{ℕ}
 use Rattle.words.specs.Words.{part, put, allAre, noneIs, allWords}
-use Rattle.words.specs.Keys.{isOnes, keyLt, keyLe, sameKey, order}
+use Rattle.words.specs.Keys.{isOnes, keyLt, keyLe, sameKey, order, val}
 use Rattle.table.specs.Tables.{row, keyAt, blockIn, firstWhere, fits, opened, closed, inserted, removed, replaced, laid}
 use Rattle.table.specs.Splits.{oneMore, lowText, highText, lowBound, renamed, entered}
+use Rattle.table.specs.Rows.{cat, encode, table}
 use Rattle.drum.specs.Params.{D, I, FD, FI, masterSize, fileSize, start, every, goodParams, sized, masterShape, indexShape, detailShape}
-use Rattle.drum.specs.Blocks.{blockAt, putBlock, written, freeText, textOf}
+use Rattle.drum.specs.Blocks.{blockAt, putBlock, written, writes, freeText, textOf}
 use Rattle.layout.specs.Create.{endRecord, created}
 use Rattle.layout.specs.Inspect.{keyIn, above, ascends, endOk, recordsOk, rowsIn, marked, through, detailHeld, indexHeld, chainHeld, restOk, masterOk, walked, layoutMarks}
 use Rattle.rules.specs.State.{holding, positioned, atRest, outcome, settle}
@@ -26,5 +27,5 @@ use Rattle.rules.specs.Requests.{lending, given, answer, left, tally}
 use Rattle.rules.specs.Run.{begun, createdOutcome, keyFrom, recordFrom, perform, shows, lineOf, printed, ended}
 
 unfoldable pub computing : ℕ
-unfolding part put allAre noneIs allWords isOnes keyLt keyLe sameKey order row keyAt blockIn firstWhere fits opened closed inserted removed replaced laid oneMore lowText highText lowBound renamed entered D I FD FI masterSize fileSize start every goodParams sized masterShape indexShape detailShape blockAt putBlock written freeText textOf endRecord created keyIn above ascends endOk recordsOk rowsIn marked through detailHeld indexHeld chainHeld restOk masterOk walked layoutMarks holding positioned atRest outcome settle sizesOk workOk isOpen keyOk entryOf pathAt pathUnder pathBy onBuffer inBuffer lookOutside look flushMoves bringing reached stopping storing landing noneLeft granted storedNumber withFree create openChecks openLayout openDone openFile closeChecks closeDone close view giving seekDone seekSteps seek updatDone updatSteps updat nextInBuffer nextPath advBeyond advAt advOutside advStep advGiving advReads advDone advSteps adv roomDeed splitWith splitDeed bothStored bothWith bothAfter bothDeed insertAt insertAfter insertDeed detailLow detailHigh detailEntry indexEntered indexLow indexHigh indexEntry splitMoves bothMoves splitFile bothFile insertDone nsertSteps nsert emptyDeed emptyAt deleteAfter deleteDeed entryGone emptyMoves emptyAll bothAll emptyFile bothFile-of-dlete emptying deleteDone dleteSteps dlete lastOutside lastWay lastOf roomDeed-of-xtend notAboveBefore aloneDeed newWith bothWith-of-xtend bothAfter-of-xtend newAt newDeed extendAt extendDeed reading oldText endText onesEntry bounded extended newMoves bothMoves-of-xtenddone newFile bothFile-of-xtenddone extendDone xtendSteps xtend lending given answer left tally begun createdOutcome keyFrom recordFrom perform shows lineOf printed ended
+unfolding part put allAre noneIs allWords isOnes keyLt keyLe sameKey order val row keyAt blockIn firstWhere fits opened closed inserted removed replaced laid oneMore lowText highText lowBound renamed entered cat encode table D I FD FI masterSize fileSize start every goodParams sized masterShape indexShape detailShape blockAt putBlock written writes freeText textOf endRecord created keyIn above ascends endOk recordsOk rowsIn marked through detailHeld indexHeld chainHeld restOk masterOk walked layoutMarks holding positioned atRest outcome settle sizesOk workOk isOpen keyOk entryOf pathAt pathUnder pathBy onBuffer inBuffer lookOutside look flushMoves bringing reached stopping storing landing noneLeft granted storedNumber withFree create openChecks openLayout openDone openFile closeChecks closeDone close view giving seekDone seekSteps seek updatDone updatSteps updat nextInBuffer nextPath advBeyond advAt advOutside advStep advGiving advReads advDone advSteps adv roomDeed splitWith splitDeed bothStored bothWith bothAfter bothDeed insertAt insertAfter insertDeed detailLow detailHigh detailEntry indexEntered indexLow indexHigh indexEntry splitMoves bothMoves splitFile bothFile insertDone nsertSteps nsert emptyDeed emptyAt deleteAfter deleteDeed entryGone emptyMoves emptyAll bothAll emptyFile bothFile-of-dlete emptying deleteDone dleteSteps dlete lastOutside lastWay lastOf roomDeed-of-xtend notAboveBefore aloneDeed newWith bothWith-of-xtend bothAfter-of-xtend newAt newDeed extendAt extendDeed reading oldText endText onesEntry bounded extended newMoves bothMoves-of-xtenddone newFile bothFile-of-xtenddone extendDone xtendSteps xtend lending given answer left tally begun createdOutcome keyFrom recordFrom perform shows lineOf printed ended
 computing = 0

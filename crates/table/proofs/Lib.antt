@@ -1,3 +1,11 @@
 pub mod Places
 pub mod Searches
 pub mod Moves
+pub mod Lists
+pub mod Rows
+pub mod RowSearch
+pub mod RowChanges
+pub mod Lengths
+pub mod Kept
+pub mod RowTexts
+pub mod RowSplits

@@ -1,8 +1,8 @@
 -- Laws of `firstWhere`, and of what a search wants: by the order of the keys, and by the keys.
-use mathlib.Core.Path.{_≡_, refl, sym, ap, _∙_}
+use mathlib.Core.Path.{_≡_, refl, sym, ap}
 use mathlib.Core.Bool.{Bool, true, false}
 use mathlib.Core.List.{List}
-use Prim.Native.Nat.{ℕ, zero, suc, _<_}
+use Prim.Native.Nat.{ℕ, zero, suc, _≤_, _<_}
 use native.Mathlib.Nat.{not-suc-le-zero}
 use native.Mathlib.Omega.{arith}
 use Rattle.words.specs.Keys.{order}
@@ -37,3 +37,32 @@ asked-wanted w key x = go w (stands x key)
     go Over (below p) = rw (order-lt x key p, keyLt-asym x key p)
     go Over (same e) = rw (order-eq x key e, same-not-lt key x (sym e))
     go Over (above p) = rw (order-gt x key p, p)
+
+-- where a search stops: at most n, the test false before it, and true there unless it is n
+pub first-le : (t : ℕ → Bool) (n : ℕ) → firstWhere t n ≤ n
+unfolding firstWhere
+first-le t zero = omega arith
+first-le t (suc n) = go (t 0) refl (first-le (λ i. t (suc i)) n)
+  where
+    go : (x : Bool) → t 0 ≡ x → firstWhere (λ i. t (suc i)) n ≤ n → firstWhere t (suc n) ≤ suc n
+    go true e r = rw (e, firstWhere) (omega arith)
+    go false e r = rw (e, firstWhere) (omega arith)
+
+pub first-before : (t : ℕ → Bool) (n k : ℕ) → k < firstWhere t n → t k ≡ false
+unfolding firstWhere
+first-before t zero k h = absurd (not-suc-le-zero h)
+first-before t (suc n) k h = go (t 0) refl k h (first-before (λ i. t (suc i)) n)
+  where
+    go : (x : Bool) → t 0 ≡ x → (k : ℕ) → k < firstWhere t (suc n) → ((j : ℕ) → j < firstWhere (λ i. t (suc i)) n → t (suc j) ≡ false) → t k ≡ false
+    go true e k l r = absurd (not-suc-le-zero (rw (e, firstWhere) at l))
+    go false e zero l r = e
+    go false e (suc k) l r = let m : suc k < suc (firstWhere (λ i. t (suc i)) n) = rw (e, firstWhere) at l in r k (omega arith)
+
+pub first-true : (t : ℕ → Bool) (n : ℕ) → firstWhere t n < n → t (firstWhere t n) ≡ true
+unfolding firstWhere
+first-true t zero h = absurd (not-suc-le-zero h)
+first-true t (suc n) h = go (t 0) refl h (first-true (λ i. t (suc i)) n)
+  where
+    go : (x : Bool) → t 0 ≡ x → firstWhere t (suc n) < suc n → (firstWhere (λ i. t (suc i)) n < n → t (suc (firstWhere (λ i. t (suc i)) n)) ≡ true) → t (firstWhere t (suc n)) ≡ true
+    go true e l r = rw (e, firstWhere) e
+    go false e l r = let m : suc (firstWhere (λ i. t (suc i)) n) < suc n = rw (e, firstWhere) at l in rw (e, firstWhere) (r (omega arith))

@@ -3,7 +3,7 @@ ghost use mathlib.Core.Path.{_≡_};
 ghost use Prim.Native.Nat.{_+_, _≤_, _<_};
 ghost use lib.ListN.{length, getD, set};
 ghost use Rattle.words.specs.Words.{part, put, zeros, allAre, allWords};
-ghost use Rattle.words.specs.Keys.{order};
+ghost use Rattle.words.specs.Keys.{order, keyLt, sameKey};
 
 // How one key stands to another.
 pub enum Order {
@@ -78,6 +78,32 @@ pub fn compare_keys(a: &[u32], i: usize, b: &[u32], j: usize, k: usize) -> Order
         m += 1;
     }
     Order::Same
+}
+
+// Whether the key of k words at word i of a is below the one at word j of b.
+pub fn key_below(a: &[u32], i: usize, b: &[u32], j: usize, k: usize) -> bool
+    requires { ⌜ (i + k ≤ length (now a)) × (j + k ≤ length (now b)) ⌝ }
+    ensures { λ r. ⌜ r ≡ keyLt (part i k (now (a .entry))) (part j k (now (b .entry))) ⌝ }
+{
+    let o = compare_keys(a, i, b, j, k);
+    match o {
+        Order::Below => true,
+        Order::Same => false,
+        Order::Above => false,
+    }
+}
+
+// Whether the key of k words at word i of a is the one at word j of b.
+pub fn same_key(a: &[u32], i: usize, b: &[u32], j: usize, k: usize) -> bool
+    requires { ⌜ (i + k ≤ length (now a)) × (j + k ≤ length (now b)) ⌝ }
+    ensures { λ r. ⌜ r ≡ sameKey (part i k (now (a .entry))) (part j k (now (b .entry))) ⌝ }
+{
+    let o = compare_keys(a, i, b, j, k);
+    match o {
+        Order::Below => false,
+        Order::Same => true,
+        Order::Above => false,
+    }
 }
 
 // Whether each of the n words of t from word a on is x.

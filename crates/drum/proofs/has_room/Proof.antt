@@ -1,5 +1,5 @@
 -- Each refusal is a test of the table that fails; the last test is the result.
-use mathlib.Core.Path.{_≡_, refl, sym, ap, _∙_}
+use mathlib.Core.Path.{_≡_, sym}
 use native.Mathlib.Omega.{arith}
 use borrow.Author.Tests.{lt-leb, le-leb}
 use mathlib.Core.Bool.{Bool, true, and-false, and-true}
@@ -9,10 +9,6 @@ use Rattle.drum.specs.Params.{D, I, every}
 use borrow.Author.Needs.{needs}
 use Rattle.drum.proofs.has_room.Statement.{statement}
 use Rattle.drum.proofs.has_room.Tie as tie
-use Rattle.drum.proofs.has_room.Reads as reads
-use Rattle.drum.proofs.has_room.Lts as lts
-use Rattle.drum.proofs.Description.d.Reads as d-reads
-use Rattle.drum.proofs.Description.i.Reads as i-reads
 
 -- where all tests but the last hold, the last decides
 last : {a b c d e f g : Bool} (x : Bool) → a ≡ true → b ≡ true → c ≡ true → d ≡ true → e ≡ true → f ≡ true → g ≡ true → every (a ∷ b ∷ c ∷ d ∷ e ∷ f ∷ g ∷ x ∷ []) ≡ x
@@ -35,11 +31,15 @@ returns-2 c = simp (← c .before .before .before .d .ensures, ← c .before .be
 
 returns-3 : tie.Need-returns-3
 unfolding every
-returns-3 c = simp (← c .before .before .before .before .d .ensures, ← c .before .before .before .i .ensures, lt-leb _ _ (c .if3 .taken), and-false)
+returns-3 c =
+    let p = c .before .before .before .before .before .args .p in
+    simp (lt-leb (p .space) (D p - 2) (omega arith), and-false)
 
 returns-4 : tie.Need-returns-4
 unfolding every
-returns-4 c = simp (← c .before .before .before .before .before .d .ensures, ← c .before .before .before .before .i .ensures, lt-leb _ _ (c .if4 .taken), and-false)
+returns-4 c =
+    let p = c .before .before .before .before .before .before .args .p in
+    simp (lt-leb (p .space) (I p - 2) (omega arith), and-false)
 
 returns-5 : tie.Need-returns-5
 unfolding every
@@ -55,7 +55,8 @@ returns-7 c = simp (lt-leb _ _ (c .if7 .taken), and-false)
 
 returns-8 : tie.Need-returns-8
 returns-8 c =
-    sym (last _ (le-leb 2 (D (c .before .before .before .before .before .before .before .before .before .before .before .before .before .args .p)) (omega arith)) (le-leb 2 (I (c .before .before .before .before .before .before .before .before .before .before .before .before .before .args .p)) (omega arith)) (le-leb (c .before .before .before .before .before .before .before .before .before .before .before .before .before .args .p .space) (D (c .before .before .before .before .before .before .before .before .before .before .before .before .before .args .p) - 2) (omega arith)) (le-leb (c .before .before .before .before .before .before .before .before .before .before .before .before .before .args .p .space) (I (c .before .before .before .before .before .before .before .before .before .before .before .before .before .args .p) - 2) (omega arith)) (le-leb _ _ (c .before .before .before .before .before .if5 .left)) (le-leb _ _ (c .before .before .before .if6 .left)) (le-leb _ _ (c .before .if7 .left)))
+    let p = c .before .before .before .before .before .before .before .before .before .before .before .before .before .args .p in
+    sym (last _ (le-leb 2 (D p) (omega arith)) (le-leb 2 (I p) (omega arith)) (le-leb (p .space) (D p - 2) (omega arith)) (le-leb (p .space) (I p - 2) (omega arith)) (le-leb _ _ (c .before .before .before .before .before .if5 .left)) (le-leb _ _ (c .before .before .before .if6 .left)) (le-leb _ _ (c .before .if7 .left)))
 
 pub has-room-spec : {M : Type 1} → statement M
 has-room-spec =

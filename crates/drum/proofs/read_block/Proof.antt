@@ -1,20 +1,13 @@
 -- The buffer, written over in full, is the block.
-use mathlib.Core.Path.{_≡_, refl, sym, ap, _∙_}
+use mathlib.Core.Path.{sym, _∙_}
 use native.Mathlib.Omega.{arith}
-use lib.ListN.{length}
-use Rattle.words.specs.Words.{part, put}
-use Rattle.words.proofs.Parts.{length-part, part-all, put-all}
-use Rattle.drum.specs.Params.{start}
-use Rattle.drum.specs.Blocks.{blockAt, putBlock, textOf}
+use Rattle.words.proofs.Parts.{put-all}
+use Rattle.drum.specs.Blocks.{blockAt}
 use Rattle.drum.proofs.Good.{caps}
-use Rattle.drum.proofs.Blocks.{block-within}
+use Rattle.drum.proofs.Blocks.{block-within, length-block}
 use borrow.Author.Needs.{needs}
 use Rattle.drum.proofs.read_block.Statement.{statement}
 use Rattle.drum.proofs.read_block.Tie as tie
-use Rattle.drum.proofs.read_block.Reads as reads
-use Rattle.drum.proofs.read_block.Lts as lts
-use Rattle.drum.proofs.Description.start.Reads as start-reads
-use Rattle.words.proofs.copy_words.Reads as copy-words-reads
 
 start-requires : tie.Need-start-requires
 start-requires c κs = search needs
@@ -32,10 +25,9 @@ same-length c = search needs
 returns : tie.Need-returns
 unfolding blockAt
 returns c =
-    let w = block-within (c .before .before .before .before .before .before .before .args .p) (c .before .before .before .before .before .before .before .args .b) (c .before .before .before .before .before .before .before .pre .1) in
-    let l = c .before .before .before .before .before .before .before .pre .0 in
-    let e : length (part (start (c .before .before .before .before .before .before .before .args .p) (c .before .before .before .before .before .before .before .args .b)) (c .before .before .before .before .before .before .before .args .p .wpb) (c .before .before .before .before .before .before .before .args .file .now)) ≡ length (c .before .before .before .before .before .before .before .args .buffer .now) = length-part _ _ _ (omega arith) ∙ sym (l .buffer-is) in
-    c .before .before .copy-words .ensures ∙ rw (c .before .before .before .before .start .ensures) (put-all _ _ e)
+    let s = c .before .before .before .before .before .before .before in
+    let e = length-block (s .args .p) (s .args .file .now) (s .pre .0 .file-is) (s .args .b) (s .pre .1) ∙ sym (s .pre .0 .buffer-is) in
+    rw (c .before .before .copy-words .ensures, c .before .before .before .before .start .ensures) (put-all _ _ e)
 
 pub read-block-spec : {M : Type 1} → statement M
 read-block-spec = tie.close (tie.spec start-requires copy-words-requires same-length returns)

@@ -1,18 +1,15 @@
 -- The current block is the buffer, any other a part of the file.
-use mathlib.Core.Path.{_≡_, refl, sym, ap, _∙_}
-use Prim.Native.Nat.{_+_, _*_, _-_, _<_, _≤_}
+use mathlib.Core.Path.{_≡_}
+use Prim.Native.Nat.{_+_, _-_}
 use native.Mathlib.Omega.{arith}
 use borrow.Author.Tests.{eq-eqb, ne-eqb}
 use Rattle.words.specs.Words.{part}
-use Rattle.drum.specs.Blocks.{blockAt, putBlock, textOf}
+use Rattle.drum.specs.Blocks.{blockAt, textOf}
 use Rattle.drum.proofs.Good.{caps}
 use Rattle.drum.proofs.Blocks.{block-within}
 use borrow.Author.Needs.{needs}
 use Rattle.drum.proofs.text_of.Statement.{statement}
 use Rattle.drum.proofs.text_of.Tie as tie
-use Rattle.drum.proofs.text_of.Reads as reads
-use Rattle.drum.proofs.text_of.Lts as lts
-use Rattle.drum.proofs.Description.start.Reads as start-reads
 
 returns : tie.Need-returns
 unfolding textOf

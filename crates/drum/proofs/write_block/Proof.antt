@@ -1,20 +1,13 @@
 -- All of the buffer is written over the block.
-use mathlib.Core.Path.{_≡_, refl, sym, ap, _∙_}
+use mathlib.Core.Path.{_∙_}
 use native.Mathlib.Omega.{arith}
-use lib.ListN.{length}
-use Rattle.words.specs.Words.{part, put}
-use Rattle.words.proofs.Parts.{length-part, part-all, put-all}
-use Rattle.drum.specs.Params.{start}
-use Rattle.drum.specs.Blocks.{blockAt, putBlock, textOf}
+use Rattle.words.proofs.Parts.{part-all}
+use Rattle.drum.specs.Blocks.{putBlock}
 use Rattle.drum.proofs.Good.{caps}
 use Rattle.drum.proofs.Blocks.{block-within}
 use borrow.Author.Needs.{needs}
 use Rattle.drum.proofs.write_block.Statement.{statement}
 use Rattle.drum.proofs.write_block.Tie as tie
-use Rattle.drum.proofs.write_block.Reads as reads
-use Rattle.drum.proofs.write_block.Lts as lts
-use Rattle.drum.proofs.Description.start.Reads as start-reads
-use Rattle.words.proofs.copy_words.Reads as copy-words-reads
 
 start-requires : tie.Need-start-requires
 start-requires c κs = search needs

@@ -1,15 +1,14 @@
 -- Of every row passed the test is false.
-use mathlib.Core.Path.{_≡_, refl, sym, ap, _∙_}
-use mathlib.Core.Bool.{true, false}
+use mathlib.Core.Path.{_≡_, sym, _∙_}
+use mathlib.Core.Bool.{false}
 use Prim.Native.Nat.{ℕ, _+_, _*_, _-_, _≤_, _<_}
 use native.Mathlib.Nat.{not-suc-le-zero}
 use native.Mathlib.Omega.{arith}
 use borrow.Author.Needs.{needs}
 use borrow.Author.Count.{below-more}
 use Rattle.words.specs.Words.{part}
-use Rattle.table.specs.declared.Shape.{Shape}
-use Rattle.table.specs.Tables.{fits, keyAt, firstWhere}
-use Rattle.table.proofs.Places.{row-le, row-lt, row-next}
+use Rattle.table.specs.Tables.{fits, keyAt}
+use Rattle.table.proofs.Places.{row-lt, row-next}
 use Rattle.table.proofs.Searches.{first-at, first-none, asked-wanted}
 use Rattle.table.proofs.find_row.Statement.{statement}
 use Rattle.table.proofs.find_row.Tie as tie

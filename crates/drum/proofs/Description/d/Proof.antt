@@ -4,8 +4,6 @@ use Rattle.drum.specs.Params.{D}
 use borrow.Author.Needs.{needs}
 use Rattle.drum.proofs.Description.d.Statement.{statement}
 use Rattle.drum.proofs.Description.d.Tie as tie
-use Rattle.drum.proofs.Description.d.Reads as reads
-use Rattle.drum.proofs.Description.d.Lts as lts
 
 returns : tie.Need-returns
 unfolding D

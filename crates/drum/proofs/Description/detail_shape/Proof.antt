@@ -3,8 +3,6 @@ use borrow.Author.Needs.{needs}
 use Rattle.drum.specs.Params.{detailShape}
 use Rattle.drum.proofs.Description.detail_shape.Statement.{statement}
 use Rattle.drum.proofs.Description.detail_shape.Tie as tie
-use Rattle.drum.proofs.Description.detail_shape.Reads as reads
-use Rattle.drum.proofs.Description.detail_shape.Lts as lts
 
 returns : tie.Need-returns
 unfolding detailShape

@@ -4,9 +4,6 @@ use Rattle.drum.specs.Params.{FD}
 use borrow.Author.Needs.{needs}
 use Rattle.drum.proofs.Description.fd.Statement.{statement}
 use Rattle.drum.proofs.Description.fd.Tie as tie
-use Rattle.drum.proofs.Description.fd.Reads as reads
-use Rattle.drum.proofs.Description.fd.Lts as lts
-use Rattle.drum.proofs.Description.d.Reads as d-reads
 
 d-requires : tie.Need-d-requires
 d-requires c κs = search needs

@@ -4,9 +4,6 @@ use Rattle.drum.specs.Params.{FI}
 use borrow.Author.Needs.{needs}
 use Rattle.drum.proofs.Description.fi.Statement.{statement}
 use Rattle.drum.proofs.Description.fi.Tie as tie
-use Rattle.drum.proofs.Description.fi.Reads as reads
-use Rattle.drum.proofs.Description.fi.Lts as lts
-use Rattle.drum.proofs.Description.i.Reads as i-reads
 
 i-requires : tie.Need-i-requires
 i-requires c κs = search needs

@@ -5,9 +5,6 @@ use Rattle.drum.proofs.Good.{caps}
 use borrow.Author.Needs.{needs}
 use Rattle.drum.proofs.Description.file_size.Statement.{statement}
 use Rattle.drum.proofs.Description.file_size.Tie as tie
-use Rattle.drum.proofs.Description.file_size.Reads as reads
-use Rattle.drum.proofs.Description.file_size.Lts as lts
-use Rattle.drum.proofs.Description.master_size.Reads as master-size-reads
 
 master-size-requires : tie.Need-master-size-requires
 master-size-requires c κs = search needs

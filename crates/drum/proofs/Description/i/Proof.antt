@@ -1,13 +1,11 @@
 -- I is what the definition says, also where an entry is longer than a block.
-use Prim.Native.Nat.{_+_, _*_, _-_, _<_, _≤_}
+use Prim.Native.Nat.{_+_, _-_, _<_}
 use native.Mathlib.Omega.{arith}
 use native.Mathlib.Nat.{div-eq-of-lt}
 use Rattle.drum.specs.Params.{I}
 use borrow.Author.Needs.{needs}
 use Rattle.drum.proofs.Description.i.Statement.{statement}
 use Rattle.drum.proofs.Description.i.Tie as tie
-use Rattle.drum.proofs.Description.i.Reads as reads
-use Rattle.drum.proofs.Description.i.Lts as lts
 
 returns : tie.Need-returns
 unfolding I

@@ -1,15 +1,12 @@
 -- Each refusal breaks a range of the table; what is left is for has_room.
-use mathlib.Core.Path.{_≡_, refl, sym, ap, _∙_}
+use mathlib.Core.Path.{sym}
 use native.Mathlib.Omega.{arith}
-use borrow.Author.Tests.{lt-leb, le-leb, eq-eqb}
+use borrow.Author.Tests.{le-leb, eq-eqb}
 use Rattle.drum.specs.Params.{every, goodParams}
 use Rattle.drum.proofs.Good.{good-no}
 use borrow.Author.Needs.{needs}
 use Rattle.drum.proofs.Description.is_good.Statement.{statement}
 use Rattle.drum.proofs.Description.is_good.Tie as tie
-use Rattle.drum.proofs.Description.is_good.Reads as reads
-use Rattle.drum.proofs.Description.is_good.Lts as lts
-use Rattle.drum.proofs.has_room.Reads as has-room-reads
 
 returns : tie.Need-returns
 returns c = sym (good-no _ λ g. omega arith)

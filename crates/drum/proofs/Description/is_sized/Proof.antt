@@ -1,16 +1,11 @@
 -- The parameters are tested first; after that the file has a size.
-use mathlib.Core.Path.{_≡_, refl, sym, ap, _∙_}
-use native.Mathlib.Omega.{arith}
+use mathlib.Core.Path.{_≡_, sym, _∙_}
 use borrow.Author.Tests.{eq-eqb, ne-eqb, not-true, not-false}
 use mathlib.Core.Bool.{true, and-true}
 use Rattle.drum.specs.Params.{goodParams, sized, every}
 use borrow.Author.Needs.{needs}
 use Rattle.drum.proofs.Description.is_sized.Statement.{statement}
 use Rattle.drum.proofs.Description.is_sized.Tie as tie
-use Rattle.drum.proofs.Description.is_sized.Reads as reads
-use Rattle.drum.proofs.Description.is_sized.Lts as lts
-use Rattle.drum.proofs.Description.file_size.Reads as file-size-reads
-use Rattle.drum.proofs.Description.is_good.Reads as is-good-reads
 
 -- past the first test the parameters are good
 kept : (c : tie.Else1) → goodParams (c .before .before .args .self) ≡ true

@@ -5,8 +5,6 @@ use Rattle.drum.specs.Params.{masterShape}
 use Rattle.drum.proofs.Good.{caps}
 use Rattle.drum.proofs.Description.master_shape.Statement.{statement}
 use Rattle.drum.proofs.Description.master_shape.Tie as tie
-use Rattle.drum.proofs.Description.master_shape.Reads as reads
-use Rattle.drum.proofs.Description.master_shape.Lts as lts
 
 add-t2 : tie.Need-add-t2
 add-t2 c =

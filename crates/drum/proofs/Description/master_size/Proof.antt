@@ -5,8 +5,6 @@ use Rattle.drum.specs.Params.{masterSize}
 use Rattle.drum.proofs.Good.{caps}
 use Rattle.drum.proofs.Description.master_size.Statement.{statement}
 use Rattle.drum.proofs.Description.master_size.Tie as tie
-use Rattle.drum.proofs.Description.master_size.Reads as reads
-use Rattle.drum.proofs.Description.master_size.Lts as lts
 
 add-w : tie.Need-add-w
 add-w c =

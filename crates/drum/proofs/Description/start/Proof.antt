@@ -1,20 +1,12 @@
 -- Where a block starts; none of the numbers grows too large.
-use native.Mathlib.Nat.{mul-le-mul-right}
-use Rattle.drum.specs.declared.Description.{Description}
+use Rattle.table.proofs.Places.{row-le}
 use native.Mathlib.Omega.{arith}
-use Prim.Native.Nat.{ℕ, _+_, _*_, _-_, _≤_}
+use Prim.Native.Nat.{_-_}
 use Rattle.drum.specs.Params.{start}
 use Rattle.drum.proofs.Good.{caps}
 use borrow.Author.Needs.{needs}
 use Rattle.drum.proofs.Description.start.Statement.{statement}
 use Rattle.drum.proofs.Description.start.Tie as tie
-use Rattle.drum.proofs.Description.start.Reads as reads
-use Rattle.drum.proofs.Description.start.Lts as lts
-use Rattle.drum.proofs.Description.master_size.Reads as master-size-reads
-
--- block b starts within the file
-most : (p : Description) (b : ℕ) → b ≤ p .n + 1 → (b - 1) * p .wpb ≤ p .n * p .wpb
-most p b h = mul-le-mul-right (p .wpb) (omega arith)
 
 master-size-requires : tie.Need-master-size-requires
 master-size-requires c κs = search needs
@@ -25,13 +17,13 @@ sub-result c = search needs
 mul-result : tie.Need-mul-result
 mul-result c =
     let g = caps _ (c .before .before .pre .0) in
-    let w = most (c .before .before .args .self) (c .before .before .args .b) (c .before .before .pre .2) in
+    let w = row-le (c .before .before .args .b - 1) (c .before .before .args .self .n) (c .before .before .args .self .wpb) (omega arith) in
     omega arith
 
 add-result : tie.Need-add-result
 add-result c =
     let g = caps _ (c .before .before .pre .0) in
-    let w = most (c .before .before .args .self) (c .before .before .args .b) (c .before .before .pre .2) in
+    let w = row-le (c .before .before .args .b - 1) (c .before .before .args .self .n) (c .before .before .args .self .wpb) (omega arith) in
     omega arith
 
 returns : tie.Need-returns

@@ -1,0 +1,191 @@
+// What DLETE does once it is planned.
+use drum::Description;
+use numbers::BAD_FILE;
+use numbers::DONE;
+use numbers::NOT_FOUND;
+use rules::Delete;
+use rules::Done;
+use rules::Path;
+use rules::Way;
+ghost use mathlib.Core.Path.{_≡_};
+ghost use mathlib.Core.Bool.{true};
+ghost use mathlib.Core.List.{[]};
+ghost use Prim.Native.Nat.{_+_, _≤_, _<_};
+ghost use lib.ListN.{length};
+ghost use Rattle.numbers.specs.Checked.{passed};
+ghost use Rattle.table.specs.Tables.{count};
+ghost use Rattle.drum.specs.Params.{I, goodParams, fileSize};
+ghost use Rattle.drum.specs.Blocks.{Fitting, Block, seen, textOf, blockAt, putBlock, written};
+ghost use Rattle.rules.specs.Lookup.{reached};
+ghost use Rattle.rules.specs.Fits.{WayFits};
+ghost use Rattle.rules.specs.Dlete.{entryGone, emptyFile, bothFile, deleteDone};
+ghost use Rattle.rules.specs.Told.{gave, told};
+ghost use Rattle.rules.specs.declared.Delete.the-variants as delete-is;
+ghost use Rattle.dlete.specs.Fits.{EmptyFits, DeleteFits};
+
+// Takes entry j out of an index block's text; if it is the last, the one before takes its bound.
+fn entry_gone(p: Description, t: &mut [u32], j: usize)
+    requires { ⌜ (goodParams p ≡ true) × (length (now t) ≡ p .wpb) × (1 < count (now t)) × (count (now t) ≤ I p) × (j < count (now t)) ⌝ }
+    ensures { λ _. ⌜ now (t .exit) ≡ entryGone p j (now (t .entry)) ⌝ }
+{
+    let k = p.k;
+    let n = words::word_at(t, 0);
+    if j + 1 == n {
+        words::move_down(t, 1 + j * (k + 1), 1 + (j - 1) * (k + 1), k);
+    }
+    table::remove_row(p.index_shape(), t, j);
+}
+
+// The same in index block b, where it lies in the file.
+fn gone_in(p: Description, file: &mut [u32], b: usize, j: usize)
+    requires { ⌜ (goodParams p ≡ true) × (length (now file) ≡ fileSize p) × Block p b × (1 < count (blockAt p (now file) b)) × (count (blockAt p (now file) b) ≤ I p) × (j < count (blockAt p (now file) b)) ⌝ }
+    ensures { λ _. ⌜ now (file .exit) ≡ putBlock p (now (file .entry)) b (entryGone p j (blockAt p (now (file .entry)) b)) ⌝ }
+{
+    let start = p.start(b);
+    let end = start + p.wpb;
+    entry_gone(p, &mut file[start..end], j);
+}
+
+// The transfers of a way whose block is not wanted in the buffer: a flagged buffer is written, and the reads are counted.
+fn pass(
+    p: Description,
+    current: usize,
+    flag: bool,
+    file: &mut [u32],
+    buffer: &[u32],
+    way: Way,
+) -> usize
+    requires { ⌜ Fitting p (now file) (now buffer) × WayFits (seen p current (now file) (now buffer)) flag way ⌝ }
+    ensures { λ r. ⌜ (r ≡ length (reached (seen p current (now (file .entry)) (now (buffer .entry))) flag way .moves)) × (now (file .exit) ≡ written p (reached (seen p current (now (file .entry)) (now (buffer .entry))) flag way .moves) (now (file .entry))) ⌝ }
+{
+    match way {
+        Way::Here => 0,
+        Way::By(_) => {
+            let wrote = acts::flush(p, current, flag, file, buffer);
+            wrote + 2
+        }
+    }
+}
+
+// The stores up to the index block: the chain's new head, a flagged buffer, the index block's current text, and the emptied block.
+fn free_detail(
+    p: Description,
+    current: usize,
+    flag: bool,
+    file: &mut [u32],
+    buffer: &[u32],
+    way: Way,
+    w: Path,
+    head: usize,
+    new_head: usize,
+) -> usize
+{
+    words::put_word(file, 1, new_head);
+    let passed = pass(p, current, flag, file, buffer, way);
+    acts::stage(p, current, file, buffer, w.index);
+    acts::lay_block(p, file, w.detail, head, buffer, 0, 0);
+    passed
+}
+
+// The block is left empty, its index block not.
+fn empty_one(
+    p: Description,
+    current: usize,
+    flag: bool,
+    file: &mut [u32],
+    buffer: &[u32],
+    way: Way,
+    w: Path,
+    head: usize,
+) -> usize
+    requires { ⌜ Fitting p (now file) (now buffer) × DeleteFits (seen p current (now file) (now buffer)) flag (delete-is.Empty way w head) ⌝ }
+    ensures { λ r. ⌜ (r ≡ length (reached (seen p current (now (file .entry)) (now (buffer .entry))) flag way .moves)) × (now (file .exit) ≡ emptyFile (seen p current (now (file .entry)) (now (buffer .entry))) flag way w head) ⌝ }
+{
+    let detail = w.detail;
+    let passed = free_detail(p, current, flag, file, buffer, way, w, head, detail);
+    gone_in(p, file, w.index, w.entry);
+    passed
+}
+
+// The block and its index block are left empty: the index block is made the chain's head after the block, and its section goes.
+fn empty_both(
+    p: Description,
+    current: usize,
+    flag: bool,
+    file: &mut [u32],
+    buffer: &[u32],
+    way: Way,
+    w: Path,
+    head: usize,
+) -> usize
+    requires { ⌜ Fitting p (now file) (now buffer) × EmptyFits (seen p current (now file) (now buffer)) flag way w head ⌝ }
+    ensures { λ r. ⌜ (r ≡ length (reached (seen p current (now (file .entry)) (now (buffer .entry))) flag way .moves)) × (now (file .exit) ≡ bothFile (seen p current (now (file .entry)) (now (buffer .entry))) flag way w head) ⌝ }
+{
+    let index = w.index;
+    let passed = free_detail(p, current, flag, file, buffer, way, w, head, index);
+    acts::lay_block(p, file, index, w.detail, buffer, 0, 0);
+    table::remove_row(p.master_shape(), file, w.section);
+    passed
+}
+
+// What is left of an emptied block: "buffer zeroed, current 0, flag off".
+fn emptied(buffer: &mut [u32], transfers: usize) -> Done {
+    let size = buffer.len();
+    words::zero_words(buffer, 0, size);
+    Done {
+        number: DONE,
+        transfers: transfers + 3,
+        current: 0,
+        flag: false,
+        keyed: true,
+    }
+}
+
+// The record is taken out of its block, which is not left empty.
+fn remove(
+    p: Description,
+    current: usize,
+    flag: bool,
+    file: &mut [u32],
+    buffer: &mut [u32],
+    way: Way,
+    i: usize,
+) -> Done {
+    let here = acts::reach(p, current, flag, file, buffer, way);
+    table::remove_row(p.detail_shape(), buffer, i);
+    Done {
+        number: DONE,
+        transfers: here.transfers,
+        current: here.current,
+        flag: true,
+        keyed: true,
+    }
+}
+
+// What the plan says is done.
+pub fn act_delete(
+    deed: Delete,
+    p: Description,
+    current: usize,
+    flag: bool,
+    file: &mut [u32],
+    buffer: &mut [u32],
+    work: &[u32],
+) -> Done
+    requires { ⌜ Fitting p (now file) (now buffer) × DeleteFits (seen p current (now file) (now buffer)) flag deed ⌝ }
+    ensures { λ r. ⌜ gave r (now (file .exit)) (now (buffer .exit)) (now (work .entry)) ≡ told (seen p current (now (file .entry)) (now (buffer .entry))) flag (now (work .entry)) (deleteDone (seen p current (now (file .entry)) (now (buffer .entry))) flag (now (work .entry)) deed) ⌝ }
+{
+    match deed {
+        Delete::Bad => Done::refused(BAD_FILE, current, flag),
+        Delete::Stop(w) => acts::stop(p, current, flag, file, buffer, Way::By(w), NOT_FOUND),
+        Delete::Remove(way, i) => remove(p, current, flag, file, buffer, way, i),
+        Delete::Empty(way, w, head) => {
+            let passed = empty_one(p, current, flag, file, buffer, way, w, head);
+            emptied(buffer, passed)
+        }
+        Delete::Both(way, w, head) => {
+            let passed = empty_both(p, current, flag, file, buffer, way, w, head);
+            emptied(buffer, passed)
+        }
+    }
+}

@@ -1,0 +1,114 @@
+// What DLETE will do, decided from current texts alone.
+use drum::Description;
+use lookup::Route;
+use rules::Delete;
+use rules::Look;
+use rules::Path;
+use rules::Way;
+use rules::Which;
+ghost use mathlib.Core.Path.{_≡_};
+ghost use Prim.Native.Nat.{_≤_, _<_};
+ghost use lib.ListN.{length};
+ghost use Rattle.words.specs.Words.{part};
+ghost use Rattle.drum.specs.Blocks.{Fitting, seen};
+ghost use Rattle.rules.specs.Fits.{PathFits, LookFits};
+ghost use Rattle.rules.specs.Dlete.{emptyDeed, emptyAt, deleteAfter, deleteDeed};
+ghost use Rattle.rules.specs.declared.Way.the-variants as way-is;
+ghost use Rattle.rules.specs.declared.Look.the-variants as look-is;
+ghost use Rattle.dlete.specs.Answers.{asDelete};
+
+// The block is left empty: the chain's head will be its link, and its index block may be emptied too.
+fn empty_deed<'a>(
+    p: Description,
+    current: usize,
+    file: &'a [u32],
+    buffer: &'a [u32],
+    way: Way,
+    w: Path,
+) -> Delete
+    requires { ⌜ Fitting p (now file) (now buffer) × PathFits (seen p current (now file) (now buffer)) w ⌝ }
+    ensures { λ r. ⌜ asDelete r ≡ emptyDeed (seen p current (now (file .entry)) (now (buffer .entry))) way w ⌝ }
+{
+    let head = words::word_at(file, 1);
+    if p.n < head {
+        return Delete::Bad;
+    }
+    let t = drum::text_of(p, current, file, buffer, w.index);
+    if words::word_at(t, 0) == 1 {
+        return Delete::Both(way, w, head);
+    }
+    Delete::Empty(way, w, head)
+}
+
+// The buffered block is left empty: its path is the one for the key, and must lead to it.
+fn empty_here<'a>(
+    p: Description,
+    current: usize,
+    file: &'a [u32],
+    buffer: &'a [u32],
+    key: &[u32],
+) -> Delete
+    requires { ⌜ Fitting p (now file) (now buffer) × (p .k ≤ length (now key)) ⌝ }
+    ensures { λ r. ⌜ asDelete r ≡ emptyAt (seen p current (now (file .entry)) (now (buffer .entry))) (part 0 (p .k) (now (key .entry))) way-is.Here ⌝ }
+{
+    let route = lookup::path_by(p, current, file, buffer, Which::Covering, Which::Covering, key);
+    match route {
+        Route::Bad => Delete::Bad,
+        Route::To(w) => {
+            if w.detail != current {
+                return Delete::Bad;
+            }
+            empty_deed(p, current, file, buffer, Way::Here, w)
+        }
+    }
+}
+
+// The record is found at place i of the block at the end of the way.
+fn delete_found<'a>(
+    p: Description,
+    current: usize,
+    file: &'a [u32],
+    buffer: &'a [u32],
+    key: &[u32],
+    way: Way,
+    i: usize,
+) -> Delete
+    requires { ⌜ Fitting p (now file) (now buffer) × (p .k ≤ length (now key)) × LookFits (seen p current (now file) (now buffer)) mathlib.Core.Bool.false (look-is.Found way i) ⌝ }
+    ensures { λ r. ⌜ asDelete r ≡ deleteAfter (seen p current (now (file .entry)) (now (buffer .entry))) (part 0 (p .k) (now (key .entry))) (look-is.Found way i) ⌝ }
+{
+    match way {
+        Way::Here => {
+            if words::word_at(buffer, 0) == 1 {
+                return empty_here(p, current, file, buffer, key);
+            }
+            Delete::Remove(Way::Here, i)
+        }
+        Way::By(w) => {
+            let t = drum::text_of(p, current, file, buffer, w.detail);
+            if words::word_at(t, 0) == 1 {
+                return empty_deed(p, current, file, buffer, Way::By(w), w);
+            }
+            Delete::Remove(Way::By(w), i)
+        }
+    }
+}
+
+// What DLETE will do.
+pub fn plan_delete<'a>(
+    p: Description,
+    current: usize,
+    flag: bool,
+    file: &'a [u32],
+    buffer: &'a [u32],
+    key: &[u32],
+) -> Delete
+    requires { ⌜ Fitting p (now file) (now buffer) × (p .k ≤ length (now key)) ⌝ }
+    ensures { λ r. ⌜ asDelete r ≡ deleteDeed (seen p current (now (file .entry)) (now (buffer .entry))) flag (part 0 (p .k) (now (key .entry))) ⌝ }
+{
+    let l = lookup::look(p, current, flag, file, buffer, key);
+    match l {
+        Look::Bad => Delete::Bad,
+        Look::Missing(w) => Delete::Stop(w),
+        Look::Found(way, i) => delete_found(p, current, file, buffer, key, way, i),
+    }
+}
