@@ -4,7 +4,7 @@ use mathlib.Core.Bool.{Bool}
 use mathlib.Core.List.{List}
 use lib.ListN.{length}
 use Rattle.rules.specs.Lookup.{Reached}
-use Rattle.acts.specs.declared.Reach.{Reach}
+use Rattle.acts.specs.declared.Arrived.{Arrived}
 
 -- what some steps come to, with their transfers counted
 pub record Come : Type 0 where
@@ -17,5 +17,5 @@ pub record Come : Type 0 where
 abbrev pub come : Reached → Come
 come r = record { file = r .file; current = r .current; flag = r .flag; buffer = r .buffer; transfers = length (r .moves) }
 
-abbrev pub came : Reach → List ℕ → List ℕ → Come
+abbrev pub came : Arrived → List ℕ → List ℕ → Come
 came r f b = record { file = f; current = r .current; flag = r .flag; buffer = b; transfers = r .transfers }

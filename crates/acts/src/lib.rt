@@ -20,7 +20,7 @@ ghost use Rattle.rules.specs.Fits.{FlushFits, WayFits};
 ghost use Rattle.acts.specs.Reach.{come, came};
 
 // A block reached: the transfers made for it, and the current block and flag then.
-pub struct Reach {
+pub struct Arrived {
     pub transfers: usize,
     pub current: usize,
     pub flag: bool,
@@ -86,12 +86,12 @@ pub fn reach(
     file: &mut [u32],
     buffer: &mut [u32],
     way: Way,
-) -> Reach
+) -> Arrived
     requires { ⌜ Fitting p (now file) (now buffer) × WayFits (seen p current (now file) (now buffer)) flag way ⌝ }
     ensures { λ r. ⌜ came r (now (file .exit)) (now (buffer .exit)) ≡ come (reached (seen p current (now (file .entry)) (now (buffer .entry))) flag way) ⌝ }
 {
     match way {
-        Way::Here => Reach {
+        Way::Here => Arrived {
             transfers: 0,
             current,
             flag,
@@ -99,7 +99,7 @@ pub fn reach(
         Way::By(w) => {
             let b = w.detail;
             let wrote = bring(p, current, flag, file, buffer, b);
-            Reach {
+            Arrived {
                 transfers: wrote + 2,
                 current: b,
                 flag: false,

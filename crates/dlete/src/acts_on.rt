@@ -78,8 +78,7 @@ fn free_detail(
     w: Path,
     head: usize,
     new_head: usize,
-) -> usize
-{
+) -> usize {
     words::put_word(file, 1, new_head);
     let passed = pass(p, current, flag, file, buffer, way);
     acts::stage(p, current, file, buffer, w.index);

@@ -1,6 +1,7 @@
 // DLETE, once the session and the workspace are checked.
 mod acts_on;
 mod plan;
+
 use drum::Description;
 use rules::Done;
 ghost use mathlib.Core.Path.{_≡_};

@@ -51,7 +51,15 @@ fn empty_here<'a>(
     requires { ⌜ Fitting p (now file) (now buffer) × (p .k ≤ length (now key)) ⌝ }
     ensures { λ r. ⌜ asDelete r ≡ emptyAt (seen p current (now (file .entry)) (now (buffer .entry))) (part 0 (p .k) (now (key .entry))) way-is.Here ⌝ }
 {
-    let route = lookup::path_by(p, current, file, buffer, Which::Covering, Which::Covering, key);
+    let route = lookup::path_by(
+        p,
+        current,
+        file,
+        buffer,
+        Which::Covering,
+        Which::Covering,
+        key,
+    );
     match route {
         Route::Bad => Delete::Bad,
         Route::To(w) => {

@@ -1,2 +1,4 @@
 pub mod Create
 pub mod Inspect
+pub mod Tree
+pub mod Holds

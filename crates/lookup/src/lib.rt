@@ -13,6 +13,7 @@ ghost use mathlib.Core.Bool.{true};
 ghost use mathlib.Core.List.{[]};
 ghost use Prim.Native.Nat.{_+_, _*_, _≤_, _<_};
 ghost use lib.ListN.{length};
+ghost use Rattle.numbers.specs.Checked.{passed};
 ghost use Rattle.words.specs.Words.{part};
 ghost use Rattle.table.specs.Tables.{count, place};
 ghost use Rattle.drum.specs.Params.{goodParams};
@@ -198,7 +199,7 @@ fn look_at<'a>(
     w: Path,
 ) -> Look
     requires { ⌜ Fitting p (now file) (now buffer) × (p .k ≤ length (now key)) × PathFits (seen p current (now file) (now buffer)) w ⌝ }
-    ensures { λ r. ⌜ r ≡ lookAt (seen p current (now (file .entry)) (now (buffer .entry))) (part 0 (p .k) (now (key .entry))) w ⌝ }
+    ensures { λ r. ⌜ asLook r ≡ passed (lookAt (seen p current (now (file .entry)) (now (buffer .entry))) (part 0 (p .k) (now (key .entry))) w) ⌝ }
 {
     let t = drum::text_of(p, current, file, buffer, w.detail);
     let n = words::word_at(t, 0);

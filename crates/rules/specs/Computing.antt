@@ -9,6 +9,8 @@ use Rattle.drum.specs.Params.{D, I, FD, FI, masterSize, fileSize, start, every,
 use Rattle.drum.specs.Blocks.{blockAt, putBlock, written, writes, freeText, textOf}
 use Rattle.layout.specs.Create.{endRecord, created}
 use Rattle.layout.specs.Inspect.{keyIn, above, ascends, endOk, recordsOk, rowsIn, marked, through, detailHeld, indexHeld, chainHeld, restOk, masterOk, walked, layoutMarks}
+use Rattle.layout.specs.Tree.{lastOf, boundOf, leavesIn, recordsIn, leafBlocks, blocksIn, headOf, times, markOf, marksFrom, freshLeaf, freshSection, freshTree}
+use Rattle.layout.specs.Holds.{All, indexEntries, masterEntries, masterText, ChainIn, ascending, LeavesOk, WellFormed}
 use Rattle.rules.specs.State.{holding, positioned, atRest, outcome, settle}
 use Rattle.rules.specs.Checks.{sizesOk, workOk, isOpen, keyOk}
 use Rattle.rules.specs.Paths.{entryOf, pathAt, pathUnder, pathBy}
@@ -21,11 +23,11 @@ use Rattle.rules.specs.Adv.{nextInBuffer, nextPath, advBeyond, advAt, ad
 use Rattle.rules.specs.Nsert.{roomDeed, splitWith, splitDeed, bothStored, bothWith, bothAfter, bothDeed, insertAt, insertAfter, insertDeed}
 use Rattle.rules.specs.NsertDone.{detailLow, detailHigh, detailEntry, indexEntered, indexLow, indexHigh, indexEntry, splitMoves, bothMoves, splitFile, bothFile, insertDone, nsertSteps, nsert}
 use Rattle.rules.specs.Dlete.{emptyDeed, emptyAt, deleteAfter, deleteDeed, entryGone, emptyMoves, emptyAll, bothAll, emptyFile, bothFile as bothFile-of-dlete, emptying, deleteDone, dleteSteps, dlete}
-use Rattle.rules.specs.Xtend.{lastOutside, lastWay, lastOf, roomDeed as roomDeed-of-xtend, notAboveBefore, aloneDeed, newWith, bothWith as bothWith-of-xtend, bothAfter as bothAfter-of-xtend, newAt, newDeed, extendAt, extendDeed}
+use Rattle.rules.specs.Xtend.{lastOutside, lastWay, lastOf as lastOf-of-xtend, roomDeed as roomDeed-of-xtend, notAboveBefore, aloneDeed, newWith, bothWith as bothWith-of-xtend, bothAfter as bothAfter-of-xtend, newAt, newDeed, extendAt, extendDeed}
 use Rattle.rules.specs.XtendDone.{reading, oldText, endText, onesEntry, bounded, extended, newMoves, bothMoves as bothMoves-of-xtenddone, newFile, bothFile as bothFile-of-xtenddone, extendDone, xtendSteps, xtend}
 use Rattle.rules.specs.Requests.{lending, given, answer, left, tally}
 use Rattle.rules.specs.Run.{begun, createdOutcome, keyFrom, recordFrom, perform, shows, lineOf, printed, ended}
 
 unfoldable pub computing : ℕ
-unfolding part put allAre noneIs allWords isOnes keyLt keyLe sameKey order val row keyAt blockIn firstWhere fits opened closed inserted removed replaced laid oneMore lowText highText lowBound renamed entered cat encode table D I FD FI masterSize fileSize start every goodParams sized masterShape indexShape detailShape blockAt putBlock written writes freeText textOf endRecord created keyIn above ascends endOk recordsOk rowsIn marked through detailHeld indexHeld chainHeld restOk masterOk walked layoutMarks holding positioned atRest outcome settle sizesOk workOk isOpen keyOk entryOf pathAt pathUnder pathBy onBuffer inBuffer lookOutside look flushMoves bringing reached stopping storing landing noneLeft granted storedNumber withFree create openChecks openLayout openDone openFile closeChecks closeDone close view giving seekDone seekSteps seek updatDone updatSteps updat nextInBuffer nextPath advBeyond advAt advOutside advStep advGiving advReads advDone advSteps adv roomDeed splitWith splitDeed bothStored bothWith bothAfter bothDeed insertAt insertAfter insertDeed detailLow detailHigh detailEntry indexEntered indexLow indexHigh indexEntry splitMoves bothMoves splitFile bothFile insertDone nsertSteps nsert emptyDeed emptyAt deleteAfter deleteDeed entryGone emptyMoves emptyAll bothAll emptyFile bothFile-of-dlete emptying deleteDone dleteSteps dlete lastOutside lastWay lastOf roomDeed-of-xtend notAboveBefore aloneDeed newWith bothWith-of-xtend bothAfter-of-xtend newAt newDeed extendAt extendDeed reading oldText endText onesEntry bounded extended newMoves bothMoves-of-xtenddone newFile bothFile-of-xtenddone extendDone xtendSteps xtend lending given answer left tally begun createdOutcome keyFrom recordFrom perform shows lineOf printed ended
+unfolding part put allAre noneIs allWords isOnes keyLt keyLe sameKey order val row keyAt blockIn firstWhere fits opened closed inserted removed replaced laid oneMore lowText highText lowBound renamed entered cat encode table D I FD FI masterSize fileSize start every goodParams sized masterShape indexShape detailShape blockAt putBlock written writes freeText textOf endRecord created keyIn above ascends endOk recordsOk rowsIn marked through detailHeld indexHeld chainHeld restOk masterOk walked layoutMarks lastOf boundOf leavesIn recordsIn leafBlocks blocksIn headOf times markOf marksFrom freshLeaf freshSection freshTree All indexEntries masterEntries masterText ChainIn ascending LeavesOk WellFormed holding positioned atRest outcome settle sizesOk workOk isOpen keyOk entryOf pathAt pathUnder pathBy onBuffer inBuffer lookOutside look flushMoves bringing reached stopping storing landing noneLeft granted storedNumber withFree create openChecks openLayout openDone openFile closeChecks closeDone close view giving seekDone seekSteps seek updatDone updatSteps updat nextInBuffer nextPath advBeyond advAt advOutside advStep advGiving advReads advDone advSteps adv roomDeed splitWith splitDeed bothStored bothWith bothAfter bothDeed insertAt insertAfter insertDeed detailLow detailHigh detailEntry indexEntered indexLow indexHigh indexEntry splitMoves bothMoves splitFile bothFile insertDone nsertSteps nsert emptyDeed emptyAt deleteAfter deleteDeed entryGone emptyMoves emptyAll bothAll emptyFile bothFile-of-dlete emptying deleteDone dleteSteps dlete lastOutside lastWay lastOf-of-xtend roomDeed-of-xtend notAboveBefore aloneDeed newWith bothWith-of-xtend bothAfter-of-xtend newAt newDeed extendAt extendDeed reading oldText endText onesEntry bounded extended newMoves bothMoves-of-xtenddone newFile bothFile-of-xtenddone extendDone xtendSteps xtend lending given answer left tally begun createdOutcome keyFrom recordFrom perform shows lineOf printed ended
 computing = 0

@@ -6,16 +6,19 @@ use mathlib.Core.Bool.{Bool, true, false, cond, _&&_}
 use lib.Dec.{leb}
 use borrow.Author.Tests.{leb-true}
 use native.Mathlib.Omega.{arith}
 use Rattle.numbers.specs.Numbers.{badFile}
 use Rattle.numbers.specs.Checked.{Checked, passed, refused, _>>=_, _>>_, require, within, upTo}
 
 -- P holds of whatever c passes
 pub record Passed {A : Type 0} (P : A → Type 0) (c : Checked A) : Type 0 where
   pub holds : (a : A) → c ≡ passed a → P a
 
 -- a refusal passes nothing
+pub clash : {A B : Type 0} (n : ℕ) (a : A) → refused n ≡ passed a → B
+clash n a e = absurd (let z : _≡_ {A = ℕ} 0 1 = cc in omega arith)
+
 pub by-refused : {B : Type 0} {P : B → Type 0} (n : ℕ) → Passed P (refused n)
-by-refused n = record { holds = λ b e. absurd (let z : _≡_ {A = ℕ} 0 1 = cc in omega arith) }
+by-refused n = record { holds = λ b e. clash n b e }
 
 pub by-bind : {A B : Type 0} {P : B → Type 0} (m : Checked A) (rest : A → Checked B)
     → ((a : A) → m ≡ passed a → Passed P (rest a)) → Passed P (m >>= rest)
@@ -38,15 +41,25 @@ by-passed {B} {P} b h = record { holds = λ c e. subst P (let z : b ≡ c = cc i
 
 pub ruleset chain = (by-refused, by-bind, by-then, by-test, by-passed)
 
+-- one step of a chain, taken apart
+pub bind-passed : {A B : Type 0} (x : Checked A) (rest : A → Checked B) (b : B) → x >>= rest ≡ passed b
+    → (a : A) × (x ≡ passed a) × (rest a ≡ passed b)
+bind-passed (refused n) rest b e = clash n b e
+bind-passed (passed a) rest b e = (a, refl, e)
+
+pub then-passed : {B : Type 0} (t : Bool) (n : ℕ) (rest : Checked B) (b : B) → require t n >> rest ≡ passed b → (t ≡ true) × (rest ≡ passed b)
+then-passed true n rest b e = (refl, e)
+then-passed false n rest b e = clash n b e
+
 -- a passed `require`: the test holds
 pub required : (t : Bool) (n : ℕ) (a : Bool) → require t n ≡ passed a → t ≡ true
 required true n a e = refl
-required false n a e = absurd (let z : _≡_ {A = ℕ} 0 1 = cc in omega arith)
+required false n a e = clash n a e
 
 -- a passed number is the one that was tested
 passed-on : (t : Bool) (n x y : ℕ) → require t n >> passed x ≡ passed y → (t ≡ true) × (x ≡ y)
 passed-on true n x y e = (refl, cc)
-passed-on false n x y e = absurd (let z : _≡_ {A = ℕ} 0 1 = cc in omega arith)
+passed-on false n x y e = clash n y e
 
 pub both : (a b : Bool) → (a && b) ≡ true → (a ≡ true) × (b ≡ true)
 both true b e = (refl, e)

@@ -1,0 +1,169 @@
+-- The sentences on a tree that stands in a file give the facts that the walk asks for, place by place.
+use Prim.Native.Nat.{ℕ, zero, suc, _+_, _*_, _-_, _≤_}
+use mathlib.Core.Path.{_≡_, refl, sym, ap, _∙_}
+use mathlib.Core.Logic.{_⊎_, inl, inr, ⊎-elim}
+use mathlib.Core.List.{List, [], _∷_, _++_, flatten}
+use mathlib.Core.Bool.{Bool, true, false, not, _&&_, _||_}
+use native.Mathlib.Omega.{arith}
+use native.Mathlib.Nat.{mul-le-mul-right}
+use lib.ListN.{length, getD, length-replicate}
+use Rattle.words.specs.Words.{part, allAre, allWords, zeros, topWord}
+use Rattle.words.specs.Keys.{ones, isOnes}
+use Rattle.words.proofs.Parts.{length-part, part-add}
+use Rattle.words.proofs.Keys.{sameKey-refl}
+use Rattle.words.proofs.All.{isOnes-ones, allAre-replicate}
+use Rattle.drum.specs.declared.Description.{Description}
+use Rattle.drum.specs.Params.{D, I, start}
+use Rattle.drum.specs.Blocks.{blockAt, freeText, Block}
+use Rattle.table.specs.Tables.{laid}
+use Rattle.layout.specs.Create.{endRecord}
+use Rattle.layout.specs.Inspect.{keyIn, named, lastRow, recordsOk, endOk}
+use Rattle.layout.specs.Tree.{Leaf, Section, boundOf, leavesIn, leafBlocks, blocksIn, headOf}
+use Rattle.layout.specs.Holds.{All, OneTo, LeafOk, LeavesOk, indexEntries, masterEntries, IndexIn, DetailIn, ChainIn}
+use Rattle.layout.proofs.Good.{Sized, row-more, cap-d, cap-i, block-in}
+use Rattle.layout.proofs.Lists.{append-parts, length-flatten, all-append, all-left, all-right, all-blocks}
+use Rattle.layout.proofs.Read.{LeafFacts, SectionFacts, Leaves, Sections, Chain, Linked, rowsAt, leafAt, leavesAt, sectionAt, sectionsAt, rows-length, leaves-length}
+use Rattle.layout.proofs.Texts.{block-words, entry-is, last-bound}
+use Rattle.layout.proofs.Order.{befores, before-some, rising-back, last-bounded, rows-words, last-row}
+use Rattle.layout.proofs.Trees.{Ends, leaves-left, leaves-right, bound-width, index-length}
+
+module _ (p : Description) (f : List ℕ) (z : Sized p f) where
+  -- the end record
+  end-both : (r : ℕ) → r + p .wpr ≤ length f → part r (p .wpr) f ≡ endRecord p
+      → (isOnes (keyIn p f r) && allAre 0 (part (r + p .k) (p .wpr - p .k) f)) ≡ true
+  unfolding endRecord keyIn
+  end-both r h q =
+      let g = z .good .kwpr in
+      let m = p .wpr - p .k in
+      let l : p .wpr ≡ p .k + m = omega arith in
+      let t : part r (p .k) f ++ part (r + p .k) m f ≡ ones (p .k) ++ zeros m =
+      sym (part-add r (p .k) m f) ∙ ap (λ (n : ℕ). part r n f) (sym l) ∙ q in
+      let n : length (part r (p .k) f) ≡ length (ones (p .k)) = length-part r (p .k) f (omega arith) ∙ sym (length-replicate (p .k) topWord) in
+      let (a, b) = append-parts (part r (p .k) f) (ones (p .k)) (part (r + p .k) m f) (zeros m) n t in
+      rw (a, b, isOnes-ones, allAre-replicate)
+
+  end-back : (e r : ℕ) → r + p .wpr ≤ length f → (isOnes (keyIn p f e) ≡ false) ⊎ (part r (p .wpr) f ≡ endRecord p) → endOk p f e r ≡ true
+  unfolding endOk
+  end-back e r h (inl q) = simp q
+  end-back e r h (inr q) = go (isOnes (keyIn p f e))
+    where
+      go : (t : Bool) → (not t || (isOnes (keyIn p f r) && allAre 0 (part (r + p .k) (p .wpr - p .k) f))) ≡ true
+      go false = refl
+      go true = end-both r h q
+
+  -- detail blocks
+  leaf-facts : (low e : ℕ) → Block p (named p f e) → LeafOk p (befores p f low) (leafAt p f e) → DetailIn p f (leafAt p f e) → Ends p (leafAt p f e)
+      → LeafFacts p f low e
+  unfolding leafAt recordsOk
+  leaf-facts low e i o t d =
+      let s = start p (named p f e) in
+      let n = getD f s 0 in
+      let kwpr = z .good .kwpr in
+      let rs = rowsAt f (p .wpr) (s + 1) n in
+      let len = rows-length f (p .wpr) n (s + 1) in
+      let c : OneTo (D p) n = rw len at (o .counted) in
+      let m : n * p .wpr ≤ D p * p .wpr = mul-le-mul-right (p .wpr) (c .1) in
+      let q : n - 1 + 1 ≤ D p = omega arith in
+      let m′ : (n - 1 + 1) * p .wpr ≤ D p * p .wpr = mul-le-mul-right (p .wpr) q in
+      let fits = block-in p f z (named p f e) i in
+      let fl : length (flatten rs) ≡ n * p .wpr = length-flatten (p .wpr) rs (o .widths) ∙ ap (λ (x : ℕ). x * p .wpr) len in
+      let w = block-words p f (named p f e) (length rs) (flatten rs) fits (omega (arith, cap-d p (z .good))) t in
+      let r = lastRow (s + 1) (p .wpr) n in
+      let k : r + p .wpr ≤ length f = omega (arith, cap-d p (z .good)) in
+      let up = rising-back p f (p .wpr) kwpr n low (s + 1) (omega arith) (o .order) in
+      let top = last-bounded p f (p .wpr) kwpr n (s + 1) (keyIn p f e) (c .0) (o .bounded) in
+      let end = end-back e r k (⊎-elim inl (λ x. inr (sym (last-row f (p .wpr) n (s + 1) (c .0)) ∙ x)) d) in
+      record { rows = record { count = refl; fits = c; behind = rw fl at (w .behind) }; good = simp (up, top, end) }
+
+  block-at : (e : ℕ) → Block p (leafAt p f e .block) → Block p (named p f e)
+  unfolding leafAt
+  block-at e i = i
+
+  before-at : (e : ℕ) (ls : List Leaf) → LeavesOk p (leafAt p f e .bound ∷ []) ls → LeavesOk p (keyIn p f e ∷ []) ls
+  unfolding leafAt
+  before-at e ls o = o
+
+  leaves-facts : (n low e : ℕ) → 1 ≤ e → LeavesOk p (befores p f low) (leavesAt p f e n) → All (λ (l : Leaf). Block p (l .block)) (leavesAt p f e n)
+      → All (DetailIn p f) (leavesAt p f e n) → All (Ends p) (leavesAt p f e n) → Leaves p f low e n
+  unfolding Leaves LeavesOk All leavesAt
+  leaves-facts zero low e s o i t d = tt
+  leaves-facts (suc n) low e s (o, os) (i, is) (t, ts) (d, ds) =
+      let i′ = block-at e i in
+      let next = e + (p .k + 1) in
+      (i′, leaf-facts low e i′ o t d, leaves-facts n e next (omega arith) (rw (before-some p f e s) (before-at e (leavesAt p f next n) os)) is ts ds)
+
+  -- index blocks
+  section-facts : (low e : ℕ) → keyIn p f e ≡ boundOf (sectionAt p f e .leaves) → Block p (named p f e)
+      → LeavesOk p (befores p f low) (sectionAt p f e .leaves) → OneTo (I p) (length (sectionAt p f e .leaves))
+      → All (λ (l : Leaf). Block p (l .block)) (sectionAt p f e .leaves)
+      → blockAt p f (named p f e) ≡ laid (p .wpb) (length (sectionAt p f e .leaves)) (indexEntries (sectionAt p f e .leaves))
+      → All (DetailIn p f) (sectionAt p f e .leaves) → All (Ends p) (sectionAt p f e .leaves) → SectionFacts p f low e
+  unfolding sectionAt
+  section-facts low e key i o c is t ts ds =
+      let b = start p (named p f e) in
+      let n = getD f b 0 in
+      let ls = leavesAt p f (b + 1) n in
+      let len = leaves-length p f n (b + 1) in
+      let c′ : OneTo (I p) n = rw len at c in
+      let m : n * (p .k + 1) ≤ I p * (p .k + 1) = mul-le-mul-right (p .k + 1) (c′ .1) in
+      let fits = block-in p f z (named p f e) i in
+      let fl : length (indexEntries ls) ≡ n * (p .k + 1) = index-length p (befores p f low) ls o ∙ ap (λ (x : ℕ). x * (p .k + 1)) len in
+      let w = block-words p f (named p f e) (length ls) (indexEntries ls) fits (omega (arith, cap-i p (z .good))) t in
+      record {
+        rows = record { count = refl; fits = c′; behind = rw fl at (w .behind) };
+        same = rw (key ∙ last-bound p f n (b + 1) (c′ .0)) (sameKey-refl (keyIn p f (lastRow (b + 1) (p .k + 1) n)));
+        leaves = leaves-facts n low (b + 1) (omega arith) o is ts ds;
+      }
+
+  section-block : (e : ℕ) → sectionAt p f e .block ≡ named p f e
+  unfolding sectionAt
+  section-block e = refl
+
+  pub sections-facts : (n low e : ℕ) → 1 ≤ e → e + n * (p .k + 1) ≤ length f → LeavesOk p (befores p f low) (leavesIn (sectionsAt p f e n))
+      → All (λ (s : Section). OneTo (I p) (length (s .leaves))) (sectionsAt p f e n) → All (Block p) (blocksIn (sectionsAt p f e n))
+      → All (IndexIn p f) (sectionsAt p f e n) → All (DetailIn p f) (leavesIn (sectionsAt p f e n)) → All (Ends p) (leavesIn (sectionsAt p f e n))
+      → part e (n * (p .k + 1)) f ≡ masterEntries (sectionsAt p f e n) → Sections p f low e n
+  unfolding Sections All leavesIn blocksIn masterEntries sectionsAt
+  sections-facts zero low e s h o c i t ts ds q = tt
+  sections-facts (suc n) low e s h o (c, cs) (i, is) (t, t′) ts ds q =
+      let m = row-more n (p .k + 1) in
+      let next = e + (p .k + 1) in
+      let ls = sectionAt p f e .leaves in
+      let rest = leavesIn (sectionsAt p f next n) in
+      let o₁ = leaves-left p (befores p f low) ls rest o in
+      let o₂ = leaves-right p (befores p f low) ls rest o (c .0) in
+      let more = masterEntries (sectionsAt p f next n) in
+      let (key, b, r) = entry-is p f e (boundOf ls) (sectionAt p f e .block) more n h (bound-width p (befores p f low) ls o₁ (c .0)) q in
+      let i′ : Block p (named p f e) = rw (section-block e) at i in
+      let i₁ = all-blocks (Block p) ls (all-left (Block p) (leafBlocks ls) (blocksIn (sectionsAt p f next n)) is) in
+      let i₂ = all-right (Block p) (leafBlocks ls) (blocksIn (sectionsAt p f next n)) is in (
+        i′,
+        section-facts low e key i′ o₁ c i₁ (rw (section-block e) at t) (all-left (DetailIn p f) ls rest ts) (all-left (Ends p) ls rest ds),
+        sections-facts n e next (omega arith) (omega arith) (rw (before-some p f e s, key) o₂) cs i₂ t′
+            (all-right (DetailIn p f) ls rest ts) (all-right (Ends p) ls rest ds) r,
+      )
+
+  -- the chain
+  pub chain-facts : (cs : List ℕ) → All (Block p) cs → ChainIn p f cs → Chain p f cs × Linked p f (headOf cs) cs
+  unfolding All ChainIn Chain Linked headOf freeText
+  chain-facts [] i t = (tt, refl)
+  chain-facts (c ∷ cs) (i, is) (t, ts) =
+      let (a, b) = chain-facts cs is ts in
+      let g = z .good .wpb6 in
+      let w = block-words p f c (headOf cs) [] (block-in p f z c i) (omega arith) t in
+      ((i, w .behind, a), (refl, rw (w .count) b))
+
+  -- the words of the records
+  leaves-words : (n e : ℕ) → allWords f ≡ true → All (λ (l : Leaf). All (λ r. allWords r ≡ true) (l .records)) (leavesAt p f e n)
+  unfolding All leavesAt leafAt
+  leaves-words zero e w = tt
+  leaves-words (suc n) e w = (rows-words f (p .wpr) _ _ w, leaves-words n (e + (p .k + 1)) w)
+
+  section-words : (e : ℕ) → allWords f ≡ true → All (λ (l : Leaf). All (λ r. allWords r ≡ true) (l .records)) (sectionAt p f e .leaves)
+  unfolding sectionAt
+  section-words e w = leaves-words _ _ w
+
+  pub sections-words : (n e : ℕ) → allWords f ≡ true → All (λ (l : Leaf). All (λ r. allWords r ≡ true) (l .records)) (leavesIn (sectionsAt p f e n))
+  unfolding All sectionsAt leavesIn
+  sections-words zero e w = tt
+  sections-words (suc n) e w = all-append _ (sectionAt p f e .leaves) _ (section-words e w) (sections-words n (e + (p .k + 1)) w)
