@@ -1,1 +1,14 @@
+pub mod Refused
+pub mod BadFile
+pub mod Ends
+pub mod Refusals
+pub mod Fits
+pub mod Rooms
+pub mod Kept
+pub mod DleteKept
+pub mod NsertKept
+pub mod XtendKept
+pub mod Lengths
+pub mod New
+pub mod OneResult
 pub mod Printed

@@ -3,6 +3,7 @@ pub mod Checks
 pub mod Paths
 pub mod Lookup
 pub mod Free
+pub mod Names
 pub mod Open
 pub mod Close
 pub mod Seek
@@ -15,5 +16,7 @@ pub mod XtendDone
 pub mod Fits
 pub mod Told
 pub mod Requests
+pub mod Refusals
+pub mod Lengths
 pub mod Run
 pub mod Computing

@@ -5,7 +5,7 @@ use mathlib.Core.List.{List, []}
 use lib.ListN.{length}
 use Rattle.numbers.specs.Checked.{Checked, passed, refused}
 use Rattle.rules.specs.State.{Session, State, Outcome, lent}
-use Rattle.rules.specs.Open.{Opened}
+use Rattle.rules.specs.Open.{Opened, Created}
 use Rattle.searchfile.specs.declared.Session as code
 use Rattle.searchfile.specs.declared.Answer.{Answer}
 
@@ -47,6 +47,10 @@ countedOpen o = record { outcome = counted (o .outcome); marks = o .marks }
 
 abbrev pub answeredOpen : Answer → List ℕ → List ℕ → List ℕ → CountedOpen
 answeredOpen r f b m = record { outcome = answered r f b []; marks = m }
+
+-- what CREATE gives back, with the file it leaves
+abbrev pub made : ℕ → List ℕ → Created
+made r f = record { number = r; file = f }
 
 -- a number as the answer of a step: 0 refuses nothing
 abbrev pub refusing : ℕ → Checked Bool

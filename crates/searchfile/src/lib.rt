@@ -16,6 +16,7 @@ ghost use lib.ListN.{length, replicate};
 ghost use Rattle.drum.specs.Params.{goodParams};
 ghost use Rattle.rules.specs.State.{holding, positioned, atRest, keyIn};
 ghost use Rattle.rules.specs.Close.{close as closed, view as viewed};
+ghost use Rattle.rules.specs.Adv.{adv as advanced};
 ghost use Rattle.rules.specs.Seek.{seek as sought, updat as updated};
 ghost use Rattle.searchfile.specs.Promise.{held, given, counted, answered, refusing};
 ghost use Rattle.searchfile.specs.Checks.{plainChecks, keyedChecks};
@@ -217,6 +218,20 @@ impl Session {
             return self.refused(number);
         }
         let done = seek::updat(p, self.current, self.flag, file, buffer, work);
+        self.after(done, work)
+    }
+
+    // ADV: the record with the least key above position to the workspace.
+    pub fn adv(self, file: &mut [u32], buffer: &mut [u32], work: &mut [u32]) -> Answer
+        ensures { λ r. ⌜ answered r (now (file .exit)) (now (buffer .exit)) (now (work .exit)) ≡ counted (advanced (given self (now (file .entry)) (now (buffer .entry)) (now (work .entry)))) ⌝ }
+    {
+        let p = self.desc;
+        let number = refused_plain(p, self.opened, file.len(), buffer.len(), work.len());
+        if number != 0 {
+            return self.refused(number);
+        }
+        let position = self.position;
+        let done = adv::adv(p, self.current, self.flag, self.placed, &position, file, buffer, work);
         self.after(done, work)
     }
 }

@@ -1,0 +1,257 @@
+-- The effects of XTEND have the right lengths, and change no block but those that they write.
+use Prim.Native.Nat.{ℕ, _+_, _-_, _≤_, _<_}
+use mathlib.Core.Path.{_≡_, refl, sym, ap, _∙_}
+use mathlib.Core.Bool.{Bool, true, false, _||_}
+use mathlib.Core.List.{List, _++_}
+use native.Mathlib.Omega.{arith}
+use borrow.Author.Tests.{ltb-true, leb-false, eqb-true}
+use lib.Dec.{eqb, ltb, leb}
+use lib.ListN.{length, length-append, length-replicate}
+use Rattle.numbers.specs.Checked.{passed}
+use Rattle.words.specs.Words.{part}
+use Rattle.words.proofs.Parts.{length-part}
+use Rattle.table.specs.declared.Shape.{Shape}
+use Rattle.table.specs.Tables.{count, place, row}
+use Rattle.table.proofs.Places.{row-lt}
+use Rattle.table.proofs.Lengths.{length-inserted, length-replaced, length-laid}
+use Rattle.table.proofs.Kept.{count-replaced, part-replaced, part-inserted}
+use Rattle.drum.specs.declared.Description.{Description}
+use Rattle.drum.specs.Params.{D, I, FD, FI, start, masterSize, fileSize, goodParams, masterShape, indexShape, detailShape}
+use Rattle.drum.specs.Blocks.{written, writes, blockAt, sections, Texts, textOf, Fitting, Block}
+use Rattle.drum.proofs.Good.{caps}
+use Rattle.drum.proofs.Blocks.{length-textOf, start-after}
+use Rattle.drum.proofs.Written.{Moves, moves-append, writes-append}
+use Rattle.rules.specs.declared.Path.{Path}
+use Rattle.rules.specs.declared.Way.{Way}
+use Rattle.rules.specs.declared.Taken.{Taken}
+use Rattle.rules.specs.declared.Extend.{Extend}
+use Rattle.rules.specs.declared.Extend.the-variants as extend-is
+use Rattle.rules.specs.State.{keyIn}
+use Rattle.rules.specs.Lookup.{Reached, reached, textAt, stopping}
+use Rattle.rules.specs.Free.{granted, withFree}
+use Rattle.rules.specs.Xtend.{lastWay, lastOf, roomDeed, aloneDeed, newWith, bothWith, bothAfter, newAt, newDeed, extendAt, extendDeed}
+use Rattle.rules.specs.XtendDone.{reading, oldText, endText, onesEntry, bounded, extended, newMoves, bothMoves, newFile, bothFile, extendDone, xtendSteps}
+use Rattle.rules.specs.Fits.{PathFits, WayFits}
+use Rattle.numbers.proofs.Passed.{Passed, chain, by-passed}
+use Rattle.rules.proofs.Fits.{last-passed, lastOf-fits, granted-fits, neither}
+use Rattle.rules.proofs.Rooms.{detail-read, index-base, index-end, index-row, master-base, master-row}
+use Rattle.rules.proofs.Kept.{Kept, Only, index-block, detail-block, reached-text, way-counts, reached-moves, reached-fits, reached-only, insert-length, replace-length, store-kept, land-kept, freed-length, freed-only, freed-count}
+
+ones-length : (p : Description) (b : ℕ) → length (onesEntry p b) ≡ p .k + 1
+unfolding onesEntry
+ones-length p b = simp (length-append, length-replicate) (omega arith)
+
+-- a table of entries whose last bound becomes the key, and with a new entry behind it
+module _ (p : Description) (h : Shape) (stride : h .stride ≡ p .k + 1) (base : 1 ≤ h .base) (t key : List ℕ) (whole : length key ≡ p .k) (some : 1 ≤ count t) (all : place h (count t) ≤ length t) where
+  bounded-room : place h (count t - 1) + length key ≤ length t
+  bounded-room =
+      let r = row-lt (count t - 1) (count t) (h .stride) (omega arith) in
+      omega arith
+
+  bounded-length : length (bounded h key t) ≡ length t
+  unfolding bounded
+  bounded-length = length-replaced h (count t - 1) t key bounded-room
+
+  bounded-count : count (bounded h key t) ≡ count t
+  unfolding bounded
+  bounded-count = count-replaced h (count t - 1) t key bounded-room base
+
+  module _ (b : ℕ) (room : place h (count t) + h .stride ≤ length t) where
+    still : place h (count (bounded h key t)) + h .stride ≤ length (bounded h key t)
+    still = rw (bounded-count, bounded-length) room
+
+    extended-length : length (extended p h key b t) ≡ length t
+    unfolding extended
+    extended-length = length-inserted h (count t) (bounded h key t) (onesEntry p b) (rw bounded-count (omega arith)) (ones-length p b ∙ sym stride) still ∙ bounded-length
+
+    extended-part : (a n : ℕ) → place h (count t) + h .stride ≤ a → part a n (extended p h key b t) ≡ part a n t
+    unfolding extended bounded
+    extended-part a n l =
+        let r = bounded-room in
+        part-inserted h (count t) (bounded h key t) (onesEntry p b) (rw bounded-count (omega arith)) (ones-length p b ∙ sym stride) still a n base (rw bounded-count l)
+        ∙ part-replaced h (count t - 1) t key bounded-room a n (omega (arith, row-lt (count t - 1) (count t) (h .stride) (omega arith)))
+
+module _ (v : Texts) (fit : Fitting (v .desc) (v .file) (v .buffer)) (flag : Bool) (work : List ℕ) (given : length work ≡ v .desc .wpr) where
+  key-length : length (keyIn (v .desc) work) ≡ v .desc .k
+  key-length =
+      let g = caps (v .desc) (fit .good) .facts in
+      length-part 0 (v .desc .k) work (omega arith)
+
+  -- the index read besides changes nothing
+  reading-only : (x : ℕ) (r : Reached) → Only v (r .moves) (r .file) → Only v (reading x r .moves) (reading x r .file)
+  unfolding reading
+  reading-only x r o b k n = o b k (neither (writes (r .moves) b) _ (sym (writes-append (r .moves) _ b) ∙ n) .0)
+
+  module _ (way : Way) (reach : WayFits v flag way) where
+    text-length : length (textAt v way) ≡ v .desc .wpb
+    text-length = ap length (sym (reached-text v flag way)) ∙ reached-fits v fit flag way reach .buffer-is
+
+    -- the old block's text, and the new one's
+    old-length : length (oldText v way work) ≡ v .desc .wpb
+    unfolding oldText
+    old-length =
+        let c = way-counts v flag way reach in
+        replace-length v fit flag work given (textAt v way) (count (textAt v way) - 1) text-length (c .1) (omega arith)
+
+    end-length : length (endText v way) ≡ v .desc .wpb
+    unfolding endText
+    end-length =
+        let g = caps (v .desc) (fit .good) in
+        let c = way-counts v flag way reach in
+        let l = detail-read (v .desc) (fit .good) (textAt v way) (count (textAt v way) - 1) text-length (omega arith) in
+        length-laid (v .desc .wpb) 1 (row (detailShape (v .desc)) (textAt v way) (count (textAt v way) - 1)) (omega arith)
+
+    -- the index block's
+    module _ (w : Path) (path : PathFits v w) where
+      index-length : length (textOf v (w .index)) ≡ v .desc .wpb
+      index-length = length-textOf v (w .index) fit (index-block v w path)
+
+      index-all : place (indexShape (v .desc)) (count (textOf v (w .index))) ≤ length (textOf v (w .index))
+      index-all = rw index-length (index-end (v .desc) (fit .good) (count (textOf v (w .index))) (path .entries-most))
+
+      index-bounded : length (bounded (indexShape (v .desc)) (keyIn (v .desc) work) (textOf v (w .index))) ≡ v .desc .wpb
+      unfolding indexShape
+      index-bounded =
+          let e = path .entry-below in
+          bounded-length (v .desc) (indexShape (v .desc)) refl (index-base (v .desc)) (textOf v (w .index)) (keyIn (v .desc) work) key-length (omega arith) index-all ∙ index-length
+
+      index-extended : (b : ℕ) → count (textOf v (w .index)) < I (v .desc)
+          → length (extended (v .desc) (indexShape (v .desc)) (keyIn (v .desc) work) b (textOf v (w .index))) ≡ v .desc .wpb
+      unfolding indexShape
+      index-extended b room =
+          let e = path .entry-below in
+          extended-length (v .desc) (indexShape (v .desc)) refl (index-base (v .desc)) (textOf v (w .index)) (keyIn (v .desc) work) key-length (omega arith) index-all b
+          (rw index-length (index-row (v .desc) (fit .good) (count (textOf v (w .index))) room)) ∙ index-length
+
+      new-moves : (b : ℕ) → Block (v .desc) b → count (textOf v (w .index)) < I (v .desc) → Moves (v .desc) (reached v flag way .moves ++ newMoves v way w work b)
+      unfolding newMoves
+      new-moves b new room =
+          moves-append (v .desc) (reached v flag way .moves) _ (reached-moves v fit flag way reach)
+          (detail-block v w path, old-length, (index-block v w path, index-extended b room, (new, end-length, tt)))
+
+      both-moves : (b x : ℕ) → Block (v .desc) b → Block (v .desc) x → Moves (v .desc) (reached v flag way .moves ++ bothMoves v way w work b x)
+      unfolding bothMoves
+      both-moves b x new newer =
+          let g = caps (v .desc) (fit .good) in
+          let l = ones-length (v .desc) b in
+          moves-append (v .desc) (reached v flag way .moves) _ (reached-moves v fit flag way reach)
+          (detail-block v w path, old-length, (index-block v w path, index-bounded, (new, end-length, (newer, length-laid (v .desc .wpb) 1 (onesEntry (v .desc) b) (omega arith), tt))))
+
+-- the master with a new section
+module _ (p : Description) (good : goodParams p ≡ true) (f key : List ℕ) (x : ℕ) (l : length f ≡ fileSize p) (whole : length key ≡ p .k) (some : 1 ≤ count f) (most : count f < p .control) where
+  section-room : place (masterShape p) (count f) + (p .k + 1) ≤ masterSize p
+  section-room = master-row p good (count f) most
+
+  section-fits : place (masterShape p) (count f) + (p .k + 1) ≤ length f
+  section-fits =
+      let g = caps p good in
+      let q = section-room in
+      omega arith
+
+  section-all : place (masterShape p) (count f) ≤ length f
+  section-all = let q = section-fits in omega arith
+
+  section-length : length (extended p (masterShape p) key x f) ≡ fileSize p
+  unfolding masterShape
+  section-length = extended-length p (masterShape p) refl (master-base p) f key whole some section-all x section-fits ∙ l
+
+  section-blocks : (b : ℕ) → blockAt p (extended p (masterShape p) key x f) b ≡ blockAt p f b
+  unfolding blockAt masterShape
+  section-blocks b =
+      let s = start-after p b in
+      let q = section-room in
+      extended-part p (masterShape p) refl (master-base p) f key whole some section-all x section-fits (start p b) (p .wpb) (omega arith)
+
+module _ (v : Texts) (fit : Fitting (v .desc) (v .file) (v .buffer)) (flag : Bool) (work : List ℕ) (given : length work ≡ v .desc .wpr) where
+  record Deed (d : Extend) : Type 0 where
+    kept : Passed (Kept v) (extendDone v flag work d)
+
+  module _ (way : Way) (reach : WayFits v flag way) where
+    stop-deed : (x n : ℕ) → Deed (extend-is.Stop way x n)
+    unfolding extendDone stopping reading
+    stop-deed x n =
+        let f = reached-fits v fit flag way reach in
+        record {
+          kept = by-passed _ (record {
+            file-is = f .file-is;
+            buffer-is = f .buffer-is;
+            work-is = given;
+            only = reading-only v fit flag work given x (reached v flag way) (reached-only v fit flag way reach);
+          });
+        }
+
+    room-deed : (x n : ℕ) → count (textAt v way) < D (v .desc) → Deed (extend-is.Room way x n)
+    unfolding extendDone reading
+    room-deed x n room =
+        let t = textAt v way in
+        let f = reached-fits v fit flag way reach in
+        let l = insert-length v fit flag work given t (count t - 1) (text-length v fit flag work given way reach) (omega arith) room in
+        record {
+          kept = by-passed _ (store-kept v fit flag work given n (reading x (reached v flag way)) _ f
+              (reading-only v fit flag work given x (reached v flag way) (reached-only v fit flag way reach)) (rw (reached-text v flag way) l));
+        }
+
+    room-alone : (x n : ℕ) → eqb (count (textAt v way)) 1 ≡ true → Deed (extend-is.Room way x n)
+    room-alone x n e =
+        let g = caps (v .desc) (fit .good) .facts in
+        let c = eqb-true (count (textAt v way)) 1 e in
+        room-deed x n (omega arith)
+
+    room-more : (x n : ℕ) → ltb (count (textAt v way)) (FD (v .desc)) ≡ true → Deed (extend-is.Room way x n)
+    room-more x n e =
+        let g = caps (v .desc) (fit .good) in
+        let c = ltb-true (count (textAt v way)) (FD (v .desc)) e in
+        room-deed x n (omega arith)
+
+    new-deed : (w : Path) (n : ℕ) (d : Taken) (head lowest : ℕ) → lastOf v way ≡ passed w → ltb (count (textOf v (w .index))) (FI (v .desc)) ≡ true
+        → granted v head lowest ≡ passed d → eqb (d .block) 0 ≡ false → Deed (extend-is.New way w d n)
+    unfolding extendDone newFile
+    new-deed w n d head lowest last room e z =
+        let g = caps (v .desc) (fit .good) in
+        let path = lastOf-fits v flag way w reach last in
+        let new = granted-fits v head lowest d e z in
+        let c = ltb-true (count (textOf v (w .index))) (FI (v .desc)) room in
+        let m = new-moves v fit flag work given way reach w path (d .block) new (omega arith) in
+        record {
+          kept = by-passed _ (land-kept v fit flag work given n _ _ _ new (freed-length v fit _ m (d .head) (d .lowest)) (freed-only v fit _ m (d .head) (d .lowest)));
+        }
+
+    both-deed : (w : Path) (n : ℕ) (d x : Taken) (head lowest : ℕ) → lastOf v way ≡ passed w → granted v head lowest ≡ passed d
+        → granted v (d .head) (d .lowest) ≡ passed x
+        → (eqb (d .block) 0 || (eqb (x .block) 0 || leb (v .desc .control) (sections (v .file)))) ≡ false → Deed (extend-is.Both way w (d .block) x n)
+    unfolding extendDone bothFile
+    both-deed w n d x head lowest last e g z =
+        let path = lastOf-fits v flag way w reach last in
+        let a = neither (eqb (d .block) 0) _ z in
+        let c = neither (eqb (x .block) 0) (leb (v .desc .control) (sections (v .file))) (a .1) in
+        let new = granted-fits v head lowest d e (a .0) in
+        let newer = granted-fits v (d .head) (d .lowest) x g (c .0) in
+        let moves = reached v flag way .moves ++ bothMoves v way w work (d .block) (x .block) in
+        let m : Moves (v .desc) moves = both-moves v fit flag work given way reach w path (d .block) (x .block) new newer in
+        let f = written (v .desc) moves (withFree (x .head) (x .lowest) (v .file)) in
+        let l = freed-length v fit moves m (x .head) (x .lowest) in
+        let s = freed-count v fit moves m (x .head) (x .lowest) in
+        let q = path .section-below in
+        let some : 1 ≤ count f = rw s (omega arith) in
+        let most : count f < v .desc .control = rw s (leb-false _ _ (c .1)) in
+        let key = key-length v fit flag work given in
+        record {
+          kept = by-passed _ (land-kept v fit flag work given n _ _ _ new
+              (section-length (v .desc) (fit .good) f (keyIn (v .desc) work) (x .block) l key some most)
+              (λ b k o. section-blocks (v .desc) (fit .good) f (keyIn (v .desc) work) (x .block) l key some most b ∙ freed-only v fit moves m (x .head) (x .lowest) b k o));
+        }
+
+  -- what the plan passes
+  last-fits : (way : Way) → lastWay v flag ≡ passed way → WayFits v flag way
+  last-fits way e = last-passed v flag .holds way e
+
+  deed-kept : (key : List ℕ) → Passed Deed (extendDeed v flag key)
+  unfolding extendDeed extendAt aloneDeed roomDeed newDeed newAt newWith bothAfter bothWith
+  deed-kept key = search (chain, last-fits, stop-deed, room-alone, room-more, new-deed, both-deed) depth 20
+
+  done-kept : (key : List ℕ) (d : Extend) → extendDeed v flag key ≡ passed d → Passed (Kept v) (extendDone v flag work d)
+  done-kept key d e = deed-kept key .holds d e .kept
+
+  pub xtend-kept : Passed (Kept v) (xtendSteps v flag work)
+  unfolding xtendSteps
+  xtend-kept = search (chain, done-kept)
