@@ -1,6 +1,5 @@
 -- What a plan of DLETE that passed its checks tells the code that follows it.
 use Prim.Native.Nat.{ℕ, _≤_, _<_}
-use mathlib.Core.Path.{_≡_}
 use mathlib.Core.Bool.{Bool}
 use Rattle.table.specs.Tables.{count}
 use Rattle.drum.specs.Blocks.{Texts, textOf}

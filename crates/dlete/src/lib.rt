@@ -1,5 +1,5 @@
 // DLETE, once the session and the workspace are checked.
-mod acts_on;
+mod deeds;
 mod plan;
 
 use drum::Description;
@@ -10,7 +10,7 @@ ghost use Rattle.drum.specs.Blocks.{Fitting, seen};
 ghost use Rattle.rules.specs.Dlete.{dleteSteps};
 ghost use Rattle.rules.specs.Told.{gave, told};
 
-// DLETE.
+// Takes the record with the workspace's key out: planned from current texts, then done.
 pub fn dlete(
     p: Description,
     current: usize,
@@ -23,5 +23,5 @@ pub fn dlete(
     ensures { λ r. ⌜ gave r (now (file .exit)) (now (buffer .exit)) (now (work .entry)) ≡ told (seen p current (now (file .entry)) (now (buffer .entry))) flag (now (work .entry)) (dleteSteps (seen p current (now (file .entry)) (now (buffer .entry))) flag (now (work .entry))) ⌝ }
 {
     let deed = plan::plan_delete(p, current, flag, file, buffer, work);
-    acts_on::act_delete(deed, p, current, flag, file, buffer, work)
+    deeds::act_delete(deed, p, current, flag, file, buffer)
 }

@@ -7,12 +7,13 @@ use rules::Path;
 use rules::Way;
 use rules::Which;
 ghost use mathlib.Core.Path.{_≡_};
-ghost use Prim.Native.Nat.{_≤_, _<_};
+ghost use mathlib.Core.List.{[]};
+ghost use Prim.Native.Nat.{_≤_};
 ghost use lib.ListN.{length};
 ghost use Rattle.words.specs.Words.{part};
 ghost use Rattle.drum.specs.Blocks.{Fitting, seen};
-ghost use Rattle.rules.specs.Fits.{PathFits, LookFits};
-ghost use Rattle.rules.specs.Dlete.{emptyDeed, emptyAt, deleteAfter, deleteDeed};
+ghost use Rattle.rules.specs.Fits.{PathFits};
+ghost use Rattle.rules.specs.Dlete.{emptyDeed, deleteAfter, deleteDeed};
 ghost use Rattle.rules.specs.declared.Way.the-variants as way-is;
 ghost use Rattle.rules.specs.declared.Look.the-variants as look-is;
 ghost use Rattle.dlete.specs.Answers.{asDelete};
@@ -40,17 +41,21 @@ fn empty_deed<'a>(
     Delete::Empty(way, w, head)
 }
 
-// The buffered block is left empty: its path is the one for the key, and must lead to it.
-fn empty_here<'a>(
+// The record is at place i of the buffered block. If that is left empty, its path is the one for the key, and must lead to it.
+fn delete_here<'a>(
     p: Description,
     current: usize,
     file: &'a [u32],
     buffer: &'a [u32],
     key: &[u32],
+    i: usize,
 ) -> Delete
     requires { ⌜ Fitting p (now file) (now buffer) × (p .k ≤ length (now key)) ⌝ }
-    ensures { λ r. ⌜ asDelete r ≡ emptyAt (seen p current (now (file .entry)) (now (buffer .entry))) (part 0 (p .k) (now (key .entry))) way-is.Here ⌝ }
+    ensures { λ r. ⌜ asDelete r ≡ deleteAfter (seen p current (now (file .entry)) (now (buffer .entry))) (part 0 (p .k) (now (key .entry))) (look-is.Found way-is.Here i) ⌝ }
 {
+    if words::word_at(buffer, 0) != 1 {
+        return Delete::Remove(Way::Here, i);
+    }
     let route = lookup::path_by(
         p,
         current,
@@ -71,34 +76,23 @@ fn empty_here<'a>(
     }
 }
 
-// The record is found at place i of the block at the end of the way.
-fn delete_found<'a>(
+// The record is at place i of the block at the end of the path w.
+fn delete_by<'a>(
     p: Description,
     current: usize,
     file: &'a [u32],
     buffer: &'a [u32],
-    key: &[u32],
-    way: Way,
+    w: Path,
     i: usize,
 ) -> Delete
-    requires { ⌜ Fitting p (now file) (now buffer) × (p .k ≤ length (now key)) × LookFits (seen p current (now file) (now buffer)) mathlib.Core.Bool.false (look-is.Found way i) ⌝ }
-    ensures { λ r. ⌜ asDelete r ≡ deleteAfter (seen p current (now (file .entry)) (now (buffer .entry))) (part 0 (p .k) (now (key .entry))) (look-is.Found way i) ⌝ }
+    requires { ⌜ Fitting p (now file) (now buffer) × PathFits (seen p current (now file) (now buffer)) w ⌝ }
+    ensures { λ r. ⌜ asDelete r ≡ deleteAfter (seen p current (now (file .entry)) (now (buffer .entry))) [] (look-is.Found (way-is.By w) i) ⌝ }
 {
-    match way {
-        Way::Here => {
-            if words::word_at(buffer, 0) == 1 {
-                return empty_here(p, current, file, buffer, key);
-            }
-            Delete::Remove(Way::Here, i)
-        }
-        Way::By(w) => {
-            let t = drum::text_of(p, current, file, buffer, w.detail);
-            if words::word_at(t, 0) == 1 {
-                return empty_deed(p, current, file, buffer, Way::By(w), w);
-            }
-            Delete::Remove(Way::By(w), i)
-        }
+    let t = drum::text_of(p, current, file, buffer, w.detail);
+    if words::word_at(t, 0) != 1 {
+        return Delete::Remove(Way::By(w), i);
     }
+    empty_deed(p, current, file, buffer, Way::By(w), w)
 }
 
 // What DLETE will do.
@@ -117,6 +111,9 @@ pub fn plan_delete<'a>(
     match l {
         Look::Bad => Delete::Bad,
         Look::Missing(w) => Delete::Stop(w),
-        Look::Found(way, i) => delete_found(p, current, file, buffer, key, way, i),
+        Look::Found(way, i) => match way {
+            Way::Here => delete_here(p, current, file, buffer, key, i),
+            Way::By(w) => delete_by(p, current, file, buffer, w, i),
+        },
     }
 }

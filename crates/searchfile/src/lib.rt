@@ -18,6 +18,7 @@ ghost use Rattle.rules.specs.State.{holding, positioned, atRest, keyIn};
 ghost use Rattle.rules.specs.Close.{close as closed, view as viewed};
 ghost use Rattle.rules.specs.Adv.{adv as advanced};
 ghost use Rattle.rules.specs.NsertDone.{nsert as inserted};
+ghost use Rattle.rules.specs.Dlete.{dlete as deleted};
 ghost use Rattle.rules.specs.Seek.{seek as sought, updat as updated};
 ghost use Rattle.searchfile.specs.Promise.{held, given, counted, answered, refusing};
 ghost use Rattle.searchfile.specs.Checks.{plainChecks, keyedChecks};
@@ -232,7 +233,16 @@ impl Session {
             return self.refused(number);
         }
         let position = self.position;
-        let done = adv::adv(p, self.current, self.flag, self.placed, &position, file, buffer, work);
+        let done = adv::adv(
+            p,
+            self.current,
+            self.flag,
+            self.placed,
+            &position,
+            file,
+            buffer,
+            work,
+        );
         self.after(done, work)
     }
 
@@ -247,6 +257,20 @@ impl Session {
             return self.refused(number);
         }
         let done = nsert::nsert(p, self.current, self.flag, file, buffer, work);
+        self.after(done, work)
+    }
+
+    // DLETE: the record with the workspace's key taken out.
+    pub fn dlete(self, file: &mut [u32], buffer: &mut [u32], work: &[u32]) -> Answer
+        ensures { λ r. ⌜ answered r (now (file .exit)) (now (buffer .exit)) (now (work .entry)) ≡ counted (deleted (given self (now (file .entry)) (now (buffer .entry)) (now (work .entry)))) ⌝ }
+    {
+        let p = self.desc;
+        let k = p.k;
+        let number = refused_key(p, self.opened, file.len(), buffer.len(), work, k);
+        if number != 0 {
+            return self.refused(number);
+        }
+        let done = dlete::dlete(p, self.current, self.flag, file, buffer, work);
         self.after(done, work)
     }
 }

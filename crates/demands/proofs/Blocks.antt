@@ -1,0 +1,141 @@
+-- The blocks of a file: read after write, the master apart from them, and what a list of transfers writes.
+use Prim.Native.Nat.{ℕ, suc, _+_, _*_, _-_, _≤_, _<_}
+use mathlib.Core.Path.{_≡_, refl, sym, ap, _∙_}
+use mathlib.Core.List.{List, [], _∷_, _++_}
+use native.Mathlib.Omega.{arith}
+use native.Mathlib.Nat.{mul-le-mul-right}
+use native.Mathlib.Decide.{ℕ-discrete}
+use lib.ListN.{length, take, drop, length-drop}
+use lib.Seq.{take-at, drop-at, drop-drop}
+use Rattle.words.specs.Words.{part, put}
+use Rattle.words.proofs.Keys.{Tri, tri, lt, eq, gt}
+use Rattle.words.proofs.Parts.{length-part, length-put, part-written, part-put-before, part-put-after}
+use Rattle.drum.specs.declared.Description.{Description}
+use Rattle.drum.specs.Params.{masterSize, fileSize, start}
+use Rattle.drum.specs.Blocks.{blockAt, putBlock, Transfer, Read, Write, written}
+use Rattle.demands.proofs.Lists.{All}
+use Rattle.demands.proofs.Cells.{Cell, is-not, weigh, times, wrote, wrote-same, wrote-other, wrotes}
+
+-- the words of the master, and the file with other ones
+unfoldable pub masterOf : Description → List ℕ → List ℕ
+masterOf p f = take (masterSize p) f
+
+unfoldable pub behind : Description → List ℕ → List ℕ
+behind p f = drop (masterSize p) f
+
+step : (p : Description) (b c : ℕ) → 1 ≤ b → b < c → start p b + p .wpb ≤ start p c
+unfolding start
+step p b c l h = omega (arith, mul-le-mul-right (p .wpb) (less b c l h))
+  where
+    less : (b c : ℕ) → 1 ≤ b → b < c → suc (b - 1) ≤ c - 1
+    less b c l h = omega arith
+
+module _ (p : Description) (f : List ℕ) (sized : length f ≡ fileSize p) where
+  block-in : (b : ℕ) → 1 ≤ b → b ≤ p .n → start p b + p .wpb ≤ length f
+  unfolding start fileSize
+  block-in b l h = rw sized (omega (arith, mul-le-mul-right (p .wpb) (last b (p .n) l h)))
+    where
+      last : (b n : ℕ) → 1 ≤ b → b ≤ n → suc (b - 1) ≤ n
+      last b n l h = omega arith
+
+  pub block-length : (b : ℕ) → 1 ≤ b → b ≤ p .n → length (blockAt p f b) ≡ p .wpb
+  unfolding blockAt
+  block-length b l h = length-part (start p b) (p .wpb) f (block-in b l h)
+
+  module _ (b : ℕ) (low : 1 ≤ b) (high : b ≤ p .n) (t : List ℕ) (ht : length t ≡ p .wpb) where
+    fits : start p b + length t ≤ length f
+    fits = rw ht (block-in b low high)
+
+    pub put-length : length (putBlock p f b t) ≡ length f
+    unfolding putBlock
+    put-length = length-put f (start p b) t fits
+
+    pub put-block : (c : ℕ) → 1 ≤ c → c ≤ p .n → blockAt p (putBlock p f b t) c ≡ wrote (blockAt p f) b t c
+    unfolding blockAt putBlock
+    put-block c hc hn = go (tri b c)
+      where
+        go : Tri b c → part (start p c) (p .wpb) (put f (start p b) t) ≡ wrote (blockAt p f) b t c
+        go (lt l) = rw (wrote-other (blockAt p f) b t c (λ e. omega arith)) (part-put-after f (start p b) t (start p c) (p .wpb) (rw ht (step p b c low l)) (block-in c hc hn))
+        go (eq e) = rw (← e, wrote-same (blockAt p f) b t) (part-written f (start p b) (p .wpb) t ht (block-in b low high))
+        go (gt g) = rw (wrote-other (blockAt p f) b t c (λ e. omega arith)) (part-put-before f (start p b) t (start p c) (p .wpb) (step p c b hc g) fits)
+
+    pub put-master : masterOf p (putBlock p f b t) ≡ masterOf p f
+    unfolding putBlock masterOf start part
+    put-master = part-put-before f (start p b) t 0 (masterSize p) (omega arith) fits
+
+-- blocks do not depend on the master's words
+pub behind-block : (p : Description) (f g : List ℕ) → length f ≡ fileSize p → length g ≡ fileSize p → behind p f ≡ behind p g → (c : ℕ) → blockAt p f c ≡ blockAt p g c
+unfolding behind blockAt start part
+behind-block p f g lf lg e c =
+    ap (take (p .wpb)) (sym (drop-drop ((c - 1) * p .wpb) (masterSize p) f) ∙ ap (drop ((c - 1) * p .wpb)) e ∙ drop-drop ((c - 1) * p .wpb) (masterSize p) g)
+
+pub behind-length : (p : Description) (f : List ℕ) → length f ≡ fileSize p → length (behind p f) ≡ fileSize p - masterSize p
+unfolding behind
+behind-length p f e = length-drop (masterSize p) f ∙ ap (λ (n : ℕ). n - masterSize p) e
+
+pub master-first : (p : Description) → masterSize p ≤ fileSize p
+unfolding fileSize
+master-first p = omega arith
+
+-- the file whose master is m: its parts
+module _ (p : Description) (m rest : List ℕ) (hm : length m ≡ masterSize p) where
+  pub master-put : masterOf p (m ++ rest) ≡ m
+  unfolding masterOf
+  master-put = take-at m rest (masterSize p) hm
+
+  pub behind-put : behind p (m ++ rest) ≡ rest
+  unfolding behind
+  behind-put = drop-at m rest (masterSize p) hm
+
+-- ---- what a list of transfers writes
+
+-- the cells that a list of transfers writes
+unfoldable pub writes : List Transfer → List Cell
+writes [] = []
+writes (Read b ∷ ms) = writes ms
+writes (Write b t ∷ ms) = (b, t) ∷ writes ms
+
+pub writes-append : (xs ys : List Transfer) → writes (xs ++ ys) ≡ writes xs ++ writes ys
+unfolding writes
+writes-append [] ys = refl
+writes-append (Read b ∷ xs) ys = writes-append xs ys
+writes-append (Write b t ∷ xs) ys = ap (λ (l : List Cell). (b, t) ∷ l) (writes-append xs ys)
+
+abbrev pub Fits : Description → Cell → Type 0
+Fits p c = (1 ≤ c .0) × (c .0 ≤ p .n) × (length (c .1) ≡ p .wpb)
+
+pub wrotes-ext : (ws : List Cell) (t₁ t₂ : ℕ → List ℕ) (c : ℕ) → (times c ws ≡ 0 → t₁ c ≡ t₂ c) → wrotes t₁ ws c ≡ wrotes t₂ ws c
+unfolding times weigh
+wrotes-ext [] t₁ t₂ c h = h refl
+wrotes-ext (w ∷ ws) t₁ t₂ c h = wrotes-ext ws (wrote t₁ (w .0) (w .1)) (wrote t₂ (w .0) (w .1)) c (λ z. go z (ℕ-discrete c (w .0)))
+  where
+    go : times c ws ≡ 0 → Dec (c ≡ w .0) → wrote t₁ (w .0) (w .1) c ≡ wrote t₂ (w .0) (w .1) c
+    go z (yes e) = rw (e, wrote-same t₁ (w .0) (w .1), wrote-same t₂ (w .0) (w .1))
+    go z (no n) = rw (wrote-other t₁ (w .0) (w .1) c n, wrote-other t₂ (w .0) (w .1) c n) (h (omega (arith, z, is-not (w .0) c (λ e. n (sym e)))))
+
+pub wrotes-append : (text : ℕ → List ℕ) (xs ys : List Cell) (c : ℕ) → wrotes text (xs ++ ys) c ≡ wrotes (wrotes text xs) ys c
+wrotes-append text [] ys c = refl
+wrotes-append text (x ∷ xs) ys c = wrotes-append (wrote text (x .0) (x .1)) xs ys c
+
+module _ (p : Description) where
+  pub written-length : (ms : List Transfer) (file : List ℕ) → length file ≡ fileSize p → All (Fits p) (writes ms) → length (written p ms file) ≡ fileSize p
+  unfolding written writes
+  written-length [] file e h = e
+  written-length (Read b ∷ ms) file e h = written-length ms file e h
+  written-length (Write b t ∷ ms) file e h = written-length ms (putBlock p file b t) (put-length p file e b (h .0 .0) (h .0 .1) t (h .0 .2) ∙ e) (h .1)
+
+  pub written-master : (ms : List Transfer) (file : List ℕ) → length file ≡ fileSize p → All (Fits p) (writes ms) → masterOf p (written p ms file) ≡ masterOf p file
+  unfolding written writes
+  written-master [] file e h = refl
+  written-master (Read b ∷ ms) file e h = written-master ms file e h
+  written-master (Write b t ∷ ms) file e h =
+      written-master ms (putBlock p file b t) (put-length p file e b (h .0 .0) (h .0 .1) t (h .0 .2) ∙ e) (h .1) ∙ put-master p file e b (h .0 .0) (h .0 .1) t (h .0 .2)
+
+  pub written-text : (ms : List Transfer) (file : List ℕ) → length file ≡ fileSize p → All (Fits p) (writes ms) → (c : ℕ) → 1 ≤ c → c ≤ p .n
+      → blockAt p (written p ms file) c ≡ wrotes (blockAt p file) (writes ms) c
+  unfolding written writes
+  written-text [] file e h c l u = refl
+  written-text (Read b ∷ ms) file e h c l u = written-text ms file e h c l u
+  written-text (Write b t ∷ ms) file e h c l u =
+      written-text ms (putBlock p file b t) (put-length p file e b (h .0 .0) (h .0 .1) t (h .0 .2) ∙ e) (h .1) c l u
+      ∙ wrotes-ext (writes ms) (blockAt p (putBlock p file b t)) (wrote (blockAt p file) b t) c (λ z. put-block p file e b (h .0 .0) (h .0 .1) t (h .0 .2) c l u)

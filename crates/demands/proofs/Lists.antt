@@ -1,0 +1,61 @@
+-- One predicate for "each element": rows of one length, cells that agree with the blocks, tests that fail.
+use Prim.Native.Nat.{ℕ}
+use native.Mathlib.Omega.{arith}
+use lib.ListN.{length}
+use mathlib.Core.List.{List, [], _∷_, _++_, map}
+use mathlib.Core.Logic.{_⊎_, inl, inr}
+use mathlib.Core.Path.{_≡_, refl, ap}
+
+module _ {A : Type 0} where
+  abbrev pub All : (A → Type 0) → List A → Type 0
+  All P [] = Unit {0}
+  All P (x ∷ xs) = P x × All P xs
+
+  module _ (P : A → Type 0) where
+    pub all-append : (xs ys : List A) → All P xs → All P ys → All P (xs ++ ys)
+    all-append [] ys p q = q
+    all-append (x ∷ xs) ys p q = (p .0, all-append xs ys (p .1) q)
+
+    pub all-left : (xs ys : List A) → All P (xs ++ ys) → All P xs
+    all-left [] ys p = tt
+    all-left (x ∷ xs) ys p = (p .0, all-left xs ys (p .1))
+
+    pub all-right : (xs ys : List A) → All P (xs ++ ys) → All P ys
+    all-right [] ys p = p
+    all-right (x ∷ xs) ys p = all-right xs ys (p .1)
+
+    pub all-middle : (xs : List A) (y : A) (ys : List A) → All P (xs ++ y ∷ ys) → All P (y ∷ (xs ++ ys))
+    all-middle xs y ys h = (all-right xs (y ∷ ys) h .0, all-append xs ys (all-left xs (y ∷ ys) h) (all-right xs (y ∷ ys) h .1))
+
+pub map-append : {A B : Type 0} (f : A → B) (xs ys : List A) → map f (xs ++ ys) ≡ map f xs ++ map f ys
+map-append f [] ys = refl
+map-append f (x ∷ xs) ys = ap (λ l. f x ∷ l) (map-append f xs ys)
+
+-- an element of a list that is cut in two is in one of the parts
+pub which : {A : Type 0} (xs : List A) (y : A) (ys us vs : List A) → us ++ vs ≡ xs ++ y ∷ ys
+    → ((h : List A) × (us ≡ xs ++ y ∷ h)) ⊎ ((m : List A) × (vs ≡ m ++ y ∷ ys))
+which xs y ys [] vs e = inr (xs, e)
+which [] y ys (u ∷ us) vs e = inl (us, let q : u ≡ y = cc in ap (λ z. z ∷ us) q)
+which (x ∷ xs) y ys (u ∷ us) vs e = go (which xs y ys us vs (let q : us ++ vs ≡ xs ++ y ∷ ys = cc in q))
+  where
+    go : ((h : _) × (us ≡ xs ++ y ∷ h)) ⊎ ((m : _) × (vs ≡ m ++ y ∷ ys)) → ((h : _) × (u ∷ us ≡ x ∷ (xs ++ y ∷ h))) ⊎ ((m : _) × (vs ≡ m ++ y ∷ ys))
+    go (inl (h, q)) = inl (h, let z : u ≡ x = cc in cc)
+    go (inr (m, q)) = inr (m, q)
+
+-- a list from its end
+pub from-end : {A : Type 0} (ls : List A) → (ls ≡ []) ⊎ ((xs : List A) × (y : A) × (ls ≡ xs ++ y ∷ []))
+from-end [] = inl refl
+from-end (x ∷ xs) = go (from-end xs)
+  where
+    go : (xs ≡ []) ⊎ ((ys : List _) × (y : _) × (xs ≡ ys ++ y ∷ [])) → (x ∷ xs ≡ []) ⊎ ((ys : List _) × (y : _) × (x ∷ xs ≡ ys ++ y ∷ []))
+    go (inl e) = inr ([], x, ap (λ l. x ∷ l) e)
+    go (inr (ys, y, e)) = inr (x ∷ ys, y, ap (λ l. x ∷ l) e)
+
+-- two lists that are one list have one last element
+pub last-same : {A : Type 0} (xs : List A) (x : A) (ys : List A) (y : A) → xs ++ x ∷ [] ≡ ys ++ y ∷ [] → x ≡ y
+last-same [] x [] y e = cc
+last-same [] x (b ∷ []) y e = absurd (let z : _≡_ {A = ℕ} 1 2 = ap length e in omega arith)
+last-same [] x (b ∷ (c ∷ ys)) y e = absurd (let z : 1 ≡ length (b ∷ (c ∷ (ys ++ y ∷ []))) = ap length e in omega arith)
+last-same (a ∷ []) x [] y e = absurd (let z : _≡_ {A = ℕ} 2 1 = ap length e in omega arith)
+last-same (a ∷ (c ∷ xs)) x [] y e = absurd (let z : length (a ∷ (c ∷ (xs ++ x ∷ []))) ≡ 1 = ap length e in omega arith)
+last-same (a ∷ xs) x (b ∷ ys) y e = last-same xs x ys y (let q : xs ++ x ∷ [] ≡ ys ++ y ∷ [] = cc in q)

@@ -1,0 +1,136 @@
+-- NSERT on a sound open state, all its ways together.
+use Prim.Native.Nat.{ℕ, suc, _+_, _-_, _≤_, _<_}
+use mathlib.Core.Logic.{_⊎_, inl, inr}
+use mathlib.Core.Path.{_≡_, ap, _∙_}
+use mathlib.Core.List.{List, [], _∷_, _++_}
+use native.Mathlib.Omega.{arith}
+use native.Mathlib.Decide.{decLt, ℕ-discrete}
+use lib.ListN.{length, take, drop, getD}
+use lib.Seq.{split-at, length-take-le}
+use Rattle.numbers.specs.Numbers.{notFound, noRoom}
+use Rattle.numbers.specs.Checked.{passed}
+use Rattle.words.specs.Keys.{val}
+use Rattle.table.specs.Splits.{lowCount}
+use Rattle.drum.specs.declared.Description.{Description}
+use Rattle.drum.specs.Params.{D, I}
+use Rattle.drum.proofs.Good.{good-facts}
+use Rattle.rules.specs.declared.Way.the-variants.{By}
+use Rattle.rules.specs.declared.Look.the-variants.{Missing}
+use Rattle.rules.specs.State.{State, desc, texts, keyIn}
+use Rattle.rules.specs.Lookup.{look}
+use Rattle.rules.specs.Nsert.{halfCount}
+use Rattle.rules.specs.NsertDone.{nsert}
+use Rattle.demands.proofs.Order.{hit, ins}
+use Rattle.layout.specs.Tree.{Leaf, Section}
+use Rattle.demands.proofs.Trees.{leavesOf, contents, key}
+use Rattle.demands.proofs.Holds.{Free}
+use Rattle.demands.proofs.Steps.{lower, upper}
+use Rattle.demands.proofs.Places.{Place, treeOf, olds, leaf-ok, sec-ok}
+use Rattle.demands.proofs.Texts.{half}
+use Rattle.demands.proofs.Paths.{pathOf}
+use Rattle.demands.proofs.Records.{length-ins}
+use Rattle.demands.proofs.Sound.{Key}
+use Rattle.demands.proofs.Answers.{Ready, key-of, work-ok, Gives}
+use Rattle.demands.proofs.Reach.{At}
+use Rattle.demands.proofs.Lookup.{Covers, Looked, absent, there, looks}
+use Rattle.demands.proofs.Frees.{next, freeCount, taken, storedWith}
+use Rattle.demands.proofs.NsertTexts.{news-length}
+use Rattle.demands.proofs.Nsert.{nsert-duplicate, nsert-room}
+use Rattle.demands.proofs.NsertDeed.{nsert-none, nsert-none-both, nsert-few, nsert-sections}
+use Rattle.demands.proofs.NsertSplit.{nsert-split, nsert-both}
+
+-- what NSERT comes to, with the number it answers; a is the place of the block that the record belongs in
+pub data Nserted (st : State) (ss : List Section) (f : Free) : Type 0 where
+  duplicate : (x : List ℕ) → hit (key (desc st .k)) (val (keyIn (desc st) (st .work))) (contents (leavesOf ss)) ≡ x ∷ [] → Gives st (nsert st) notFound 3 (contents (leavesOf ss)) → Nserted st ss f
+  room : hit (key (desc st .k)) (val (keyIn (desc st) (st .work))) (contents (leavesOf ss)) ≡ [] → (a : Place) → ss ≡ treeOf a → length (a .leaf .records) < D (desc st)
+      → Gives st (nsert st) (storedWith (desc st) (length (a .leaf .records) + 1) f) 3 (ins (key (desc st .k)) (st .work) (contents (leavesOf ss))) → Nserted st ss f
+  split : hit (key (desc st .k)) (val (keyIn (desc st) (st .work))) (contents (leavesOf ss)) ≡ [] → (a : Place) → ss ≡ treeOf a → length (a .leaf .records) ≡ D (desc st) → length (olds a) < I (desc st)
+      → 1 ≤ freeCount f → (i : ℕ) → Gives st (nsert st) (storedWith (desc st) (halfCount (D (desc st)) i) (taken f)) 7 (ins (key (desc st .k)) (st .work) (contents (leavesOf ss))) → Nserted st ss f
+  both : hit (key (desc st .k)) (val (keyIn (desc st) (st .work))) (contents (leavesOf ss)) ≡ [] → (a : Place) → ss ≡ treeOf a → length (a .leaf .records) ≡ D (desc st) → length (olds a) ≡ I (desc st)
+      → 2 ≤ freeCount f → length ss < desc st .control → (i : ℕ)
+      → Gives st (nsert st) (storedWith (desc st) (halfCount (D (desc st)) i) (taken (taken f))) 8 (ins (key (desc st .k)) (st .work) (contents (leavesOf ss))) → Nserted st ss f
+  no-room : hit (key (desc st .k)) (val (keyIn (desc st) (st .work))) (contents (leavesOf ss)) ≡ [] → (a : Place) → ss ≡ treeOf a → length (a .leaf .records) ≡ D (desc st)
+      → (freeCount f ≡ 0) ⊎ ((length (olds a) ≡ I (desc st)) × ((freeCount f ≡ 1) ⊎ (desc st .control ≤ length ss)))
+      → Gives st (nsert st) noRoom 3 (contents (leavesOf ss)) → Nserted st ss f
+
+module _ (st : State) (ss : List Section) (f : Free) (r : Ready (desc st .wpr) st ss f) (kw : Key (desc st) (keyIn (desc st) (st .work))) where
+  abbrev p : Description
+  p = desc st
+
+  abbrev w : List ℕ
+  w = keyIn (desc st) (st .work)
+
+  module _ (e : hit (key (desc st .k)) (val (keyIn (desc st) (st .work))) (contents (leavesOf ss)) ≡ []) (a : Place) (A : At (texts st) (st .session .flag) ss f a (By (pathOf a)))
+      (C : Covers (texts st) (keyIn (desc st) (st .work)) a) (none : hit (key (desc st .k)) (val (keyIn (desc st) (st .work))) (a .leaf .records) ≡ [])
+      (l : look (texts st) (st .session .flag) (keyIn (desc st) (st .work)) ≡ passed (Missing (pathOf a))) where
+    sec-room : length (olds a) ≤ I p
+    sec-room = sec-ok p a f _ _ (A .held) .room
+
+    d2 : 2 ≤ D p
+    d2 = good-facts p (r .sound .kept .good) .two-records
+
+    i2 : 2 ≤ I p
+    i2 = good-facts p (r .sound .kept .good) .two-entries
+
+    -- the block is full
+    full-ways : length (a .leaf .records) ≡ D p → Nserted st ss f
+    full-ways full = go (decLt (length (olds a)) (I p)) (ℕ-discrete (freeCount f) 0) (ℕ-discrete (freeCount f) 1) (decLt (length ss) (p .control))
+      where
+        rs : List (List ℕ)
+        rs = ins (key (p .k)) (st .work) (a .leaf .records)
+
+        j : ℕ
+        j = lowCount (D p) - 1
+
+        jl : (j < length rs) × (suc j ≡ lowCount (D p))
+        jl = (omega (arith, length-ins (key (p .k)) (st .work) (a .leaf .records), full, half (D p) d2), omega (arith, half (D p) d2))
+
+        cut : rs ≡ take j rs ++ getD rs j [] ∷ drop (suc j) rs
+        cut = split-at rs j [] (jl .0)
+
+        lx : suc (length (take j rs)) ≡ lowCount (D p)
+        lx = ap suc (length-take-le j rs (omega (arith, jl .0))) ∙ jl .1
+
+        go : Dec (length (olds a) < I p) → Dec (freeCount f ≡ 0) → Dec (freeCount f ≡ 1) → Dec (length ss < p .control) → Nserted st ss f
+        go (yes less) (yes z) d₁ d₂ = no-room e a (A .is) full (inl z) (nsert-none st ss f r kw a A C none l full less z)
+        go (yes less) (no z) d₁ d₂ = split e a (A .is) full less (omega arith) _ (nsert-split st ss f r kw a A C none l full (take j rs) (getD rs j []) (drop (suc j) rs) cut lx less (omega arith))
+        go (no m) (yes z) d₁ d₂ = no-room e a (A .is) full (inl z) (nsert-none-both st ss f r kw a A C none l full (omega (arith, sec-room)) z)
+        go (no m) (no z) (yes o) d₂ =
+            let most : length (olds a) ≡ I p = omega (arith, sec-room) in
+            no-room e a (A .is) full (inr (most, inl o)) (nsert-few st ss f r kw a A C none l full most o)
+        go (no m) (no z) (no o) (no c) =
+            let most : length (olds a) ≡ I p = omega (arith, sec-room) in
+            let top : p .control ≤ length ss = omega arith in
+            no-room e a (A .is) full (inr (most, inr top)) (nsert-sections st ss f r kw a A C none l full most (omega arith) top)
+        go (no m) (no z) (no o) (yes c) =
+            let most : length (olds a) ≡ I p = omega (arith, sec-room) in
+            both e a (A .is) full most (omega arith) c _
+            (nsert-both st ss f r kw a A C none l full (take j rs) (getD rs j []) (drop (suc j) rs) cut lx most (take i ns) (getD ns i (a .leaf)) (drop (suc i) ns) (split-at ns i (a .leaf) il) li (omega arith) c)
+          where
+            ns : List Leaf
+            ns = a .low ++ (lower p (a .leaf) (take j rs) (getD rs j []) ∷ (upper p (a .leaf) (next f) (drop (suc j) rs) ∷ a .high))
+
+            i : ℕ
+            i = lowCount (I p) - 1
+
+            il : i < length ns
+            il = omega (arith, news-length (texts st) a f (A .held) (r .sound .kept .good) (st .work) (work-ok st ss f r) full (take j rs) (getD rs j []) (drop (suc j) rs) cut lx (next f), half (I p) i2, sec-room)
+
+            li : suc (length (take i ns)) ≡ lowCount (I p)
+            li = ap suc (length-take-le i ns (omega (arith, il))) ∙ omega (arith, half (I p) i2)
+
+    new-key : Nserted st ss f
+    new-key = go (decLt (length (a .leaf .records)) (D p))
+      where
+        go : Dec (length (a .leaf .records) < D p) → Nserted st ss f
+        go (yes less) = room e a (A .is) less (nsert-room st ss f r kw a A C none l less)
+        go (no n) = full-ways (omega (arith, leaf-ok p a f _ _ (A .held) .room))
+
+  at : Looked (texts st) (st .session .flag) (keyIn (desc st) (st .work)) ss f → Nserted st ss f
+  at (there a way A C bs x cs q k one l) = duplicate x one (nsert-duplicate st ss f r a way A (length bs) l)
+  at (absent a A C e none l) = new-key e a A C none l
+
+pub nsert-right : (st : State) (ss : List Section) (f : Free) → Ready (desc st .wpr) st ss f → Nserted st ss f
+nsert-right st ss f r =
+    let kw : Key (desc st) (keyIn (desc st) (st .work)) = key-of (desc st .wpr) st ss f r (good-facts (desc st) (r .sound .kept .good) .key) (omega arith) in
+    at st ss f r kw (looks (texts st) (st .session .flag) ss f (r .sound .kept) (keyIn (desc st) (st .work)) kw)

@@ -1,0 +1,100 @@
+-- The tree that a file holds: sections of leaves of rows, and the free cells.
+use Prim.Native.Nat.{ℕ, suc, _+_, _-_}
+use mathlib.Core.Path.{_≡_, refl, sym}
+use mathlib.Core.List.{List, [], _∷_, _++_, map, append-assoc}
+use native.Mathlib.Omega.{arith}
+use lib.ListN.{length, take}
+use Rattle.words.specs.Keys.{val}
+use Rattle.table.specs.Tables.{laid}
+use Rattle.layout.specs.Tree.{Leaf, Section}
+use Rattle.demands.proofs.Rows.{cat}
+use Rattle.demands.proofs.Order.{Asc, asc-append}
+use Rattle.demands.proofs.Cells.{Cell}
+
+abbrev pub leavesOf : List Section → List Leaf
+leavesOf [] = []
+leavesOf (s ∷ ss) = s .leaves ++ leavesOf ss
+
+abbrev pub contents : List Leaf → List (List ℕ)
+contents [] = []
+contents (l ∷ ls) = l .records ++ contents ls
+
+pub leaves-append : (xs ys : List Section) → leavesOf (xs ++ ys) ≡ leavesOf xs ++ leavesOf ys
+leaves-append [] ys = refl
+leaves-append (x ∷ xs) ys = rw (leaves-append xs ys) (sym (append-assoc (x .leaves) (leavesOf xs) (leavesOf ys)))
+
+pub contents-append : (xs ys : List Leaf) → contents (xs ++ ys) ≡ contents xs ++ contents ys
+contents-append [] ys = refl
+contents-append (x ∷ xs) ys = rw (contents-append xs ys) (sym (append-assoc (x .records) (contents xs) (contents ys)))
+
+-- ---- the order: over the number of a key's words
+
+module _ (k : ℕ) where
+  unfoldable pub key : List ℕ → ℕ
+  key r = val (take k r)
+
+  unfoldable pub bd : Leaf → ℕ
+  bd l = val (l .bound)
+
+  abbrev pub reach : ℕ → List Leaf → ℕ
+  reach lo [] = lo
+  reach lo (l ∷ ls) = reach (suc (bd l)) ls
+
+  abbrev pub Ranged : ℕ → List Leaf → Type 0
+  Ranged lo [] = Unit {0}
+  Ranged lo (l ∷ ls) = Asc key lo (l .records) (suc (bd l)) × Ranged (suc (bd l)) ls
+
+  pub reach-append : (lo : ℕ) (xs ys : List Leaf) → reach lo (xs ++ ys) ≡ reach (reach lo xs) ys
+  reach-append lo [] ys = refl
+  reach-append lo (x ∷ xs) ys = reach-append (suc (bd x)) xs ys
+
+  pub ranged-append : (lo : ℕ) (xs ys : List Leaf) → Ranged lo xs → Ranged (reach lo xs) ys → Ranged lo (xs ++ ys)
+  ranged-append lo [] ys p q = q
+  ranged-append lo (x ∷ xs) ys p q = (p .0, ranged-append (suc (bd x)) xs ys (p .1) q)
+
+  pub ranged-left : (lo : ℕ) (xs ys : List Leaf) → Ranged lo (xs ++ ys) → Ranged lo xs
+  ranged-left lo [] ys h = tt
+  ranged-left lo (x ∷ xs) ys h = (h .0, ranged-left (suc (bd x)) xs ys (h .1))
+
+  pub ranged-right : (lo : ℕ) (xs ys : List Leaf) → Ranged lo (xs ++ ys) → Ranged (reach lo xs) ys
+  ranged-right lo [] ys h = h
+  ranged-right lo (x ∷ xs) ys h = ranged-right (suc (bd x)) xs ys (h .1)
+
+  -- the contents of a ranged list of leaves ascend
+  pub ranged-asc : (lo : ℕ) (ls : List Leaf) → Ranged lo ls → Asc key lo (contents ls) (reach lo ls)
+  ranged-asc lo [] h = omega arith
+  ranged-asc lo (l ∷ ls) h = asc-append key lo (l .records) (suc (bd l)) (contents ls) (reach (suc (bd l)) ls) (h .0) (ranged-asc (suc (bd l)) ls (h .1))
+
+  -- leaves in the middle give way to others that end where they ended
+  pub ranged-swap : (lo : ℕ) (bs ls ls′ cs : List Leaf) → Ranged lo (bs ++ (ls ++ cs)) → Ranged (reach lo bs) ls′ → reach (reach lo bs) ls′ ≡ reach (reach lo bs) ls
+      → Ranged lo (bs ++ (ls′ ++ cs))
+  ranged-swap lo bs ls ls′ cs h g e =
+      let m : Ranged (reach lo bs) (ls ++ cs) = ranged-right lo bs (ls ++ cs) h in
+      ranged-append lo bs (ls′ ++ cs) (ranged-left lo bs (ls ++ cs) h) (ranged-append (reach lo bs) ls′ cs g (rw e (ranged-right (reach lo bs) ls cs m)))
+
+  pub reach-swap : (lo : ℕ) (bs ls ls′ cs : List Leaf) → reach (reach lo bs) ls′ ≡ reach (reach lo bs) ls → reach lo (bs ++ (ls′ ++ cs)) ≡ reach lo (bs ++ (ls ++ cs))
+  reach-swap lo bs ls ls′ cs e = simp reach-append (rw e)
+
+-- ---- the cells that a tree asks for
+
+unfoldable pub table : ℕ → List (List ℕ) → List ℕ
+table wpb rows = laid wpb (length rows) (cat rows)
+
+unfoldable pub entry : Leaf → List ℕ
+entry l = l .bound ++ (l .block ∷ [])
+
+module _ (wpb : ℕ) where
+  unfoldable pub leafCell : Leaf → Cell
+  leafCell l = (l .block, table wpb (l .records))
+
+  unfoldable pub indexText : List Leaf → List ℕ
+  indexText ls = table wpb (map entry ls)
+
+  unfoldable pub cellsOf : List Section → List Cell
+  cellsOf [] = []
+  cellsOf (s ∷ ss) = ((s .block, indexText (s .leaves)) ∷ map leafCell (s .leaves)) ++ cellsOf ss
+
+  pub cells-append : (xs ys : List Section) → cellsOf (xs ++ ys) ≡ cellsOf xs ++ cellsOf ys
+  unfolding cellsOf
+  cells-append [] ys = refl
+  cells-append (x ∷ xs) ys = rw (cells-append xs ys) (simp append-assoc)

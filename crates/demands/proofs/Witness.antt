@@ -1,0 +1,110 @@
+-- A sound state: what CREATE and OPEN leave with the parameters 8 3 1 0 2 4. So `Sound` can be met, and with it all that is proved of it.
+use Prim.Native.Nat.{ℕ, zero, suc, _+_}
+use mathlib.Core.Bool.{and-false}
+use mathlib.Core.Path.{_≡_, refl}
+use mathlib.Core.List.{List, [], _∷_, _++_}
+use native.Mathlib.Omega.{arith}
+use borrow.Author.Tests.{ne-eqb, lt-leb}
+use Rattle.words.specs.Words.{zeros}
+use Rattle.words.specs.Keys.{val}
+use Rattle.drum.specs.declared.Description.{Description}
+use Rattle.rules.specs.State.{State}
+use Rattle.rules.specs.Requests.{opening, answer}
+use Rattle.rules.specs.Run.{begun, createdOutcome}
+use Rattle.rules.specs.Open.{create}
+use Rattle.rules.specs.Computing.{computing}
+use Rattle.demands.proofs.Rows.{cat, tab}
+use Rattle.demands.proofs.Cells.{is, weigh, times}
+use Rattle.layout.specs.Tree.{Section}
+use Rattle.demands.proofs.Trees.{key, bd, table, entry, leafCell, indexText, cellsOf}
+use Rattle.demands.proofs.Holds.{Free, inside, freeCells, masterEntry, masterWords, masterText}
+use Rattle.demands.proofs.Steps.{sec}
+use Rattle.demands.proofs.Blocks.{masterOf}
+use Rattle.demands.proofs.Sound.{Sound, no-true-false}
+
+abbrev pub small : Description
+small = record { wpb = 8; wpr = 3; k = 1; space = 0; control = 2; n = 4 }
+
+-- the state after CREATE and OPEN
+abbrev pub made : State
+made = answer (createdOutcome (begun small) (create small (begun small .file)) .after) (opening (zeros 4)) .after
+
+abbrev pub tree : List Section
+tree = sec 1 (record { bound = 262143 ∷ []; block = 2; records = (262143 ∷ (0 ∷ (0 ∷ []))) ∷ [] } ∷ []) ∷ []
+
+abbrev pub free : Free
+free = record { chain = []; lowest = 3; spare = 2 }
+
+once : (b : ℕ) → times b (cellsOf 8 tree ++ freeCells small free) ≡ inside 4 b
+unfolding times weigh cellsOf freeCells leafCell is inside
+once zero = refl
+once (suc zero) = refl
+once (suc (suc zero)) = refl
+once (suc (suc (suc zero))) = refl
+once (suc (suc (suc (suc zero)))) = refl
+once (suc (suc (suc (suc (suc b))))) =
+    let n : ℕ = suc (suc (suc (suc (suc b)))) in
+    simp (
+      ne-eqb 1 n (λ e. omega arith),
+      ne-eqb 2 n (λ e. omega arith),
+      ne-eqb 3 n (λ e. omega arith),
+      ne-eqb 4 n (λ e. omega arith),
+      lt-leb n 4 (omega arith),
+      and-false,
+    )
+
+pub witness : Sound made tree free
+unfolding computing val cat tab weigh key bd table entry leafCell indexText cellsOf freeCells masterEntry masterWords masterText masterOf
+witness = record {
+  kept = record {
+    good = refl;
+    file-length = refl;
+    buffer-length = refl;
+    current = λ l. absurd (omega arith);
+    flagged = λ e. no-true-false e refl;
+    clean = λ e l. absurd (omega arith);
+    holds = record {
+      master-is = refl;
+      agree = (refl, (refl, (refl, (refl, tt))));
+      once = once;
+      ranged = ((omega arith, omega arith), tt);
+      top = refl;
+      sized = (
+        record {
+          some = omega arith;
+          room = omega arith;
+          leaves = (record { some = omega arith; room = omega arith; rows = ((refl, refl), tt); bound = refl; wide = refl }, tt);
+        },
+        tt,
+      );
+      sections = omega arith;
+      numbers = refl;
+    };
+    ended = record { front = []; is = refl };
+    alone = record {
+      sections = tree;
+      free = free;
+      holds = record {
+        master-is = refl;
+        agree = (refl, (refl, (refl, (refl, tt))));
+        once = once;
+        ranged = ((omega arith, omega arith), tt);
+        top = refl;
+        sized = (
+          record {
+            some = omega arith;
+            room = omega arith;
+            leaves = (record { some = omega arith; room = omega arith; rows = ((refl, refl), tt); bound = refl; wide = refl }, tt);
+          },
+          tt,
+        );
+        sections = omega arith;
+        numbers = refl;
+      };
+      ended = record { front = []; is = refl };
+    };
+  };
+  position = refl;
+  placed = λ e. no-true-false e refl;
+  resting = λ e. no-true-false refl e;
+}

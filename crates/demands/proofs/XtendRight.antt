@@ -1,0 +1,85 @@
+-- XTEND on a sound open state, all its ways together.
+use Prim.Native.Nat.{ℕ, _+_, _≤_, _<_}
+use mathlib.Core.Logic.{_⊎_, inl, inr}
+use mathlib.Core.Path.{_≡_}
+use mathlib.Core.List.{List, [], _∷_, _++_}
+use native.Mathlib.Omega.{arith}
+use native.Mathlib.Decide.{decLt, ℕ-discrete}
+use lib.ListN.{length}
+use Rattle.numbers.specs.Numbers.{outOfSequence, noRoom}
+use Rattle.words.specs.Keys.{val}
+use Rattle.drum.specs.declared.Description.{Description}
+use Rattle.drum.specs.Params.{FD, FI}
+use Rattle.drum.proofs.Good.{good-facts}
+use Rattle.rules.specs.State.{State, desc, texts, keyIn}
+use Rattle.rules.specs.XtendDone.{xtend}
+use Rattle.demands.proofs.Lists.{from-end}
+use Rattle.demands.proofs.Order.{ins}
+use Rattle.layout.specs.Tree.{Section}
+use Rattle.demands.proofs.Trees.{leavesOf, contents, key}
+use Rattle.demands.proofs.Holds.{Free}
+use Rattle.demands.proofs.Places.{lo}
+use Rattle.demands.proofs.Sound.{Key}
+use Rattle.demands.proofs.Answers.{Ready, key-of, Gives}
+use Rattle.demands.proofs.Frees.{freeCount, taken, storedWith}
+use Rattle.demands.proofs.Last.{ending, Last, last}
+use Rattle.demands.proofs.Xtend.{xtend-five, xtend-room}
+use Rattle.demands.proofs.XtendAlone.{alone-five, few, alone-room}
+use Rattle.demands.proofs.XtendDeed.{new-none, both-none, both-few, both-sections}
+use Rattle.demands.proofs.XtendNew.{xtend-new, xtend-both}
+
+-- what XTEND comes to, with the number it answers; L is the last block, `front` its ordinary records
+pub data Xtended (st : State) (ss : List Section) (f : Free) (L : Last (texts st) (st .session .flag) ss f) : Type 0 where
+  -- "Out of sequence (5) when the key is not above the highest ordinary key there, or, if none is there, not above the bound before that block"
+  too-low : (fr : List (List ℕ)) (y : List ℕ) → L .front ≡ fr ++ y ∷ [] → val (keyIn (desc st) (st .work)) ≤ key (desc st .k) y → Gives st (xtend st) outOfSequence 4 (contents (leavesOf ss)) → Xtended st ss f L
+  too-low-alone : L .front ≡ [] → val (keyIn (desc st) (st .work)) < lo (desc st) (ending (L .before) (L .index) (L .low) (L .leaf)) → Gives st (xtend st) outOfSequence 4 (contents (leavesOf ss)) → Xtended st ss f L
+  room : length (L .leaf .records) < FD (desc st) → Gives st (xtend st) (storedWith (desc st) (length (L .leaf .records) + 1) f) 4 (ins (key (desc st .k)) (st .work) (contents (leavesOf ss))) → Xtended st ss f L
+  started : FD (desc st) ≤ length (L .leaf .records) → length (L .low ++ (L .leaf ∷ [])) < FI (desc st) → 1 ≤ freeCount f
+      → Gives st (xtend st) (storedWith (desc st) (length (L .leaf .records)) (taken f)) 7 (ins (key (desc st .k)) (st .work) (contents (leavesOf ss))) → Xtended st ss f L
+  both : FD (desc st) ≤ length (L .leaf .records) → FI (desc st) ≤ length (L .low ++ (L .leaf ∷ [])) → 2 ≤ freeCount f → length ss < desc st .control
+      → Gives st (xtend st) (storedWith (desc st) (length (L .leaf .records)) (taken (taken f))) 8 (ins (key (desc st .k)) (st .work) (contents (leavesOf ss))) → Xtended st ss f L
+  no-room : FD (desc st) ≤ length (L .leaf .records) → (freeCount f ≡ 0) ⊎ ((FI (desc st) ≤ length (L .low ++ (L .leaf ∷ []))) × ((freeCount f ≡ 1) ⊎ (desc st .control ≤ length ss)))
+      → Gives st (xtend st) noRoom 4 (contents (leavesOf ss)) → Xtended st ss f L
+
+module _ (st : State) (ss : List Section) (f : Free) (r : Ready (desc st .wpr) st ss f) (kw : Key (desc st) (keyIn (desc st) (st .work))) (L : Last (texts st) (st .session .flag) ss f) where
+  abbrev p : Description
+  p = desc st
+
+  abbrev w : List ℕ
+  w = keyIn (desc st) (st .work)
+
+  alone : L .front ≡ [] → Xtended st ss f L
+  alone e = go (decLt (val w) (lo p (ending (L .before) (L .index) (L .low) (L .leaf))))
+    where
+      go : Dec (val w < lo p (ending (L .before) (L .index) (L .low) (L .leaf))) → Xtended st ss f L
+      go (yes h) = too-low-alone e h (alone-five st ss f r kw L e h)
+      go (no n) = room (few st ss f r kw L e) (alone-room st ss f r kw L e (omega arith))
+
+  started-ways : (fr : List (List ℕ)) (y : List ℕ) → L .front ≡ fr ++ y ∷ [] → key (p .k) y < val w → FD p ≤ length (L .leaf .records) → Xtended st ss f L
+  started-ways fr y e h full = go (decLt (length (L .low ++ (L .leaf ∷ []))) (FI p)) (ℕ-discrete (freeCount f) 0) (ℕ-discrete (freeCount f) 1) (decLt (length ss) (p .control))
+    where
+      go : Dec (length (L .low ++ (L .leaf ∷ [])) < FI p) → Dec (freeCount f ≡ 0) → Dec (freeCount f ≡ 1) → Dec (length ss < p .control) → Xtended st ss f L
+      go (yes less) (yes z) d₁ d₂ = no-room full (inl z) (new-none st ss f r kw L fr y e h full less z)
+      go (yes less) (no z) d₁ d₂ = started full less (omega arith) (xtend-new st ss f r kw L fr y e h full less (omega arith))
+      go (no m) (yes z) d₁ d₂ = no-room full (inl z) (both-none st ss f r kw L fr y e h full (omega arith) z)
+      go (no m) (no z) (yes o) d₂ = let most : FI p ≤ length (L .low ++ (L .leaf ∷ [])) = omega arith in no-room full (inr (most, inl o)) (both-few st ss f r kw L fr y e h full most o)
+      go (no m) (no z) (no o) (no c) =
+          let most : FI p ≤ length (L .low ++ (L .leaf ∷ [])) = omega arith in
+          let top : p .control ≤ length ss = omega arith in
+          no-room full (inr (most, inr top)) (both-sections st ss f r kw L fr y e h full most (omega arith) top)
+      go (no m) (no z) (no o) (yes c) = both full (omega arith) (omega arith) c (xtend-both st ss f r kw L fr y e h full (omega arith) (omega arith) c)
+
+  at : (L .front ≡ []) ⊎ ((fr : List (List ℕ)) × (y : List ℕ) × (L .front ≡ fr ++ y ∷ [])) → Xtended st ss f L
+  at (inl e) = alone e
+  at (inr (fr, y, e)) = go (decLt (key (p .k) y) (val w)) (decLt (length (L .leaf .records)) (FD p))
+    where
+      go : Dec (key (p .k) y < val w) → Dec (length (L .leaf .records) < FD p) → Xtended st ss f L
+      go (no n) d = let low : val w ≤ key (p .k) y = omega arith in too-low fr y e low (xtend-five st ss f r kw L fr y e low)
+      go (yes h) (yes less) = room less (xtend-room st ss f r kw L fr y e h less)
+      go (yes h) (no n) = started-ways fr y e h (omega arith)
+
+pub xtend-right : (st : State) (ss : List Section) (f : Free) (r : Ready (desc st .wpr) st ss f) → (L : Last (texts st) (st .session .flag) ss f) × Xtended st ss f L
+xtend-right st ss f r =
+    let kw : Key (desc st) (keyIn (desc st) (st .work)) = key-of (desc st .wpr) st ss f r (good-facts (desc st) (r .sound .kept .good) .key) (omega arith) in
+    let L : Last (texts st) (st .session .flag) ss f = last (texts st) (st .session .flag) ss f (r .sound .kept) in
+    (L, at st ss f r kw L (from-end (L .front)))

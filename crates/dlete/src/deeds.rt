@@ -1,0 +1,208 @@
+// What DLETE does once it is planned.
+use drum::Description;
+use numbers::BAD_FILE;
+use numbers::DONE;
+use numbers::NOT_FOUND;
+use rules::Delete;
+use rules::Done;
+use rules::Path;
+use rules::Way;
+ghost use mathlib.Core.Path.{_≡_};
+ghost use mathlib.Core.Bool.{true, false};
+ghost use mathlib.Core.List.{[]};
+ghost use Prim.Native.Nat.{_≤_, _<_};
+ghost use lib.ListN.{length, set};
+ghost use Rattle.numbers.specs.Numbers.{done};
+ghost use Rattle.numbers.specs.Checked.{passed};
+ghost use Rattle.words.specs.Words.{zeros};
+ghost use Rattle.table.specs.Tables.{count, removed};
+ghost use Rattle.drum.specs.Params.{I, goodParams, fileSize, detailShape};
+ghost use Rattle.drum.specs.Blocks.{Fitting, Block, seen, textOf, blockAt, putBlock, written};
+ghost use Rattle.rules.specs.Lookup.{reached, textAt, storing};
+ghost use Rattle.rules.specs.Fits.{WayFits};
+ghost use Rattle.rules.specs.Dlete.{entryGone, emptyAll, bothAll, emptyFile, bothFile, deleteDone};
+ghost use Rattle.rules.specs.Told.{gave, told};
+ghost use Rattle.dlete.specs.Fits.{EmptyFits, DeleteFits};
+ghost use Rattle.dlete.specs.Freed.{handed, freed};
+
+// If entry j is the last of an index block's text, the one before takes its bound.
+fn hand_bound(p: Description, t: &mut [u32], j: usize)
+    requires { ⌜ (goodParams p ≡ true) × (length (now t) ≡ p .wpb) × (1 < count (now t)) × (count (now t) ≤ I p) × (j < count (now t)) ⌝ }
+    ensures { λ _. ⌜ now (t .exit) ≡ handed p j (now (t .entry)) ⌝ }
+{
+    let n = words::word_at(t, 0);
+    if j + 1 != n {
+        return;
+    }
+    let k = p.k;
+    words::move_down(t, 1 + j * (k + 1), 1 + (j - 1) * (k + 1), k);
+}
+
+// Takes entry j out of an index block's text.
+fn entry_gone(p: Description, t: &mut [u32], j: usize)
+    requires { ⌜ (goodParams p ≡ true) × (length (now t) ≡ p .wpb) × (1 < count (now t)) × (count (now t) ≤ I p) × (j < count (now t)) ⌝ }
+    ensures { λ _. ⌜ now (t .exit) ≡ entryGone p j (now (t .entry)) ⌝ }
+{
+    hand_bound(p, t, j);
+    table::remove_row(p.index_shape(), t, j);
+}
+
+// The same in index block b, where it lies in the file.
+fn gone_in(p: Description, file: &mut [u32], b: usize, j: usize)
+    requires { ⌜ (goodParams p ≡ true) × (length (now file) ≡ fileSize p) × Block p b × (1 < count (blockAt p (now file) b)) × (count (blockAt p (now file) b) ≤ I p) × (j < count (blockAt p (now file) b)) ⌝ }
+    ensures { λ _. ⌜ now (file .exit) ≡ putBlock p (now (file .entry)) b (entryGone p j (blockAt p (now (file .entry)) b)) ⌝ }
+{
+    let start = p.start(b);
+    let end = start + p.wpb;
+    entry_gone(p, &mut file[start..end], j);
+}
+
+// Follows the way without its block being brought, which is not wanted in the buffer: a flagged buffer is written, and the reads are
+// counted.
+fn follow(
+    p: Description,
+    current: usize,
+    flag: bool,
+    file: &mut [u32],
+    buffer: &[u32],
+    way: Way,
+) -> usize
+    requires { ⌜ Fitting p (now file) (now buffer) × WayFits (seen p current (now file) (now buffer)) flag way ⌝ }
+    ensures { λ r. ⌜ (r ≡ length (reached (seen p current (now (file .entry)) (now (buffer .entry))) flag way .moves)) × (now (file .exit) ≡ written p (reached (seen p current (now (file .entry)) (now (buffer .entry))) flag way .moves) (now (file .entry))) ⌝ }
+{
+    match way {
+        Way::Here => 0,
+        Way::By(_) => {
+            let wrote = acts::flush(p, current, flag, file, buffer);
+            wrote + 2
+        }
+    }
+}
+
+// The stores up to the index block: a flagged buffer, the index block's current text, which may stand in the buffer alone, the emptied
+// block with its link, and the chain's new head.
+fn free_detail(
+    p: Description,
+    current: usize,
+    flag: bool,
+    file: &mut [u32],
+    buffer: &[u32],
+    way: Way,
+    w: Path,
+    link: usize,
+    head: usize,
+) -> usize
+    requires { ⌜ Fitting p (now file) (now buffer) × EmptyFits (seen p current (now file) (now buffer)) flag way w link × (head ≤ p .n) ⌝ }
+    ensures { λ r. ⌜ (r ≡ length (reached (seen p current (now (file .entry)) (now (buffer .entry))) flag way .moves)) × (now (file .exit) ≡ set (freed (seen p current (now (file .entry)) (now (buffer .entry))) flag way w link) 1 head) ⌝ }
+{
+    let moved = follow(p, current, flag, file, buffer, way);
+    acts::stage(p, current, file, buffer, w.index);
+    acts::lay_block(p, file, w.detail, link, buffer, 0, 0);
+    words::put_word(file, 1, head);
+    moved
+}
+
+// The block is left empty, its index block not.
+fn empty_one(
+    p: Description,
+    current: usize,
+    flag: bool,
+    file: &mut [u32],
+    buffer: &[u32],
+    way: Way,
+    w: Path,
+    head: usize,
+) -> usize
+    requires { ⌜ Fitting p (now file) (now buffer) × EmptyFits (seen p current (now file) (now buffer)) flag way w head × (1 < count (textOf (seen p current (now file) (now buffer)) (w .index))) ⌝ }
+    ensures { λ r. ⌜ (r ≡ length (emptyAll (seen p current (now (file .entry)) (now (buffer .entry))) flag way w head)) × (now (file .exit) ≡ emptyFile (seen p current (now (file .entry)) (now (buffer .entry))) flag way w head) ⌝ }
+{
+    let moved = free_detail(p, current, flag, file, buffer, way, w, head, w.detail);
+    gone_in(p, file, w.index, w.entry);
+    moved + 3
+}
+
+// The block and its index block are left empty: the index block is made the chain's head after the block, and its master entry goes.
+fn empty_both(
+    p: Description,
+    current: usize,
+    flag: bool,
+    file: &mut [u32],
+    buffer: &[u32],
+    way: Way,
+    w: Path,
+    head: usize,
+) -> usize
+    requires { ⌜ Fitting p (now file) (now buffer) × EmptyFits (seen p current (now file) (now buffer)) flag way w head ⌝ }
+    ensures { λ r. ⌜ (r ≡ length (bothAll (seen p current (now (file .entry)) (now (buffer .entry))) flag way w head)) × (now (file .exit) ≡ bothFile (seen p current (now (file .entry)) (now (buffer .entry))) flag way w head) ⌝ }
+{
+    let moved = free_detail(p, current, flag, file, buffer, way, w, head, w.index);
+    acts::lay_block(p, file, w.index, w.detail, buffer, 0, 0);
+    table::remove_row(p.master_shape(), file, w.section);
+    moved + 3
+}
+
+// What is left when the block was emptied: "buffer zeroed, current 0, flag off".
+fn none_held(buffer: &mut [u32], transfers: usize) -> Done
+    ensures { λ r. ⌜ (r ≡ record { number = done; transfers = transfers; current = 0; flag = false; keyed = true }) × (now (buffer .exit) ≡ zeros (length (now (buffer .entry)))) ⌝ }
+{
+    let size = buffer.len();
+    words::zero_words(buffer, 0, size);
+    Done {
+        number: DONE,
+        transfers,
+        current: 0,
+        flag: false,
+        keyed: true,
+    }
+}
+
+// The record is taken out of its block, which is not left empty.
+fn remove_record(
+    p: Description,
+    current: usize,
+    flag: bool,
+    file: &mut [u32],
+    buffer: &mut [u32],
+    way: Way,
+    i: usize,
+) -> Done
+    requires { ⌜ Fitting p (now file) (now buffer) × WayFits (seen p current (now file) (now buffer)) flag way × (i < count (textAt (seen p current (now file) (now buffer)) way)) ⌝ }
+    ensures { λ r. ⌜ gave r (now (file .exit)) (now (buffer .exit)) [] ≡ told (seen p current (now (file .entry)) (now (buffer .entry))) flag [] (passed (storing done [] (reached (seen p current (now (file .entry)) (now (buffer .entry))) flag way) (removed (detailShape p) i (reached (seen p current (now (file .entry)) (now (buffer .entry))) flag way .buffer)))) ⌝ }
+{
+    let here = acts::reach(p, current, flag, file, buffer, way);
+    table::remove_row(p.detail_shape(), buffer, i);
+    Done {
+        number: DONE,
+        transfers: here.transfers,
+        current: here.current,
+        flag: true,
+        keyed: true,
+    }
+}
+
+// Does what was planned.
+pub fn act_delete(
+    deed: Delete,
+    p: Description,
+    current: usize,
+    flag: bool,
+    file: &mut [u32],
+    buffer: &mut [u32],
+) -> Done
+    requires { ⌜ Fitting p (now file) (now buffer) × DeleteFits (seen p current (now file) (now buffer)) flag deed ⌝ }
+    ensures { λ r. ⌜ gave r (now (file .exit)) (now (buffer .exit)) [] ≡ told (seen p current (now (file .entry)) (now (buffer .entry))) flag [] (deleteDone (seen p current (now (file .entry)) (now (buffer .entry))) flag [] deed) ⌝ }
+{
+    match deed {
+        Delete::Bad => Done::refused(BAD_FILE, current, flag),
+        Delete::Stop(w) => acts::stop(p, current, flag, file, buffer, Way::By(w), NOT_FOUND),
+        Delete::Remove(way, i) => remove_record(p, current, flag, file, buffer, way, i),
+        Delete::Empty(way, w, head) => {
+            let transfers = empty_one(p, current, flag, file, buffer, way, w, head);
+            none_held(buffer, transfers)
+        }
+        Delete::Both(way, w, head) => {
+            let transfers = empty_both(p, current, flag, file, buffer, way, w, head);
+            none_held(buffer, transfers)
+        }
+    }
+}
