@@ -7,19 +7,17 @@ use native.Mathlib.Decide.{ℕ-discrete}
 use native.Mathlib.Omega.{arith}
 use lib.ListN.{length, length-append}
 use Rattle.drum.specs.declared.Description.{Description}
-use Rattle.drum.specs.Params.{goodParams, fileSize, D, detailShape}
+use Rattle.drum.specs.Params.{fileSize, detailShape}
 use Rattle.drum.specs.Blocks.{Fitting, Block, Transfer, Read, Write, written, blockAt, putBlock, Texts, seen, textOf}
-use Rattle.drum.proofs.Good.{caps}
-use Rattle.drum.proofs.Blocks.{length-putBlock, block-other, text-current, text-other, length-textOf}
+use Rattle.drum.proofs.Blocks.{length-putBlock, block-other, text-current, text-other}
 use Rattle.numbers.specs.Checked.{passed}
 use Rattle.table.specs.Tables.{count, place}
-use Rattle.table.proofs.Places.{row-lt}
 use Rattle.rules.specs.declared.Way.{Way}
-use Rattle.rules.specs.declared.Way.the-variants.{Here, By}
 use Rattle.rules.specs.declared.Done.{Done}
 use Rattle.rules.specs.Lookup.{Reached, flushMoves, bringing, reached, textAt, stopping}
 use Rattle.rules.specs.Fits.{FlushFits, WayFits}
 use Rattle.rules.specs.Told.{gave, told}
+pub use Rattle.rules.proofs.Kept.{row-within, reached-fits, reached-text, way-counts}
 use Rattle.acts.specs.Reach.{Come, come}
 
 -- a list of reads leaves the file as it is
@@ -103,28 +101,6 @@ reaches transfers current flag f b r e =
       buffer-is = ap (λ (z : Come). z .buffer) e;
     }
 
--- what is reached fits again, and the buffer holds the text of the block that was asked for
-module _ (v : Texts) (fit : Fitting (v .desc) (v .file) (v .buffer)) (flag : Bool) where
-  pub bringing-fits : (b : ℕ) (reads : List Transfer) → FlushFits v flag → Block (v .desc) b → OnlyReads reads → Fitting (v .desc) (bringing v flag b reads .file) (bringing v flag b reads .buffer)
-  unfolding bringing
-  bringing-fits b reads due h o =
-      let e = ap length (written-reads (v .desc) (flushMoves v flag) reads (v .file) o) in
-      record { good = fit .good; file-is = e ∙ length-flushed v fit flag due; buffer-is = length-textOf v b fit h }
-
-  pub reached-fits : (way : Way) → WayFits v flag way → Fitting (v .desc) (reached v flag way .file) (reached v flag way .buffer)
-  unfolding reached
-  reached-fits Here h = fit
-  reached-fits (By w) h = bringing-fits (w .detail) (Read (w .index) ∷ Read (w .detail) ∷ []) (h .1) (h .0 .detail-least, h .0 .detail-most) tt
-
-pub reached-text : (v : Texts) (flag : Bool) (way : Way) → reached v flag way .buffer ≡ textAt v way
-unfolding reached bringing
-reached-text v flag Here = refl
-reached-text v flag (By w) = refl
-
-pub way-counts : (v : Texts) (flag : Bool) (way : Way) → WayFits v flag way → (1 ≤ count (textAt v way)) × (count (textAt v way) ≤ D (v .desc))
-way-counts v flag Here h = (h .records-least, h .records-most)
-way-counts v flag (By w) h = (h .0 .records-least, h .0 .records-most)
-
 -- a call that stops leaves the workspace, whatever it is
 pub stopped : (v : Texts) (flag : Bool) (number : ℕ) (work : List ℕ) (r : Done) (f b : List ℕ) (x : Reached)
     → gave r f b [] ≡ told v flag [] (passed (stopping number [] x)) → gave r f b work ≡ told v flag work (passed (stopping number work x))
@@ -132,14 +108,7 @@ unfolding stopping
 stopped v flag number work r f b x e =
     λ j. record { number = e j .number; transfers = e j .transfers; current = e j .current; flag = e j .flag; keyed = e j .keyed; file = e j .file; buffer = e j .buffer; work = work }
 
--- a row of a detail block lies in its text, and so does one of the block reached
-pub row-within : (p : Description) (t : List ℕ) (i : ℕ) → goodParams p ≡ true → length t ≡ p .wpb → count t ≤ D p → i < count t → place (detailShape p) i + p .wpr ≤ length t
-unfolding detailShape
-row-within p t i good h most l =
-    let g = caps p good in
-    let r = row-lt i (D p) (p .wpr) (omega arith) in
-    omega arith
-
+-- a row of the block reached lies in its text
 pub row-reached : (v : Texts) → Fitting (v .desc) (v .file) (v .buffer) → (flag : Bool) (way : Way) → WayFits v flag way → (i : ℕ) → i < count (textAt v way)
     → (b : List ℕ) → b ≡ reached v flag way .buffer → place (detailShape (v .desc)) i + v .desc .wpr ≤ length b
 row-reached v fit flag way h i l b e =

@@ -2,3 +2,4 @@ pub mod Create
 pub mod Inspect
 pub mod Tree
 pub mod Holds
+pub mod Inspected

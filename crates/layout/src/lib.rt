@@ -1,4 +1,143 @@
-// What a good file is.
-pub fn one() -> u32 {
-    1
+// What a good file is: the words of a new one, and the inspection behind OPEN, with its marks. One walk; the first fault ends it.
+mod blocks;
+mod marking;
+mod rows;
+
+use blocks::chain_held;
+use blocks::sections_held;
+use drum::Description;
+use marking::all_set;
+use marking::clear;
+use marking::none_set;
+ghost use mathlib.Core.Path.{_≡_};
+ghost use mathlib.Core.Bool.{true};
+ghost use mathlib.Core.List.{[], _∷_, _++_};
+ghost use Prim.Native.Nat.{_+_, _≤_};
+ghost use lib.ListN.{length};
+ghost use Rattle.words.specs.Words.{put, zeros};
+ghost use Rattle.words.specs.Keys.{ones};
+ghost use Rattle.drum.specs.Params.{goodParams, fileSize};
+ghost use Rattle.layout.specs.Create.{created};
+ghost use Rattle.layout.specs.Inspect.{restOk, masterOk, layoutMarks};
+ghost use Rattle.layout.specs.Inspected.{flagged, Fit, leftMarks};
+
+// Whether the file is as under Layout; the marks if so, and all 0 if not.
+pub fn inspect(p: Description, f: &[u32], marks: &mut [u8]) -> bool
+    requires { ⌜ Fit p (now f) ⌝ }
+    requires { ⌜ length (now marks) ≡ p .n ⌝ }
+    ensures { λ r. ⌜ (layoutMarks p (now (f .entry)) ≡ flagged r (now (marks .exit))) × (now (marks .exit) ≡ leftMarks (p .n) (layoutMarks p (now (f .entry)))) ⌝ }
+{
+    clear(marks);
+    if walk(p, f, marks) {
+        return true;
+    }
+    clear(marks);
+    false
+}
+
+// The whole walk, on marks that are all 0.
+fn walk(p: Description, f: &[u32], marks: &mut [u8]) -> bool
+    requires { ⌜ Fit p (now f) ⌝ }
+    requires { ⌜ now marks ≡ zeros (p .n) ⌝ }
+    ensures { λ r. ⌜ layoutMarks p (now (f .entry)) ≡ flagged r (now (marks .exit)) ⌝ }
+{
+    if !words::all_words(f, 0, f.len()) {
+        return false;
+    }
+    let n = words::word_at(f, 0);
+    let head = words::word_at(f, 1);
+    let lowest = words::word_at(f, 2);
+    if n < 1 {
+        return false;
+    }
+    if p.control < n {
+        return false;
+    }
+    if lowest < 1 {
+        return false;
+    }
+    if p.n + 1 < lowest {
+        return false;
+    }
+    if !master_ok(p, f, n) {
+        return false;
+    }
+    if !sections_held(p, f, n, marks) {
+        return false;
+    }
+    if !chain_held(p, f, head, marks) {
+        return false;
+    }
+    rest_ok(p, f, lowest, marks)
+}
+
+// Whether the master's words behind its n entries are 0, and the last bound is ONES.
+fn master_ok(p: Description, f: &[u32], n: usize) -> bool
+    requires { ⌜ Fit p (now f) ⌝ }
+    requires { ⌜ (1 ≤ n) × (n ≤ p .control) ⌝ }
+    ensures { λ r. ⌜ r ≡ masterOk p (now (f .entry)) n ⌝ }
+{
+    let k = p.k;
+    let m = p.master_size();
+    let behind = 3 + n * (k + 1);
+    if !words::all_are(f, behind, m - behind, 0) {
+        return false;
+    }
+    words::all_are(f, 3 + (n - 1) * (k + 1), k, 262143)
+}
+
+// Whether each block below `lowest` is marked, and the others are not and all 0.
+fn rest_ok(p: Description, f: &[u32], lowest: usize, marks: &[u8]) -> bool
+    requires { ⌜ Fit p (now f) ⌝ }
+    requires { ⌜ (length (now marks) ≡ p .n) × (1 ≤ lowest) × (lowest ≤ p .n + 1) ⌝ }
+    ensures { λ r. ⌜ r ≡ restOk p (now (f .entry)) lowest (now (marks .entry)) ⌝ }
+{
+    if !all_set(marks, lowest - 1) {
+        return false;
+    }
+    if !none_set(marks, lowest - 1) {
+        return false;
+    }
+    let s = p.start(lowest);
+    words::all_are(f, s, f.len() - s, 0)
+}
+
+// Writes the words of a new file, every one of them.
+pub fn lay_out(p: Description, file: &mut [u32])
+    requires { ⌜ (goodParams p ≡ true) × (length (now file) ≡ fileSize p) ⌝ }
+    ensures { λ _. ⌜ now (file .exit) ≡ created p ⌝ }
+{
+    let k = p.k;
+    let size = file.len();
+    let first = p.start(1);
+    let second = p.start(2);
+    words::zero_words(file, 0, size);
+    file[0] = 1;
+    file[2] = 3;
+    lay_entry(file, 3, k, 1);
+    file[first] = 1;
+    lay_entry(file, first + 1, k, 2);
+    file[second] = 1;
+    lay_ones(file, second + 1, k);
+}
+
+// Writes an entry at word `at`: the bound ONES, and a block.
+fn lay_entry(t: &mut [u32], at: usize, k: usize, block: u32)
+    requires { ⌜ at + k + 1 ≤ length (now t) ⌝ }
+    ensures { λ _. ⌜ now (t .exit) ≡ put (now (t .entry)) at (ones k ++ (block ∷ [])) ⌝ }
+{
+    lay_ones(t, at, k);
+    t[at + k] = block;
+}
+
+// Writes the key ONES of k words at word `at`.
+fn lay_ones(t: &mut [u32], at: usize, k: usize)
+    requires { ⌜ at + k ≤ length (now t) ⌝ }
+    ensures { λ _. ⌜ now (t .exit) ≡ put (now (t .entry)) at (ones k) ⌝ }
+{
+    let mut i = 0;
+    while i < k {
+        t[at + i] = 262143;
+        i += 1;
+    }
 }

@@ -15,12 +15,13 @@ ghost use Prim.Native.Nat.{_≤_};
 ghost use lib.ListN.{length, replicate};
 ghost use Rattle.drum.specs.Params.{goodParams};
 ghost use Rattle.rules.specs.State.{holding, positioned, atRest, keyIn};
+ghost use Rattle.rules.specs.Open.{create as creation, openFile};
 ghost use Rattle.rules.specs.Close.{close as closed, view as viewed};
 ghost use Rattle.rules.specs.Adv.{adv as advanced};
 ghost use Rattle.rules.specs.NsertDone.{nsert as inserted};
 ghost use Rattle.rules.specs.Dlete.{dlete as deleted};
 ghost use Rattle.rules.specs.Seek.{seek as sought, updat as updated};
-ghost use Rattle.searchfile.specs.Promise.{held, given, counted, answered, refusing};
+ghost use Rattle.searchfile.specs.Promise.{held, given, counted, answered, countedOpen, answeredOpen, made, refusing};
 ghost use Rattle.searchfile.specs.Checks.{plainChecks, keyedChecks};
 
 // "A value handed in and back": the parameters, open or closed, the current block (0 none), the write flag, and the position: a key in its
@@ -80,6 +81,20 @@ fn refused_key(
         return WRONG_KEY;
     }
     0
+}
+
+// CREATE: writes a new file, every word of it. It has no session: one that is open on the file stays as it is.
+pub fn create(p: Description, file: &mut [u32]) -> u32
+    ensures { λ r. ⌜ made r (now (file .exit)) ≡ creation p (now (file .entry)) ⌝ }
+{
+    if !p.is_good() {
+        return WRONG_SIZE;
+    }
+    if file.len() != p.file_size() {
+        return WRONG_SIZE;
+    }
+    layout::lay_out(p, file);
+    DONE
 }
 
 impl Session {
@@ -145,6 +160,31 @@ impl Session {
             number: done.number,
             transfers: done.transfers,
             session: next,
+        }
+    }
+
+    // OPEN: the file is inspected, and every block marked: 1 reached from the master, 2 chained, 0 never used.
+    pub fn open_file(self, file: &[u32], buffer: &[u32], marks: &mut [u8]) -> Answer
+        ensures { λ r. ⌜ answeredOpen r (now (file .entry)) (now (buffer .entry)) (now (marks .exit)) ≡ countedOpen (openFile (given self (now (file .entry)) (now (buffer .entry)) []) (now (marks .entry))) ⌝ }
+    {
+        let p = self.desc;
+        if !p.is_sized(file.len(), buffer.len()) {
+            return self.refused(WRONG_SIZE);
+        }
+        if marks.len() != p.n {
+            return self.refused(WRONG_SIZE);
+        }
+        if self.opened {
+            return self.refused(ALREADY_OPEN);
+        }
+        if !layout::inspect(p, file, marks) {
+            return self.refused(BAD_FILE);
+        }
+        let rest = self.at_rest(true);
+        Answer {
+            number: DONE,
+            transfers: 0,
+            session: rest,
         }
     }
 

@@ -34,20 +34,20 @@ enum-known-route c = search needs
 
 text-of-requires : tie.Need-text-of-requires
 text-of-requires c κs =
-    let x = next-passed (seen (c .before .before .before .before .before .before .before .args .p) (c .before .before .before .before .before .before .before .args .current) (c .before .before .before .before .before .before .before .args .file .now) (c .before .before .before .before .before .before .before .args .buffer .now)) (part 0 (c .before .before .before .before .before .before .before .args .p .k) (c .before .before .before .before .before .before .before .args .position .now)) (c .before .before .before .before .before .before .before .args .w) .holds _ (sym (c .before .before .before .next-path .ensures) ∙ ap asRoute (c .before .route .given .1)) in
+    let x = next-passed (seen (c .before .before .before .before .before .before .before .args .p) (c .before .before .before .before .before .before .before .args .current) (c .before .before .before .before .before .before .before .args .file .now) (c .before .before .before .before .before .before .before .args .buffer .now)) (c .before .before .before .before .before .before .before .args .w) .holds _ (sym (c .before .before .before .next-path .ensures) ∙ ap asRoute (c .before .route .given .1)) in
     (c .before .before .before .before .before .before .before .pre .0, (x .detail-least, x .detail-most))
 
 word-at-requires : tie.Need-word-at-requires
 word-at-requires c κs =
     let g = caps (c .before .before .before .before .before .before .before .before .args .p) (c .before .before .before .before .before .before .before .before .pre .0 .good) in
     let f = g .facts in
-    let x = next-passed (seen (c .before .before .before .before .before .before .before .before .args .p) (c .before .before .before .before .before .before .before .before .args .current) (c .before .before .before .before .before .before .before .before .args .file .now) (c .before .before .before .before .before .before .before .before .args .buffer .now)) (part 0 (c .before .before .before .before .before .before .before .before .args .p .k) (c .before .before .before .before .before .before .before .before .args .position .now)) (c .before .before .before .before .before .before .before .before .args .w) .holds _ (sym (c .before .before .before .before .next-path .ensures) ∙ ap asRoute (c .before .before .route .given .1)) in
+    let x = next-passed (seen (c .before .before .before .before .before .before .before .before .args .p) (c .before .before .before .before .before .before .before .before .args .current) (c .before .before .before .before .before .before .before .before .args .file .now) (c .before .before .before .before .before .before .before .before .args .buffer .now)) (c .before .before .before .before .before .before .before .before .args .w) .holds _ (sym (c .before .before .before .before .next-path .ensures) ∙ ap asRoute (c .before .before .route .given .1)) in
     let e = ap length (c .text-of .ensures) ∙ length-textOf (seen (c .before .before .before .before .before .before .before .before .args .p) (c .before .before .before .before .before .before .before .before .args .current) (c .before .before .before .before .before .before .before .before .args .file .now) (c .before .before .before .before .before .before .before .before .args .buffer .now)) (c .before .before .route .given .0 .0 .detail) (c .before .before .before .before .before .before .before .before .pre .0) (x .detail-least, x .detail-most) in
     omega arith
 
 next-row-requires : tie.Need-next-row-requires
 next-row-requires c κs =
-    let x = next-passed (seen (c .before .before .before .before .before .before .before .before .before .args .p) (c .before .before .before .before .before .before .before .before .before .args .current) (c .before .before .before .before .before .before .before .before .before .args .file .now) (c .before .before .before .before .before .before .before .before .before .args .buffer .now)) (part 0 (c .before .before .before .before .before .before .before .before .before .args .p .k) (c .before .before .before .before .before .before .before .before .before .args .position .now)) (c .before .before .before .before .before .before .before .before .before .args .w) .holds _ (sym (c .before .before .before .before .before .next-path .ensures) ∙ ap asRoute (c .before .before .before .route .given .1)) in
+    let x = next-passed (seen (c .before .before .before .before .before .before .before .before .before .args .p) (c .before .before .before .before .before .before .before .before .before .args .current) (c .before .before .before .before .before .before .before .before .before .args .file .now) (c .before .before .before .before .before .before .before .before .before .args .buffer .now)) (c .before .before .before .before .before .before .before .before .before .args .w) .holds _ (sym (c .before .before .before .before .before .next-path .ensures) ∙ ap asRoute (c .before .before .before .route .given .1)) in
     let e = ap length (c .before .text-of .ensures) ∙ length-textOf (seen (c .before .before .before .before .before .before .before .before .before .args .p) (c .before .before .before .before .before .before .before .before .before .args .current) (c .before .before .before .before .before .before .before .before .before .args .file .now) (c .before .before .before .before .before .before .before .before .before .args .buffer .now)) (c .before .before .before .route .given .0 .0 .detail) (c .before .before .before .before .before .before .before .before .before .pre .0) (x .detail-least, x .detail-most) in
     (c .before .before .before .before .before .before .before .before .before .pre .0 .good, e, rw (c .before .text-of .ensures) (x .records-most), c .before .before .before .before .before .before .before .before .before .pre .1)
 

@@ -40,7 +40,7 @@ next-row-requires : tie.Need-next-row-requires
 next-row-requires c κs =
     let e = sym (c .before .before .next-in-buffer .ensures ∙ in-buffer-any (c .before .before .before .before .before .before .before .args .p) (c .before .before .before .before .before .before .before .args .current) (c .before .before .before .before .before .before .before .args .file .now) (c .before .before .before .before .before .before .before .args .buffer .now) (part 0 (c .before .before .before .before .before .before .before .args .p .k) (c .before .before .before .before .before .before .before .args .position .now))) ∙ ap asTest (c .enum-told3 .given .1) in
     let g = here-fits (seen (c .before .before .before .before .before .before .before .args .p) (c .before .before .before .before .before .before .before .args .current) (c .before .before .before .before .before .before .before .args .file .now) (c .before .before .before .before .before .before .before .args .buffer .now)) (part 0 (c .before .before .before .before .before .before .before .args .p .k) (c .before .before .before .before .before .before .before .args .position .now)) e in
-    (c .before .before .before .before .before .before .before .pre .0 .good, c .before .before .before .before .before .before .before .pre .0 .buffer-is, g .0 .records-most, c .before .before .before .before .before .before .before .pre .1)
+    (c .before .before .before .before .before .before .before .pre .0 .good, c .before .before .before .before .before .before .before .pre .0 .buffer-is, g .records-most, c .before .before .before .before .before .before .before .pre .1)
 
 returns-2 : tie.Need-returns-2
 returns-2 c =

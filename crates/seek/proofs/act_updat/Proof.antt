@@ -7,6 +7,7 @@ use Rattle.words.specs.Words.{part}
 use Rattle.table.specs.Tables.{replaced}
 use Rattle.drum.specs.Params.{detailShape}
 use Rattle.drum.specs.Blocks.{seen}
+use Rattle.drum.proofs.Good.{caps}
 use Rattle.rules.specs.declared.Way.the-variants.{By}
 use Rattle.rules.specs.Lookup.{reached, storing}
 use Rattle.rules.specs.Fits.{LookFits}
@@ -46,7 +47,9 @@ replace-row-requires c κs =
     let v = seen (c .before .before .before .before .before .before .before .before .before .before .before .before .before .before .before .args .p) (c .before .before .before .before .before .before .before .before .before .before .before .before .before .before .before .args .current) (c .before .before .before .before .before .before .before .before .before .before .before .before .before .before .before .args .file .now) (c .before .before .before .before .before .before .before .before .before .before .before .before .before .before .before .args .buffer .now) in
     let f = subst (LookFits v (c .before .before .before .before .before .before .before .before .before .before .before .before .before .before .before .args .flag)) (c .before .before .before .before .before .before .before .before .before .before .l .given .1) (c .before .before .before .before .before .before .before .before .before .before .before .before .before .before .before .pre .2) in
     let h = row-reached v (c .before .before .before .before .before .before .before .before .before .before .before .before .before .before .before .pre .0) (c .before .before .before .before .before .before .before .before .before .before .before .before .before .before .before .args .flag) (c .before .before .before .before .before .before .before .before .before .before .l .given .0 .0) (f .0) (c .before .before .before .before .before .before .before .before .before .before .l .given .0 .1 .0) (f .1) _ (ap (λ (z : Come). z .buffer) (c .before .before .before .before .before .before .reach .ensures)) in
-    (rw (c .before .detail-shape .ensures) h, omega arith)
+    let g = caps (c .before .before .before .before .before .before .before .before .before .before .before .before .before .before .before .args .p) (c .before .before .before .before .before .before .before .before .before .before .before .before .before .before .before .pre .0 .good) in
+    let k = g .facts .key in
+    (rw (c .before .detail-shape .ensures) (omega arith), omega arith)
 
 enum-known-l-2 : tie.Need-enum-known-l-2
 enum-known-l-2 c = search needs

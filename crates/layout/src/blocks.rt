@@ -1,0 +1,129 @@
+// The walk's steps: a detail block, an index block with its detail blocks, the sections, the chain. Each marks the blocks it comes to; a
+// block that was marked before is refused before its words are looked at.
+use super::marking::mark;
+use super::rows::records_ok;
+use super::rows::rows_in;
+use drum::Description;
+ghost use mathlib.Core.Path.{_≡_};
+ghost use Prim.Native.Nat.{_+_, _*_, _≤_};
+ghost use lib.ListN.{length};
+ghost use Rattle.layout.specs.Inspect.{through, detailHeld, indexHeld, chainHeld};
+ghost use Rattle.layout.specs.Inspected.{flagged, Fit};
+
+// The detail block under the entry at place e.
+pub fn detail_held(p: Description, f: &[u32], low: usize, e: usize, marks: &mut [u8]) -> bool
+    requires { ⌜ Fit p (now f) ⌝ }
+    requires { ⌜ (length (now marks) ≡ p .n) × (low + p .k ≤ length (now f)) × (e + (p .k + 1) ≤ length (now f)) ⌝ }
+    ensures { λ r. ⌜ detailHeld p (now (f .entry)) low e (now (marks .entry)) ≡ flagged r (now (marks .exit)) ⌝ }
+{
+    let at = e + p.k;
+    let b = words::word_at(f, at);
+    if !mark(1, b, marks) {
+        return false;
+    }
+    let s = p.start(b);
+    let most = p.d();
+    let n = rows_in(p, f, most, p.wpr, s);
+    if n == 0 {
+        return false;
+    }
+    records_ok(p, f, low, e, s + 1, n)
+}
+
+// The n entries from place e on, each with its detail block.
+pub fn details_held(
+    p: Description,
+    f: &[u32],
+    low: usize,
+    e: usize,
+    n: usize,
+    marks: &mut [u8],
+) -> bool
+    requires { ⌜ Fit p (now f) ⌝ }
+    requires { ⌜ (length (now marks) ≡ p .n) × (low + p .k ≤ length (now f)) × (e + n * (p .k + 1) ≤ length (now f)) ⌝ }
+    ensures { λ r. ⌜ through (detailHeld p (now (f .entry))) (p .k + 1) low e n (now (marks .entry)) ≡ flagged r (now (marks .exit)) ⌝ }
+{
+    let mut before = low;
+    let mut at = e;
+    let mut left = n;
+    while 0 < left {
+        if !detail_held(p, f, before, at, marks) {
+            return false;
+        }
+        before = at;
+        at += p.k + 1;
+        left -= 1;
+    }
+    true
+}
+
+// The index block under the master's entry at place e, with its entries.
+pub fn index_held(p: Description, f: &[u32], low: usize, e: usize, marks: &mut [u8]) -> bool
+    requires { ⌜ Fit p (now f) ⌝ }
+    requires { ⌜ (length (now marks) ≡ p .n) × (low + p .k ≤ length (now f)) × (e + (p .k + 1) ≤ length (now f)) ⌝ }
+    ensures { λ r. ⌜ indexHeld p (now (f .entry)) low e (now (marks .entry)) ≡ flagged r (now (marks .exit)) ⌝ }
+{
+    let k = p.k;
+    let at = e + k;
+    let b = words::word_at(f, at);
+    if !mark(1, b, marks) {
+        return false;
+    }
+    let s = p.start(b);
+    let most = p.i();
+    let n = rows_in(p, f, most, k + 1, s);
+    if n == 0 {
+        return false;
+    }
+    let last = s + 1 + (n - 1) * (k + 1);
+    if !words::same_key(f, last, f, e, k) {
+        return false;
+    }
+    details_held(p, f, low, s + 1, n, marks)
+}
+
+// The n sections, each with its index block.
+pub fn sections_held(p: Description, f: &[u32], n: usize, marks: &mut [u8]) -> bool
+    requires { ⌜ Fit p (now f) ⌝ }
+    requires { ⌜ (length (now marks) ≡ p .n) × (3 + n * (p .k + 1) ≤ length (now f)) ⌝ }
+    ensures { λ r. ⌜ through (indexHeld p (now (f .entry))) (p .k + 1) 0 3 n (now (marks .entry)) ≡ flagged r (now (marks .exit)) ⌝ }
+{
+    let mut before = 0;
+    let mut at = 3;
+    let mut left = n;
+    while 0 < left {
+        if !index_held(p, f, before, at, marks) {
+            return false;
+        }
+        before = at;
+        at += p.k + 1;
+        left -= 1;
+    }
+    true
+}
+
+// The chain from its head on.
+pub fn chain_held(p: Description, f: &[u32], head: usize, marks: &mut [u8]) -> bool
+    requires { ⌜ Fit p (now f) ⌝ }
+    requires { ⌜ length (now marks) ≡ p .n ⌝ }
+    ensures { λ r. ⌜ chainHeld p (now (f .entry)) (p .n) head (now (marks .entry)) ≡ flagged r (now (marks .exit)) ⌝ }
+{
+    let wpb = p.wpb;
+    let mut b = head;
+    let mut left = p.n;
+    while b != 0 {
+        if left == 0 {
+            return false;
+        }
+        if !mark(2, b, marks) {
+            return false;
+        }
+        let s = p.start(b);
+        if !words::all_are(f, s + 1, wpb - 1, 0) {
+            return false;
+        }
+        b = words::word_at(f, s);
+        left -= 1;
+    }
+    true
+}
