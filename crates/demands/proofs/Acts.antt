@@ -28,6 +28,7 @@ use Rattle.demands.proofs.Frees.{next, freeCount, taken, firstText, tak
 use Rattle.demands.proofs.Sound.{Key, Ended, Sound, way-fits, way-covers, acted, leaf-length}
 use Rattle.demands.proofs.Answers.{Gives, effect-gives}
 use Rattle.demands.proofs.Reach.{At}
+use Rattle.demands.proofs.Growth.{Growth, Grows}
 
 -- a list of transfers leaves the master's words
 pub written-is : (p : Description) (ms : List Transfer) (m rest : List ℕ) → length m ≡ masterSize p → length (m ++ rest) ≡ fileSize p → All (Fits p) (writes ms)
@@ -69,15 +70,15 @@ module _ (st : State) (ss : List Section) (f : Free) (h : Sound st ss f) (o : st
 
     pub act-gives : (ss′ : List Section) (file′ : List ℕ) → file′ ≡ masterText p ss′ f′ ++ behind p (written p (allMoves ms) file₁)
         → Holds p (masterText p ss′ f′) (wrotes (textOf v) ws) ss′ f′ → (new : List (List ℕ)) → contents (leavesOf ss′) ≡ new → Ended p new
-        → (d : ℕ) (b : List ℕ) → Left ss′ file′ d b → (n : ℕ) (tr : List Transfer) (most : ℕ) → length tr ≤ most
-        → Gives st (outcome (st .session) (record { number = n; transfers = tr; current = d; flag = false; keyed = true; file = file′; buffer = b; work = st .work })) n most new
-    act-gives ss′ file′ e′ hold new c z d b s n tr most cost =
+        → (d : ℕ) (b : List ℕ) → Left ss′ file′ d b → (n : ℕ) (tr : List Transfer) (most : ℕ) → length tr ≤ most → (brought : Growth) → Grows p ss ss′ brought
+        → Gives st ss (outcome (st .session) (record { number = n; transfers = tr; current = d; flag = false; keyed = true; file = file′; buffer = b; work = st .work })) n most new brought
+    act-gives ss′ file′ e′ hold new c z d b s n tr most cost brought grew =
         let cover : (x : ℕ) → 1 ≤ x → wrotes (blockAt p (st .file)) (writes (allMoves ms)) x ≡ wrotes (textOf v) ws x
         = λ x l. way-covers v (st .session .flag) ss f (h .kept) way ms (λ w g. rw (A .here-is w, ms-is) old) x l ∙ ap (λ (y : List Cell). wrotes (textOf v) y x) ms-is in
         effect-gives st ss f h o (record { number = n; transfers = tr; current = d; flag = false; keyed = true; file = file′; buffer = b; work = st .work }) ss′ f′
         (acted v (st .session .flag) ss f (h .kept) (allMoves ms) ws file₁ (masterText p (treeOf a) f′) e₁ long₁ fits cover ss′ f′ file′ e′
         (master-long p (h .kept .good) ss′ f′ (hold .sized) (hold .sections)) hold (rw c z) d b s)
-        most cost n new refl c (λ q. kw)
+        most cost brought grew n new refl c (λ q. kw)
 
   -- words 1 and 2 of the file
   pub freed : (f′ : Free) → withFree (headOr (f′ .chain) 0) (f′ .lowest) (st .file) ≡ masterText p (treeOf a) f′ ++ behind p (st .file)
@@ -134,9 +135,10 @@ module _ (st : State) (ss : List Section) (f : Free) (h : Sound st ss f) (o : st
         → (ms : List Transfer) (ws : List Cell) → writes ms ≡ ws → All (Fits p) ws → Same ws (lf p l₁ ∷ (lf p l₂ ∷ ((a .index, ix p news) ∷ [])))
         → (new : List (List ℕ)) → contents (leavesOf (treeWith a (l₁ ∷ (l₂ ∷ [])))) ≡ new → Ended p new
         → (d : ℕ) → Spot (treeWith a (l₁ ∷ (l₂ ∷ []))) d → (n most : ℕ) → length (allMoves ms) ≤ most
-        → Gives st (outcome (st .session) (landing p n (st .work) (allMoves ms) d (written p (allMoves ms) (withFree (headOr (taken f .chain) 0) (taken f .lowest) (st .file))))) n most new
+        → (brought : Growth) → Grows p ss (treeWith a (l₁ ∷ (l₂ ∷ []))) brought
+        → Gives st ss (outcome (st .session) (landing p n (st .work) (allMoves ms) d (written p (allMoves ms) (withFree (headOr (taken f .chain) 0) (taken f .lowest) (st .file))))) n most new brought
     unfolding landing times weigh leafCell
-    two-gives nx some room ms ws ms-is fit order new c z d s n most cost =
+    two-gives nx some room ms ws ms-is fit order new c z d s n most cost brought grew =
         let file₁ : List ℕ = withFree (headOr (taken f .chain) 0) (taken f .lowest) (st .file) in
         let F : List ℕ = written p (allMoves ms) file₁ in
         let ss′ : List Section = treeWith a (l₁ ∷ (l₂ ∷ [])) in
@@ -145,7 +147,7 @@ module _ (st : State) (ss : List Section) (f : Free) (h : Sound st ss f) (o : st
         act-gives ms ws ms-is fit old (taken f) file₁ (freed (taken f)) ss′ F
         (same-file ms ws ms-is fit old (taken f) file₁ (freed (taken f)) ss′ (master-same p a (taken f) (l₁ ∷ (l₂ ∷ [])) (λ d. refl)))
         (split-leaf p (a .before) (a .index) (a .low) (a .leaf) (a .high) (a .behind) f _ _ (A .held) (taken f) nb (firstText p (f .chain)) cells (taken-numbers f some) xs x ys asc room ok₁ ok₂ ws order)
-        new c z d (blockAt p F d) (inr (s, refl)) n (allMoves ms) most cost
+        new c z d (blockAt p F d) (inr (s, refl)) n (allMoves ms) most cost brought grew
 
     -- ---- and the section two: the entries as′, and the entries bs′ in a new index block; `op` changes the master
 
@@ -189,9 +191,10 @@ module _ (st : State) (ss : List Section) (f : Free) (h : Sound st ss f) (o : st
           → (ms : List Transfer) (ws : List Cell) → writes ms ≡ ws → All (Fits p) ws → Same ws (lf p l₁ ∷ (lf p l₂ ∷ ((a .index, ix p as′) ∷ ((nib, ix p bs′) ∷ []))))
           → (op : List ℕ → List ℕ) → ((rest : List ℕ) → op (masterText p (treeOf a) (taken (taken f)) ++ rest) ≡ masterText p tree₂ (taken (taken f)) ++ rest)
           → (new : List (List ℕ)) → contents (leavesOf tree₂) ≡ new → Ended p new → (d : ℕ) → Spot tree₂ d → (n most : ℕ) → length (allMoves ms) ≤ most
-          → Gives st (outcome (st .session) (landing p n (st .work) (allMoves ms) d (op (written p (allMoves ms) (withFree (headOr (taken (taken f) .chain) 0) (taken (taken f) .lowest) (st .file)))))) n most new
+          → (brought : Growth) → Grows p ss tree₂ brought
+          → Gives st ss (outcome (st .session) (landing p n (st .work) (allMoves ms) d (op (written p (allMoves ms) (withFree (headOr (taken (taken f) .chain) 0) (taken (taken f) .lowest) (st .file)))))) n most new brought
       unfolding landing times weigh leafCell
-      four-gives nx nx₂ two room ms ws ms-is fit order op law new c z d s n most cost =
+      four-gives nx nx₂ two room ms ws ms-is fit order op law new c z d s n most cost brought grew =
           let file₁ : List ℕ = withFree (headOr (taken (taken f) .chain) 0) (taken (taken f) .lowest) (st .file) in
           let some : 1 ≤ freeCount f = omega arith in
           let some₂ : 1 ≤ freeCount (taken f) = omega (arith, taken-count f some) in
@@ -203,4 +206,4 @@ module _ (st : State) (ss : List Section) (f : Free) (h : Sound st ss f) (o : st
           act-gives ms ws ms-is fit old (taken (taken f)) file₁ (freed (taken (taken f))) tree₂ (op F) (ap op F-is ∙ law (behind p F))
           (split-both p (a .before) (a .index) (a .low) (a .leaf) (a .high) (a .behind) f _ _ (A .held) (taken (taken f)) nb nib (firstText p (f .chain)) (firstText p (taken f .chain)) cells
           (taken-numbers (taken f) some₂ ∙ taken-numbers f some) xs x ys asc ok₁ ok₂ as′ bs′ cut a₁ a₂ b₁ b₂ room ws order)
-          new c z d (blockAt p (op F) d) (inr (s, refl)) n (allMoves ms) most cost
+          new c z d (blockAt p (op F) d) (inr (s, refl)) n (allMoves ms) most cost brought grew

@@ -43,6 +43,7 @@ use Rattle.demands.proofs.Sound.{Key, Kept, Sound, leftBy}
 use Rattle.demands.proofs.Answers.{sizes-pass, work-pass, open-pass, Gives}
 use Rattle.demands.proofs.Reach.{flush-pass, bring, bring-cost}
 use Rattle.demands.proofs.Stores.{give-gives}
+use Rattle.demands.proofs.Growth.{nothing}
 
 -- where the keys above the position start
 abbrev pub mark : State → ℕ
@@ -52,7 +53,7 @@ mark st = cond (st .session .placed) (suc (val (positionKey (st .session)))) 0
 abbrev pub AdvRight : State → List Section → Type 0
 AdvRight st ss =
     (r : List ℕ) × (cs : List (List ℕ)) × (from (key (desc st .k)) (mark st) (contents (leavesOf ss)) ≡ r ∷ cs)
-    × Gives st (adv st) (cond (isOnes (keyIn (desc st) r)) atEnd done) 5 (contents (leavesOf ss)) × (adv st .after .work ≡ r)
+    × Gives st ss (adv st) (cond (isOnes (keyIn (desc st) r)) atEnd done) 5 (contents (leavesOf ss)) nothing × (adv st .after .work ≡ r)
 
 below-zero : (K : List ℕ → ℕ) (xs : List (List ℕ)) → below K 0 xs ≡ []
 unfolding below
@@ -140,7 +141,7 @@ module _ (st : State) (ss : List Section) (f : Free) (h : Sound st ss f) (o : st
         r,
         rest,
         g,
-        subst (λ (z : Outcome). Gives st z (cond (isOnes (keyIn p r)) atEnd done) 5 rows) (sym out₂)
+        subst (λ (z : Outcome). Gives st ss z (cond (isOnes (keyIn p r)) atEnd done) 5 rows nothing) (sym out₂)
             (give-gives st ss f h o here 5 cost kept (cond (isOnes (keyIn p r)) atEnd done) (length bs) (not (isOnes (keyIn p r))) r row-is
             (λ e. let kl : (length (take (p .k) r) ≡ p .k) × (allWords (take (p .k) r) ≡ true) = key-long p kr r rok in record {
               long = kl .0;

@@ -23,6 +23,7 @@ use Rattle.layout.specs.Tree.{Section}
 use Rattle.demands.proofs.Trees.{leavesOf, contents, key}
 use Rattle.demands.proofs.Holds.{Free, RowOk}
 use Rattle.demands.proofs.Sound.{Key, Kept, Sound, no-true-false}
+use Rattle.demands.proofs.Growth.{Growth, Grows}
 
 -- a keyed call that reads so many words of the workspace
 pub record Ready (reads : ℕ) (st : State) (ss : List Section) (f : Free) : Type 0 where
@@ -77,9 +78,10 @@ pub open-pass : (st : State) → st .session .opened ≡ true → isOpen st ≡ 
 unfolding isOpen
 open-pass st e = simp e
 
--- ---- the answer: the number, how many transfers at most, a sound state of the same file, and its contents
+-- ---- the answer, where the tree was ss: the number, how many transfers at most, a sound state of the same file, its contents, and what the
+-- call brought
 
-pub record Gives (st : State) (o : Outcome) (number : ℕ) (most : ℕ) (rows : List (List ℕ)) : Type 0 where
+pub record Gives (st : State) (ss : List Section) (o : Outcome) (number : ℕ) (most : ℕ) (rows : List (List ℕ)) (brought : Growth) : Type 0 where
   pub number-is : o .number ≡ number
   pub most-is : length (o .transfers) ≤ most
   pub desc-is : desc (o .after) ≡ desc st
@@ -87,15 +89,18 @@ pub record Gives (st : State) (o : Outcome) (number : ℕ) (most : ℕ) (rows : 
   pub free : Free
   pub sound : Sound (o .after) sections free
   pub contents-is : contents (leavesOf sections) ≡ rows
+  pub grows : Grows (desc st) ss sections brought
 
-pub gives-more : (st : State) (o : Outcome) (n few most : ℕ) (rows : List (List ℕ)) → Gives st o n few rows → few ≤ most → Gives st o n most rows
-gives-more st o n few most rows g l =
-    record { number-is = g .number-is; most-is = omega (arith, g .most-is); desc-is = g .desc-is; sections = g .sections; free = g .free; sound = g .sound; contents-is = g .contents-is }
+pub gives-more : (st : State) (ss : List Section) (o : Outcome) (n few most : ℕ) (rows : List (List ℕ)) (brought : Growth) → Gives st ss o n few rows brought → few ≤ most
+    → Gives st ss o n most rows brought
+gives-more st ss o n few most rows brought g l =
+    record { number-is = g .number-is; most-is = omega (arith, g .most-is); desc-is = g .desc-is; sections = g .sections; free = g .free; sound = g .sound; contents-is = g .contents-is; grows = g .grows }
 
 module _ (st : State) (ss : List Section) (f : Free) (h : Sound st ss f) (o : st .session .opened ≡ true) (e : Effect) (ss′ : List Section) (f′ : Free)
-    (k : Kept (seen (desc st) (e .current) (e .file) (e .buffer)) (e .flag) ss′ f′) (most : ℕ) (cost : length (e .transfers) ≤ most) where
+    (k : Kept (seen (desc st) (e .current) (e .file) (e .buffer)) (e .flag) ss′ f′) (most : ℕ) (cost : length (e .transfers) ≤ most)
+    (brought : Growth) (grew : Grows (desc st) ss ss′ brought) where
   -- position kept
-  plain : e .keyed ≡ false → Gives st (outcome (st .session) e) (e .number) most (contents (leavesOf ss′))
+  plain : e .keyed ≡ false → Gives st ss (outcome (st .session) e) (e .number) most (contents (leavesOf ss′)) brought
   unfolding outcome holding
   plain q =
       let s : Session = record { desc = desc st; opened = st .session .opened; current = e .current; flag = e .flag; placed = st .session .placed; position = st .session .position } in
@@ -109,10 +114,11 @@ module _ (st : State) (ss : List Section) (f : Free) (h : Sound st ss f) (o : st
         free = f′;
         sound = subst (λ (x : Session). Sound (record { session = x; file = e .file; buffer = e .buffer; work = e .work }) ss′ f′) (sym w) z;
         contents-is = refl;
+        grows = grew;
       }
 
   -- "position = key"
-  keyed : e .keyed ≡ true → Key (desc st) (keyIn (desc st) (e .work)) → Gives st (outcome (st .session) e) (e .number) most (contents (leavesOf ss′))
+  keyed : e .keyed ≡ true → Key (desc st) (keyIn (desc st) (e .work)) → Gives st ss (outcome (st .session) e) (e .number) most (contents (leavesOf ss′)) brought
   unfolding outcome holding positioned
   keyed q kw =
       let key : List ℕ = keyIn (desc st) (e .work) in
@@ -136,14 +142,15 @@ module _ (st : State) (ss : List Section) (f : Free) (h : Sound st ss f) (o : st
         free = f′;
         sound = subst (λ (x : Session). Sound (record { session = x; file = e .file; buffer = e .buffer; work = e .work }) ss′ f′) (sym w) z;
         contents-is = refl;
+        grows = grew;
       }
 
   pub effect-gives : (n : ℕ) (rows : List (List ℕ)) → e .number ≡ n → contents (leavesOf ss′) ≡ rows → (e .keyed ≡ true → Key (desc st) (keyIn (desc st) (e .work)))
-      → Gives st (outcome (st .session) e) n most rows
+      → Gives st ss (outcome (st .session) e) n most rows brought
   effect-gives n rows en er kw =
-      subst (λ (m : ℕ). Gives st (outcome (st .session) e) m most rows) en (subst (λ (z : List (List ℕ)). Gives st (outcome (st .session) e) (e .number) most z) er (go (e .keyed) refl))
+      subst (λ (m : ℕ). Gives st ss (outcome (st .session) e) m most rows brought) en (subst (λ (z : List (List ℕ)). Gives st ss (outcome (st .session) e) (e .number) most z brought) er (go (e .keyed) refl))
     where
-      go : (t : Bool) → e .keyed ≡ t → Gives st (outcome (st .session) e) (e .number) most (contents (leavesOf ss′))
+      go : (t : Bool) → e .keyed ≡ t → Gives st ss (outcome (st .session) e) (e .number) most (contents (leavesOf ss′)) brought
       go true q = keyed q (kw q)
       go false q = plain q
 

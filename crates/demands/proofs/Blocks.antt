@@ -1,18 +1,16 @@
 -- The blocks of a file: read after write, the master apart from them, and what a list of transfers writes.
-use Prim.Native.Nat.{ℕ, suc, _+_, _*_, _-_, _≤_, _<_}
+use Prim.Native.Nat.{ℕ, _+_, _*_, _-_, _≤_}
 use mathlib.Core.Path.{_≡_, refl, sym, ap, _∙_}
 use mathlib.Core.List.{List, [], _∷_, _++_}
 use native.Mathlib.Omega.{arith}
-use native.Mathlib.Nat.{mul-le-mul-right}
 use native.Mathlib.Decide.{ℕ-discrete}
 use lib.ListN.{length, take, drop, length-drop}
 use lib.Seq.{take-at, drop-at, drop-drop}
-use Rattle.words.specs.Words.{part, put}
-use Rattle.words.proofs.Keys.{Tri, tri, lt, eq, gt}
-use Rattle.words.proofs.Parts.{length-part, length-put, part-written, part-put-before, part-put-after}
+use Rattle.words.specs.Words.{part}
 use Rattle.drum.specs.declared.Description.{Description}
 use Rattle.drum.specs.Params.{masterSize, fileSize, start}
 use Rattle.drum.specs.Blocks.{blockAt, putBlock, Transfer, Read, Write, written}
+use Rattle.drum.proofs.Blocks.{length-block, length-putBlock, block-same, block-other, master-part}
 use Rattle.demands.proofs.Lists.{All}
 use Rattle.demands.proofs.Cells.{Cell, is-not, weigh, times, wrote, wrote-same, wrote-other, wrotes}
 
@@ -23,45 +21,24 @@ masterOf p f = take (masterSize p) f
 unfoldable pub behind : Description → List ℕ → List ℕ
 behind p f = drop (masterSize p) f
 
-step : (p : Description) (b c : ℕ) → 1 ≤ b → b < c → start p b + p .wpb ≤ start p c
-unfolding start
-step p b c l h = omega (arith, mul-le-mul-right (p .wpb) (less b c l h))
-  where
-    less : (b c : ℕ) → 1 ≤ b → b < c → suc (b - 1) ≤ c - 1
-    less b c l h = omega arith
+module _ (p : Description) (f : List ℕ) (sized : length f ≡ fileSize p) (b : ℕ) (low : 1 ≤ b) (high : b ≤ p .n) where
+  pub block-length : length (blockAt p f b) ≡ p .wpb
+  block-length = length-block p f sized b (low, high)
 
-module _ (p : Description) (f : List ℕ) (sized : length f ≡ fileSize p) where
-  block-in : (b : ℕ) → 1 ≤ b → b ≤ p .n → start p b + p .wpb ≤ length f
-  unfolding start fileSize
-  block-in b l h = rw sized (omega (arith, mul-le-mul-right (p .wpb) (last b (p .n) l h)))
-    where
-      last : (b n : ℕ) → 1 ≤ b → b ≤ n → suc (b - 1) ≤ n
-      last b n l h = omega arith
-
-  pub block-length : (b : ℕ) → 1 ≤ b → b ≤ p .n → length (blockAt p f b) ≡ p .wpb
-  unfolding blockAt
-  block-length b l h = length-part (start p b) (p .wpb) f (block-in b l h)
-
-  module _ (b : ℕ) (low : 1 ≤ b) (high : b ≤ p .n) (t : List ℕ) (ht : length t ≡ p .wpb) where
-    fits : start p b + length t ≤ length f
-    fits = rw ht (block-in b low high)
-
-    pub put-length : length (putBlock p f b t) ≡ length f
-    unfolding putBlock
-    put-length = length-put f (start p b) t fits
+  module _ (t : List ℕ) (ht : length t ≡ p .wpb) where
+    pub put-length : length (putBlock p f b t) ≡ fileSize p
+    put-length = length-putBlock p f sized b (low, high) t ht
 
     pub put-block : (c : ℕ) → 1 ≤ c → c ≤ p .n → blockAt p (putBlock p f b t) c ≡ wrote (blockAt p f) b t c
-    unfolding blockAt putBlock
-    put-block c hc hn = go (tri b c)
+    put-block c hc hn = go (ℕ-discrete c b)
       where
-        go : Tri b c → part (start p c) (p .wpb) (put f (start p b) t) ≡ wrote (blockAt p f) b t c
-        go (lt l) = rw (wrote-other (blockAt p f) b t c (λ e. omega arith)) (part-put-after f (start p b) t (start p c) (p .wpb) (rw ht (step p b c low l)) (block-in c hc hn))
-        go (eq e) = rw (← e, wrote-same (blockAt p f) b t) (part-written f (start p b) (p .wpb) t ht (block-in b low high))
-        go (gt g) = rw (wrote-other (blockAt p f) b t c (λ e. omega arith)) (part-put-before f (start p b) t (start p c) (p .wpb) (step p c b hc g) fits)
+        go : Dec (c ≡ b) → blockAt p (putBlock p f b t) c ≡ wrote (blockAt p f) b t c
+        go (yes e) = rw (e, wrote-same (blockAt p f) b t) (block-same p f sized b (low, high) t ht)
+        go (no n) = rw (wrote-other (blockAt p f) b t c n) (block-other p f sized b (low, high) t ht c (hc, hn) n)
 
     pub put-master : masterOf p (putBlock p f b t) ≡ masterOf p f
-    unfolding putBlock masterOf start part
-    put-master = part-put-before f (start p b) t 0 (masterSize p) (omega arith) fits
+    unfolding masterOf part
+    put-master = master-part p f sized b (low, high) t ht 0 (masterSize p) (omega arith)
 
 -- blocks do not depend on the master's words
 pub behind-block : (p : Description) (f g : List ℕ) → length f ≡ fileSize p → length g ≡ fileSize p → behind p f ≡ behind p g → (c : ℕ) → blockAt p f c ≡ blockAt p g c
@@ -122,14 +99,14 @@ module _ (p : Description) where
   unfolding written writes
   written-length [] file e h = e
   written-length (Read b ∷ ms) file e h = written-length ms file e h
-  written-length (Write b t ∷ ms) file e h = written-length ms (putBlock p file b t) (put-length p file e b (h .0 .0) (h .0 .1) t (h .0 .2) ∙ e) (h .1)
+  written-length (Write b t ∷ ms) file e h = written-length ms (putBlock p file b t) (put-length p file e b (h .0 .0) (h .0 .1) t (h .0 .2)) (h .1)
 
   pub written-master : (ms : List Transfer) (file : List ℕ) → length file ≡ fileSize p → All (Fits p) (writes ms) → masterOf p (written p ms file) ≡ masterOf p file
   unfolding written writes
   written-master [] file e h = refl
   written-master (Read b ∷ ms) file e h = written-master ms file e h
   written-master (Write b t ∷ ms) file e h =
-      written-master ms (putBlock p file b t) (put-length p file e b (h .0 .0) (h .0 .1) t (h .0 .2) ∙ e) (h .1) ∙ put-master p file e b (h .0 .0) (h .0 .1) t (h .0 .2)
+      written-master ms (putBlock p file b t) (put-length p file e b (h .0 .0) (h .0 .1) t (h .0 .2)) (h .1) ∙ put-master p file e b (h .0 .0) (h .0 .1) t (h .0 .2)
 
   pub written-text : (ms : List Transfer) (file : List ℕ) → length file ≡ fileSize p → All (Fits p) (writes ms) → (c : ℕ) → 1 ≤ c → c ≤ p .n
       → blockAt p (written p ms file) c ≡ wrotes (blockAt p file) (writes ms) c
@@ -137,5 +114,5 @@ module _ (p : Description) where
   written-text [] file e h c l u = refl
   written-text (Read b ∷ ms) file e h c l u = written-text ms file e h c l u
   written-text (Write b t ∷ ms) file e h c l u =
-      written-text ms (putBlock p file b t) (put-length p file e b (h .0 .0) (h .0 .1) t (h .0 .2) ∙ e) (h .1) c l u
+      written-text ms (putBlock p file b t) (put-length p file e b (h .0 .0) (h .0 .1) t (h .0 .2)) (h .1) c l u
       ∙ wrotes-ext (writes ms) (blockAt p (putBlock p file b t)) (wrote (blockAt p file) b t) c (λ z. put-block p file e b (h .0 .0) (h .0 .1) t (h .0 .2) c l u)

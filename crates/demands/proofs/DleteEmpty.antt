@@ -49,6 +49,8 @@ use Rattle.demands.proofs.Frees.{free-ok}
 use Rattle.demands.proofs.Acts.{same-file, act-gives}
 use Rattle.demands.proofs.Lookup.{Covers}
 use Rattle.demands.proofs.Dlete.{dlete-by, gone-contents, gone-ended}
+use Rattle.demands.proofs.Growth.{Grows, nothing, grow-from}
+use Rattle.demands.proofs.Changes.{grow-inner, grow-last, grow-section}
 
 pub free-long : (p : Description) (b : ℕ) → 1 ≤ p .wpb → length (freeText p b) ≡ p .wpb
 unfolding freeText laid
@@ -104,7 +106,7 @@ module _ (st : State) (ss : List Section) (f : Free) (r : Ready (desc st .k) st 
   w = keyIn (desc st) (st .work)
 
   abbrev Result : Type 0
-  Result = Gives st (dlete st) done 6 (del (key (desc st .k)) (val (keyIn (desc st) (st .work))) (contents (leavesOf ss)))
+  Result = Gives st ss (dlete st) done 6 (del (key (desc st .k)) (val (keyIn (desc st) (st .work))) (contents (leavesOf ss))) nothing
 
   abbrev head : ℕ
   head = headOr (f .chain) 0
@@ -147,9 +149,9 @@ module _ (st : State) (ss : List Section) (f : Free) (r : Ready (desc st .k) st 
       → deleteDone v flag (st .work) d ≡ passed (emptying p (st .work) (reached v flag way .moves ++ emptyMoves p (pathOf a) head t) (op (written p (reached v flag way .moves ++ emptyMoves p (pathOf a) head t) (set (st .file) 1 b))))
       → (f′ : Free) → headOr (f′ .chain) 0 ≡ b → f′ .lowest ≡ f .lowest → (ss′ : List Section) → ((rest : List ℕ) → op (masterText p (treeOf a) f′ ++ rest) ≡ masterText p ss′ f′ ++ rest)
       → length t ≡ p .wpb → Holds p (masterText p ss′ f′) (wrotes (textOf v) ((a .leaf .block, link p f) ∷ ((a .index, t) ∷ []))) ss′ f′
-      → contents (leavesOf ss′) ≡ del (key (p .k)) (val w) (contents (leavesOf ss)) → Result
+      → contents (leavesOf ss′) ≡ del (key (p .k)) (val w) (contents (leavesOf ss)) → Grows p (treeOf a) ss′ nothing → Result
   unfolding emptying emptyMoves writes times weigh
-  emptied d t b op ed ee f′ eh el ss′ law lt hold c =
+  emptied d t b op ed ee f′ eh el ss′ law lt hold c grew =
       let ms : List Transfer = emptyMoves p (pathOf a) head t in
       let ws : List Cell = (a .leaf .block, link p f) ∷ ((a .index, t) ∷ []) in
       let i : (1 ≤ a .leaf .block) × (a .leaf .block ≤ p .n) = leaf-in p a f _ _ (A .held) in
@@ -161,10 +163,10 @@ module _ (st : State) (ss : List Section) (f : Free) (r : Ready (desc st .k) st 
       = ap (λ (z : List ℕ). set z 1 b) (file-is p (st .file) (treeOf a) f (A .held .master-is) (A .held .sized)) ∙ with-head p (treeOf a) f f′ b (behind p (st .file)) eh el in
       let F : List ℕ = written p (reached v flag way .moves ++ ms) file₁ in
       let F-is : F ≡ masterText p (treeOf a) f′ ++ behind p F = same-file st ss f (r .sound) (r .opened) kw a way A ms ws refl fit old f′ file₁ e₁ (treeOf a) refl in
-      subst (λ (z : Outcome). Gives st z done 6 (del (key (p .k)) (val w) (contents (leavesOf ss)))) (sym (dlete-by st ss f r d (emptying p (st .work) (reached v flag way .moves ++ ms) (op F)) ed ee))
+      subst (λ (z : Outcome). Gives st ss z done 6 (del (key (p .k)) (val w) (contents (leavesOf ss))) nothing) (sym (dlete-by st ss f r d (emptying p (st .work) (reached v flag way .moves ++ ms) (op F)) ed ee))
       (act-gives st ss f (r .sound) (r .opened) kw a way A ms ws refl fit old f′ file₁ e₁ ss′ (op F) (ap op F-is ∙ law (behind p F)) hold _ c
       (gone-ended st ss f r kw a way A C [] x [] q k) 0 (zeros (p .wpb)) (inl (refl, zeros-length (p .wpb))) done (reached v flag way .moves ++ ms) 6
-      (rw (length-append (reached v flag way .moves) ms) (omega (arith, way-cost v flag way))))
+      (rw (length-append (reached v flag way .moves) ms) (omega (arith, way-cost v flag way))) nothing (grow-from p ss (treeOf a) ss′ nothing (A .is) grew))
 
   -- another leaf follows in the section
   dlete-inner : (m : Leaf) (hs : List Leaf) → a .high ≡ m ∷ hs → Result
@@ -187,14 +189,15 @@ module _ (st : State) (ss : List Section) (f : Free) (r : Ready (desc st .k) st 
       f′ refl refl ss′ (λ rest. ap (λ (z : List ℕ). z ++ rest) (same m hs e f′)) (index-long p good ls ok (omega (arith, room, length-append (a .low) (m ∷ hs), length-append (a .low) (a .leaf ∷ (m ∷ hs)))))
       (drop-leaf p (a .before) (a .index) (a .low) (a .leaf) m hs (a .behind) f _ (textOf v) held′)
       (ap (λ (z : List Leaf). contents (leavesOf (a .before ++ (sec (a .index) (a .low ++ z) ∷ a .behind)))) (sym e) ∙ gone-contents st ss f r kw a way A C [] x [] q k [] refl)
+      (grow-inner p good a m hs e)
     where
       same : (m : Leaf) (hs : List Leaf) → a .high ≡ m ∷ hs → (f′ : Free) → masterText p (treeOf a) f′ ≡ masterText p (a .before ++ (sec (a .index) (a .low ++ (m ∷ hs)) ∷ a .behind)) f′
       same m hs e f′ = unfold masterText masterEntry in rw e (simp (map-append, lastBound-append))
 
   -- it is the section's last, and another is before it
-  dlete-last : (low : List Leaf) (y : Leaf) → a .low ≡ low ++ (y ∷ []) → a .high ≡ [] → Result
+  dlete-last : (low : List Leaf) (y : Leaf) → a .low ≡ low ++ (y ∷ []) → a .high ≡ [] → (s : Section) (cs : List Section) → a .behind ≡ s ∷ cs → 1 ≤ length (s .leaves) → Result
   unfolding deleteDone emptyAll emptyFile
-  dlete-last low y el eh =
+  dlete-last low y el eh s cs eb some =
       let eo : olds a ≡ low ++ (y ∷ (a .leaf ∷ [])) = ap₂ (λ (s t : List Leaf). s ++ (a .leaf ∷ t)) el eh ∙ append-assoc low (y ∷ []) (a .leaf ∷ []) in
       let j : length (a .low) ≡ length low + 1 = ap length el ∙ length-append low (y ∷ []) in
       let n : length (low ++ (y ∷ (a .leaf ∷ []))) ≡ suc (suc (length low)) = rw (length-append low (y ∷ (a .leaf ∷ []))) (omega arith) in
@@ -215,6 +218,7 @@ module _ (st : State) (ss : List Section) (f : Free) (r : Ready (desc st .k) st 
       (index-long p good ls (all-append (LeafOk p) low _ (all-left (LeafOk p) low _ (ok .leaves)) (wok, tt)) (omega (arith, ok .room, n, length-append low (withBound p y (a .leaf .bound) ∷ []))))
       (drop-last p (a .before) (a .index) low y (a .leaf) (a .behind) f _ (textOf v) held′)
       (contents-same low y el eh ∙ gone-contents st ss f r kw a way A C [] x [] q k [] refl)
+      (grow-last p good a eh s cs eb some low y (withBound p y (a .leaf .bound)) el refl)
     where
       same : (low : List Leaf) (y : Leaf) (f′ : Free) → masterText p (a .before ++ (sec (a .index) (low ++ (y ∷ (a .leaf ∷ []))) ∷ a .behind)) f′
           ≡ masterText p (a .before ++ (sec (a .index) (low ++ (withBound p y (a .leaf .bound) ∷ [])) ∷ a .behind)) f′
@@ -241,6 +245,7 @@ module _ (st : State) (ss : List Section) (f : Free) (r : Ready (desc st .k) st 
       (subst (λ (z : List Section). Holds p (masterText p (a .before ++ z) f′) (wrotes (textOf v) ((a .leaf .block, link p f) ∷ ((a .index, link p (push p (a .leaf .block) f)) ∷ []))) (a .before ++ z) f′) (sym eb)
       (drop-section p (a .before) (a .index) (a .leaf) jb m hs cs f (masterOf p (st .file)) (textOf v) held′))
       (contents-same el eh ∙ gone-contents st ss f r kw a way A C [] x [] q k [] refl)
+      (grow-section p good a eh (sec jb (m ∷ hs)) cs eb (omega arith) el)
     where
       contents-same : a .low ≡ [] → a .high ≡ [] → contents (leavesOf (a .before ++ a .behind)) ≡ contents (leavesOf (treeWith a []))
       contents-same el eh = rw (el, eh) (simp leaves-append)
@@ -258,21 +263,18 @@ module _ (st : State) (ss : List Section) (f : Free) (r : Ready (desc st .k) st 
   pub dlete-emptied : Result
   dlete-emptied = go (a .high) refl
     where
+      some : (s : Section) (cs : List Section) → a .behind ≡ s ∷ cs → 1 ≤ length (s .leaves)
+      some s cs eb = subst (All (SectionOk p)) eb (all-right (SectionOk p) (a .before) _ (A .held .sized) .1) .0 .some
+
       section : a .low ≡ [] → a .high ≡ [] → (s : Section) (cs : List Section) → a .behind ≡ s ∷ cs → (ls : List Leaf) → s .leaves ≡ ls → Result
-      section el eh s cs eb [] e = absurd (omega (arith, some, ap length e))
-        where
-          some : 1 ≤ length (s .leaves)
-          some = subst (All (SectionOk p)) eb (all-right (SectionOk p) (a .before) _ (A .held .sized) .1) .0 .some
+      section el eh s cs eb [] e = absurd (omega (arith, some s cs eb, ap length e))
       section el eh s cs eb (m ∷ hs) e = dlete-section (s .block) m hs cs el eh (eb ∙ ap (λ (z : List Leaf). sec (s .block) z ∷ cs) e)
 
-      next : a .low ≡ [] → a .high ≡ [] → (zs : List Section) → a .behind ≡ zs → Result
-      next el eh [] eb = absurd (not-last eh eb)
-      next el eh (s ∷ cs) eb = section el eh s cs eb (s .leaves) refl
-
-      split : a .high ≡ [] → (a .low ≡ []) ⊎ ((xs : List Leaf) × (y : Leaf) × (a .low ≡ xs ++ y ∷ [])) → Result
-      split eh (inl el) = next el eh (a .behind) refl
-      split eh (inr (xs, y, el)) = dlete-last xs y el eh
+      split : a .high ≡ [] → (zs : List Section) → a .behind ≡ zs → (a .low ≡ []) ⊎ ((xs : List Leaf) × (y : Leaf) × (a .low ≡ xs ++ y ∷ [])) → Result
+      split eh [] eb w = absurd (not-last eh eb)
+      split eh (s ∷ cs) eb (inl el) = section el eh s cs eb (s .leaves) refl
+      split eh (s ∷ cs) eb (inr (xs, y, el)) = dlete-last xs y el eh s cs eb (some s cs eb)
 
       go : (hs : List Leaf) → a .high ≡ hs → Result
       go (m ∷ hs) e = dlete-inner m hs e
-      go [] e = split e (from-end (a .low))
+      go [] e = split e (a .behind) refl (from-end (a .low))

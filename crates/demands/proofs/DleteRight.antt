@@ -25,22 +25,23 @@ use Rattle.demands.proofs.Reach.{At}
 use Rattle.demands.proofs.Lookup.{Covers, Looked, absent, there, looks}
 use Rattle.demands.proofs.Dlete.{dlete-absent, dlete-some}
 use Rattle.demands.proofs.DleteEmpty.{dlete-emptied}
+use Rattle.demands.proofs.Growth.{nothing}
 
 abbrev pub DleteRight : State → List Section → Type 0
 DleteRight st ss =
-    ((hit (key (desc st .k)) (val (keyIn (desc st) (st .work))) (contents (leavesOf ss)) ≡ []) × Gives st (dlete st) notFound 3 (contents (leavesOf ss)))
+    ((hit (key (desc st .k)) (val (keyIn (desc st) (st .work))) (contents (leavesOf ss)) ≡ []) × Gives st ss (dlete st) notFound 3 (contents (leavesOf ss)) nothing)
     ⊎ ((x : List ℕ) × (hit (key (desc st .k)) (val (keyIn (desc st) (st .work))) (contents (leavesOf ss)) ≡ x ∷ [])
-    × Gives st (dlete st) done 6 (del (key (desc st .k)) (val (keyIn (desc st) (st .work))) (contents (leavesOf ss))))
+    × Gives st ss (dlete st) done 6 (del (key (desc st .k)) (val (keyIn (desc st) (st .work))) (contents (leavesOf ss))) nothing)
 
 module _ (st : State) (ss : List Section) (f : Free) (r : Ready (desc st .k) st ss f) (kw : Key (desc st) (keyIn (desc st) (st .work))) where
   abbrev Result : Type 0
-  Result = Gives st (dlete st) done 6 (del (key (desc st .k)) (val (keyIn (desc st) (st .work))) (contents (leavesOf ss)))
+  Result = Gives st ss (dlete st) done 6 (del (key (desc st .k)) (val (keyIn (desc st) (st .work))) (contents (leavesOf ss))) nothing
 
   take-out : (a : Place) (way : Way) → At (texts st) (st .session .flag) ss f a way → Covers (texts st) (keyIn (desc st) (st .work)) a → (bs : List (List ℕ)) (x : List ℕ) (cs : List (List ℕ))
       → a .leaf .records ≡ bs ++ x ∷ cs → key (desc st .k) x ≡ val (keyIn (desc st) (st .work)) → look (texts st) (st .session .flag) (keyIn (desc st) (st .work)) ≡ passed (Found way (length bs)) → Result
   take-out a way A C [] x [] q k l = dlete-emptied st ss f r kw a way A C x q k l
-  take-out a way A C [] x (c ∷ cs) q k l = gives-more st _ _ 3 6 _ (dlete-some st ss f r kw a way A C [] x (c ∷ cs) q k l (omega (arith, ap length q))) (omega arith)
-  take-out a way A C (b ∷ bs) x cs q k l = gives-more st _ _ 3 6 _ (dlete-some st ss f r kw a way A C (b ∷ bs) x cs q k l (omega (arith, ap length q, length-append bs (x ∷ cs)))) (omega arith)
+  take-out a way A C [] x (c ∷ cs) q k l = gives-more st ss _ _ 3 6 _ nothing (dlete-some st ss f r kw a way A C [] x (c ∷ cs) q k l (omega (arith, ap length q))) (omega arith)
+  take-out a way A C (b ∷ bs) x cs q k l = gives-more st ss _ _ 3 6 _ nothing (dlete-some st ss f r kw a way A C (b ∷ bs) x cs q k l (omega (arith, ap length q, length-append bs (x ∷ cs)))) (omega arith)
 
   at : Looked (texts st) (st .session .flag) (keyIn (desc st) (st .work)) ss f → DleteRight st ss
   at (absent a A C e none l) = inl (e, dlete-absent st ss f r a A l)

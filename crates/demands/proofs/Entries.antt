@@ -18,12 +18,13 @@ use Rattle.drum.proofs.Good.{caps}
 use Rattle.demands.proofs.Lists.{All, all-left, all-right, map-append}
 use Rattle.demands.proofs.Rows.{cat, length-cat, Each, tab, firstIn}
 use Rattle.demands.proofs.Flat.{block-tab, key-tab}
-use Rattle.demands.proofs.Find.{KeyRow, from-is, firstIn-map, firstIn-same}
+use Rattle.demands.proofs.Find.{KeyRow, from-is, table-from-is}
+use Rattle.table.proofs.RowSearch.{firstIn-map, firstIn-same}
 use Rattle.layout.specs.Tree.{Leaf, Section}
 use Rattle.demands.proofs.Trees.{bd, entry, indexText}
 use Rattle.demands.proofs.Holds.{Free, LeafOk, SectionOk, lastBound, masterEntry, masterWords, masterText, headOr}
 use Rattle.demands.proofs.Locate.{secBd}
-use Rattle.demands.proofs.Texts.{count-table, table-tab, table-length, table-block, table-key}
+use Rattle.demands.proofs.Texts.{count-table, length-table, table-names, table-key}
 use Rattle.demands.proofs.Blocks.{masterOf, behind}
 
 module _ {A : Type 0} (k : ℕ) (bound : A → List ℕ) (blk : A → ℕ) where
@@ -76,7 +77,7 @@ module _ (p : Description) where
 
   pub index-long : goodParams p ≡ true → (ls : List Leaf) → All (LeafOk p) ls → length ls ≤ I p → length (indexText (p .wpb) ls) ≡ p .wpb
   unfolding indexText
-  index-long g ls ok l = table-length (p .wpb) (p .k + 1) (map entry ls) (index-rows ls ok) (rw (length-map ls entry) (omega (arith, caps p g .entries-fit, mul-le-mul-right (p .k + 1) l)))
+  index-long g ls ok l = length-table (p .wpb) (p .k + 1) (map entry ls) (index-rows ls ok) (rw (length-map ls entry) (omega (arith, caps p g .entries-fit, mul-le-mul-right (p .k + 1) l)))
 
   pub index-from : (w : List ℕ) → allWords w ≡ true → length w ≡ p .k → (ls : List Leaf) → All (LeafOk p) ls
       → rowFrom (indexShape p) w (indexText (p .wpb) ls) ≡ firstIn (λ l. leb (val w) (bd (p .k) l)) ls
@@ -84,9 +85,7 @@ module _ (p : Description) where
   index-from w wide long ls ok =
       let bo : All (Bounded (p .k) (λ (l : Leaf). l .bound) (λ (l : Leaf). l .block)) ls = leaves-bounded p ls ok in
       let each : Each (p .k + 1) (map entry ls) = rows-each (p .k) (λ (l : Leaf). l .bound) (λ (l : Leaf). l .block) ls bo in
-      ap (rowFrom (indexShape p) w) (table-tab (p .wpb) (p .k + 1) (map entry ls) each)
-      ∙ from-is (indexShape p) [] refl (omega arith) (map entry ls) each (p .wpb - 1 - length (map entry ls) * (p .k + 1)) [] w wide
-      (rows-key (p .k) (λ (l : Leaf). l .bound) (λ (l : Leaf). l .block) w wide long ls bo)
+      table-from-is (indexShape p) (omega arith) (map entry ls) each w wide (rows-key (p .k) (λ (l : Leaf). l .bound) (λ (l : Leaf). l .block) w wide long ls bo) refl (p .wpb)
       ∙ rows-bound (p .k) (λ (l : Leaf). l .bound) (λ (l : Leaf). l .block) w ls bo
 
   module _ (low : List Leaf) (l : Leaf) (high : List Leaf) (ok : All (LeafOk p) (low ++ (l ∷ high))) where
@@ -94,14 +93,14 @@ module _ (p : Description) where
     unfolding indexShape indexText entry
     index-at =
         rw (map-append entry low (l ∷ high), ← length-map low entry)
-        (table-block (indexShape p) refl (p .wpb) (map entry low) (map entry high) (index-rows low (all-left (LeafOk p) low _ ok)) (index-rows high (all-right (LeafOk p) low _ ok .1))
+        (table-names (indexShape p) refl (p .wpb) (map entry low) (map entry high) (index-rows low (all-left (LeafOk p) low _ ok)) (index-rows high (all-right (LeafOk p) low _ ok .1))
         refl (l .bound) (all-right (LeafOk p) low _ ok .0 .bound) (l .block))
 
     pub index-key : keyAt (indexShape p) (indexText (p .wpb) (low ++ (l ∷ high))) (length low) ≡ l .bound
     unfolding indexShape indexText entry
     index-key =
         rw (map-append entry low (l ∷ high), ← length-map low entry)
-        (table-key (indexShape p) refl (p .wpb) (map entry low) (map entry high) (index-rows low (all-left (LeafOk p) low _ ok)) (index-rows high (all-right (LeafOk p) low _ ok .1))
+        (table-key (p .wpb) (indexShape p) refl (map entry low) (map entry high) (index-rows low (all-left (LeafOk p) low _ ok)) (index-rows high (all-right (LeafOk p) low _ ok .1))
         (l .bound ++ (l .block ∷ [])) (rw (length-append (l .bound) (l .block ∷ []), all-right (LeafOk p) low _ ok .0 .bound)) (omega arith)
         ∙ take-at (l .bound) (l .block ∷ []) (p .k) (all-right (LeafOk p) low _ ok .0 .bound))
 
@@ -156,9 +155,8 @@ module _ (p : Description) where
     master-from w wide long =
         let bo : All (Bounded (p .k) (λ (s : Section). lastBound [] (s .leaves)) (λ (s : Section). s .block)) ss = sections-bounded p ss ok in
         ap (rowFrom (masterShape p) w) file-tab
-        ∙ from-is (masterShape p) (front f) refl (omega arith) (map (masterEntry p) ss)
-        (rows-each (p .k) (λ (s : Section). lastBound [] (s .leaves)) (λ (s : Section). s .block) ss bo) (slack (length (map (masterEntry p) ss))) (behind p file) w wide
-        (rows-key (p .k) (λ (s : Section). lastBound [] (s .leaves)) (λ (s : Section). s .block) w wide long ss bo)
+        ∙ from-is (masterShape p) (omega arith) (map (masterEntry p) ss) (rows-each (p .k) (λ (s : Section). lastBound [] (s .leaves)) (λ (s : Section). s .block) ss bo) w wide
+        (rows-key (p .k) (λ (s : Section). lastBound [] (s .leaves)) (λ (s : Section). s .block) w wide long ss bo) (front f) refl (slack (length (map (masterEntry p) ss))) (behind p file)
         ∙ rows-bound (p .k) (λ (s : Section). lastBound [] (s .leaves)) (λ (s : Section). s .block) w ss bo
 
   module _ (file : List ℕ) (bs : List Section) (s : Section) (cs : List Section) (f : Free) (h : masterOf p file ≡ masterText p (bs ++ s ∷ cs) f) (ok : All (SectionOk p) (bs ++ s ∷ cs)) where
@@ -173,7 +171,7 @@ module _ (p : Description) where
     unfolding masterShape
     master-at =
         rw (file-tab file (bs ++ s ∷ cs) f h ok, seam, ← length-map bs (masterEntry p))
-        (block-tab (masterShape p) (front f) refl (map (masterEntry p) bs) (master-rows bs (all-left (SectionOk p) bs _ ok)) (lastBound [] (s .leaves)) (s .block) sized (map (masterEntry p) cs) _ _)
+        (block-tab (masterShape p) (front f) refl (map (masterEntry p) bs) (master-rows bs (all-left (SectionOk p) bs _ ok)) (lastBound [] (s .leaves)) (s .block) sized (map (masterEntry p) cs) _ _ refl)
 
     pub master-key : keyAt (masterShape p) file (length bs) ≡ lastBound [] (s .leaves)
     unfolding masterShape

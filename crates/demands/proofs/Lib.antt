@@ -48,3 +48,14 @@ pub mod Ascends
 pub mod Words
 pub mod Told
 pub mod Opens
+pub mod Calls
+pub mod Changes
+pub mod Costs
+pub mod Demands
+pub mod Growth
+pub mod History
+pub mod InUse
+pub mod Potential
+pub mod Standing
+pub mod Stepped
+pub mod Within

@@ -21,7 +21,7 @@ use Rattle.demands.proofs.Flat.{count-tab, entered-tab, inserted-tab, r
 use Rattle.layout.specs.Tree.{Leaf, Section}
 use Rattle.demands.proofs.Trees.{table, entry, indexText}
 use Rattle.demands.proofs.Holds.{Free, LeafOk, SectionOk, lastBound, masterEntry, masterWords, masterText, headOr}
-use Rattle.demands.proofs.Texts.{table-insert, table-remove, table-rekey, table-renamed, table-entered}
+use Rattle.demands.proofs.Texts.{table-insert, table-remove, table-rekey, table-rename, table-enter}
 use Rattle.demands.proofs.Entries.{last-bounded, index-rows, count-index, master-rows, master-tab, slack, front}
 
 module _ (p : Description) where
@@ -119,7 +119,7 @@ module _ (p : Description) where
     index-removed room =
         let n : length (map entry low ++ entry l ∷ map entry high) ≤ I p = rw (← map-append entry low (l ∷ high), length-map (low ++ (l ∷ high)) entry) room in
         rw (map-append entry low (l ∷ high), map-append entry low high, ← length-map low entry)
-        (table-remove (indexShape p) refl (p .wpb) (map entry low) (map entry high) left-rows right-rows (l .bound ++ (l .block ∷ [])) (rw (length-append (l .bound) (l .block ∷ []), l-ok .bound)) (fill _ n))
+        (table-remove (p .wpb) (indexShape p) refl (map entry low) (map entry high) left-rows right-rows (l .bound ++ (l .block ∷ [])) (rw (length-append (l .bound) (l .block ∷ []), l-ok .bound)) (fill _ n))
 
     -- another bound
     pub index-rekeyed : (b : List ℕ) → length b ≡ p .k
@@ -128,7 +128,7 @@ module _ (p : Description) where
     index-rekeyed b e =
         let l′ : Leaf = record { bound = b; block = l .block; records = l .records } in
         rw (map-append entry low (l ∷ high), map-append entry low (l′ ∷ high), ← length-map low entry)
-        (table-rekey (indexShape p) refl (p .wpb) (map entry low) (map entry high) left-rows right-rows refl (l .bound) (l-ok .bound) (l .block) b e)
+        (table-rekey (p .wpb) (indexShape p) refl (map entry low) (map entry high) left-rows right-rows (l .bound) b (l .block ∷ []) (l-ok .bound ∙ sym e) (rw (length-append (l .bound) (l .block ∷ []), l-ok .bound)))
 
     -- an entry becomes two
     pub index-entered : (l₁ l₂ : Leaf) → LeafOk p l₁ → l₂ .bound ≡ l .bound → suc (length (low ++ (l ∷ high))) ≤ I p
@@ -139,7 +139,7 @@ module _ (p : Description) where
         let e : map entry (low ++ (l₁ ∷ (l₂ ∷ high))) ≡ rows = rw (map-append entry low (l₁ ∷ (l₂ ∷ high)), same) in
         let n : length rows ≤ I p = rw (← e, length-map (low ++ (l₁ ∷ (l₂ ∷ high))) entry, length-append low (l₁ ∷ (l₂ ∷ high))) (omega (arith, rw (length-append low (l ∷ high)) at room)) in
         rw (map-append entry low (l ∷ high), e, ← length-map low entry)
-        (table-entered (indexShape p) refl (p .wpb) (map entry low) (map entry high) left-rows right-rows refl (l .bound) (l-ok .bound) (l .block) (l₂ .block) (entry l₁) (rw (length-append (l₁ .bound) (l₁ .block ∷ []), ok₁ .bound)) (fill _ n))
+        (table-enter (p .wpb) (indexShape p) refl (map entry low) (map entry high) left-rows right-rows refl (l .bound) (l-ok .bound) (l .block) (l₂ .block) (entry l₁) (rw (length-append (l₁ .bound) (l₁ .block ∷ []), ok₁ .bound)) (fill _ n))
 
     -- the entry names another block
     pub index-renamed : (b : ℕ) → renamed (indexShape p) (length low) b (indexText (p .wpb) (low ++ (l ∷ high))) ≡ indexText (p .wpb) (low ++ (record { bound = l .bound; block = b; records = l .records } ∷ high))
@@ -147,7 +147,7 @@ module _ (p : Description) where
     index-renamed b =
         let l′ : Leaf = record { bound = l .bound; block = b; records = l .records } in
         rw (map-append entry low (l ∷ high), map-append entry low (l′ ∷ high), ← length-map low entry)
-        (table-renamed (indexShape p) refl (p .wpb) (map entry low) (map entry high) left-rows right-rows refl (l .bound) (l-ok .bound) (l .block) b)
+        (table-rename (p .wpb) (indexShape p) refl (map entry low) (map entry high) left-rows right-rows refl (l .bound) (l-ok .bound) (l .block) b)
 
 -- ---- XTEND's changes at the end: the last bound becomes the key, and an entry under ONES follows
 
@@ -178,7 +178,7 @@ module _ (p : Description) (g : goodParams p ≡ true) (key : List ℕ) (long : 
         put-in : (ls : List Leaf) → All (LeafOk p) ls → suc (length ls) ≤ I p → (b : ℕ) → inserted (indexShape p) (length ls) (onesEntry p b) (indexText (p .wpb) ls) ≡ table (p .wpb) (map entry ls ++ onesEntry p b ∷ [])
         put-in ls oks room b = unfold indexText indexShape in
             rw (← length-map ls entry) (ap (λ (z : List (List ℕ)). inserted (indexShape p) (length (map entry ls)) (onesEntry p b) (table (p .wpb) z)) (sym (append-nil (map entry ls)))
-            ∙ table-insert (indexShape p) refl (p .wpb) (map entry ls) [] (index-rows p ls oks) tt (onesEntry p b) (ones-long b)
+            ∙ table-insert (p .wpb) (indexShape p) refl (map entry ls) [] (index-rows p ls oks) tt (onesEntry p b) (ones-long b)
             (rw (length-append (map entry ls) (onesEntry p b ∷ []), length-map ls entry) (omega (arith, caps p g .entries-fit, mul-le-mul-right (p .k + 1) room))))
 
         again : (ls : List Leaf) → table (p .wpb) (map entry ls ++ onesEntry p (l₂ .block) ∷ []) ≡ indexText (p .wpb) (ls ++ (l₂ ∷ []))

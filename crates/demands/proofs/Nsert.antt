@@ -30,7 +30,7 @@ use Rattle.layout.specs.Tree.{Leaf, Section}
 use Rattle.demands.proofs.Trees.{leavesOf, contents, key, table}
 use Rattle.demands.proofs.Holds.{Free, Holds, LeafOk, RowOk, headOr}
 use Rattle.demands.proofs.Steps.{withRows}
-use Rattle.demands.proofs.Places.{Place, treeWith, lo, hi, leaf-text, leaf-ok, asc-new, ins-here}
+use Rattle.demands.proofs.Places.{Place, treeWith, lo, hi, leaf-text, leaf-ok, asc-new, ins-here, treeOf}
 use Rattle.demands.proofs.Texts.{count-table}
 use Rattle.demands.proofs.Blocks.{masterOf}
 use Rattle.demands.proofs.Entries.{head-is, lowest-is}
@@ -42,6 +42,8 @@ use Rattle.demands.proofs.Reach.{At, way-cost}
 use Rattle.demands.proofs.Lookup.{Covers}
 use Rattle.demands.proofs.Stores.{asc-rows, stop-gives, store-gives}
 use Rattle.demands.proofs.Frees.{storedWith, FreeOk, free-ok, stored-number}
+use Rattle.demands.proofs.Growth.{nothing, aRecord, grow-from}
+use Rattle.demands.proofs.Changes.{grow-room}
 
 module _ (st : State) (ss : List Section) (f : Free) (r : Ready (desc st .wpr) st ss f) where
   abbrev p : Description
@@ -68,16 +70,16 @@ module _ (st : State) (ss : List Section) (f : Free) (r : Ready (desc st .wpr) s
   nsert-by d e ed ee = ready-pass st ss f (p .wpr) r (nsertSteps v flag (st .work)) e (ap (λ (m : Checked Insert). m >>= (λ x. insertDone v flag (st .work) x)) ed ∙ ee)
 
   -- "lookup done; workspace, position kept"
-  pub stop-nsert : (a : Place) (way : Way) → At v flag ss f a way → (n : ℕ) → insertDeed v flag w ≡ passed (Stop way n) → Gives st (nsert st) n 3 rows
+  pub stop-nsert : (a : Place) (way : Way) → At v flag ss f a way → (n : ℕ) → insertDeed v flag w ≡ passed (Stop way n) → Gives st ss (nsert st) n 3 rows nothing
   unfolding insertDone
   stop-nsert a way A n e =
       let here : Reached = reached v flag way in
       let back : Kept (leftBy v here) (here .flag) ss f = subst (λ (z : List Section). Kept (leftBy v here) (here .flag) z f) (sym (A .is)) (A .kept) in
-      subst (λ (z : Outcome). Gives st z n 3 rows) (sym (nsert-by (Stop way n) (stopping n (st .work) here) e refl))
+      subst (λ (z : Outcome). Gives st ss z n 3 rows nothing) (sym (nsert-by (Stop way n) (stopping n (st .work) here) e refl))
       (stop-gives st ss f (r .sound) (r .opened) here 3 (way-cost v flag way) back n (st .work))
 
   -- NSERT of a key that stands there
-  pub nsert-duplicate : (a : Place) (way : Way) → At v flag ss f a way → (i : ℕ) → look v flag w ≡ passed (Found way i) → Gives st (nsert st) notFound 3 rows
+  pub nsert-duplicate : (a : Place) (way : Way) → At v flag ss f a way → (i : ℕ) → look v flag w ≡ passed (Found way i) → Gives st ss (nsert st) notFound 3 rows nothing
   unfolding insertDeed insertAfter
   nsert-duplicate a way A i l = stop-nsert a way A notFound (simp l)
 
@@ -133,7 +135,7 @@ module _ (st : State) (ss : List Section) (f : Free) (r : Ready (desc st .wpr) s
 
     -- ---- "if the block has room, insert"
 
-    pub nsert-room : length (a .leaf .records) < D p → Gives st (nsert st) (storedWith p (length (a .leaf .records) + 1) f) 3 (ins K (st .work) rows)
+    pub nsert-room : length (a .leaf .records) < D p → Gives st ss (nsert st) (storedWith p (length (a .leaf .records) + 1) f) 3 (ins K (st .work) rows) aRecord
     unfolding insertAt roomDeed insertDone
     nsert-room less =
         let n : ℕ = storedWith p (length (a .leaf .records) + 1) f in
@@ -147,7 +149,8 @@ module _ (st : State) (ss : List Section) (f : Free) (r : Ready (desc st .wpr) s
         let words : t ≡ table (p .wpb) (ins K (st .work) rs)
         = ap (λ (x : List ℕ). inserted (detailShape p) place x (here .buffer)) (work-is st ss f r) ∙ ap (inserted (detailShape p) place (st .work)) (A .buffer-is)
         ∙ record-ins p kr rs (st .work) (lk .rows) (r .work-length) fits in
-        subst (λ (z : Outcome). Gives st z n 3 (ins K (st .work) rows)) (sym (nsert-by (Room (pathOf a) place n) (storing n (st .work) here t) deed refl))
+        subst (λ (z : Outcome). Gives st ss z n 3 (ins K (st .work) rows) aRecord) (sym (nsert-by (Room (pathOf a) place n) (storing n (st .work) here t) deed refl))
         (store-gives st ss f (r .sound) (r .opened) here 3 (way-cost v flag (By (pathOf a))) a (A .kept) (A .current-is) (ins K (st .work) rs) (ins K (st .work) rows) t n (st .work) words asc-ins-here
         (omega (arith, len)) (omega (arith, len)) (all-ins K (RowOk p) (st .work) rs (work-ok st ss f r) (lk .rows))
-        (ins-contents (withRows p (a .leaf) (ins K (st .work) rs) ∷ []) (append-nil (ins K (st .work) rs))) ins-ended kw)
+        (ins-contents (withRows p (a .leaf) (ins K (st .work) rs) ∷ []) (append-nil (ins K (st .work) rs))) ins-ended kw aRecord
+        (grow-from p ss (treeOf a) _ aRecord (A .is) (grow-room p (r .sound .kept .good) a (withRows p (a .leaf) (ins K (st .work) rs)) len)))

@@ -36,6 +36,7 @@ use Rattle.demands.proofs.Reach.{At}
 use Rattle.demands.proofs.Lookup.{Covers}
 use Rattle.demands.proofs.Frees.{next, freeCount, taken, takenOf, storedWith, FreeOk, free-taken, taken-count, stored-number, grant-none, grant-some, next-outside, second-outside, second-other, next-in, second-in, new-pass}
 use Rattle.demands.proofs.Nsert.{stop-nsert, deed-at, place, held, free₀}
+use Rattle.demands.proofs.Growth.{nothing}
 
 module _ (st : State) (ss : List Section) (f : Free) (r : Ready (desc st .wpr) st ss f) (kw : Key (desc st) (keyIn (desc st) (st .work))) (a : Place)
     (A : At (texts st) (st .session .flag) ss f a (By (pathOf a))) (C : Covers (texts st) (keyIn (desc st) (st .work)) a)
@@ -93,7 +94,7 @@ module _ (st : State) (ss : List Section) (f : Free) (r : Ready (desc st .wpr) s
     to-split : insertDeed v flag (keyIn p (st .work)) ≡ splitDeed v flag (pathOf a) i
     to-split = deed-at st ss f r kw a A C none l ∙ not-room ∙ simp (lt-ltb (length (olds a)) (I p) less)
 
-    pub nsert-none : freeCount f ≡ 0 → Gives st (nsert st) noRoom 3 rows
+    pub nsert-none : freeCount f ≡ 0 → Gives st ss (nsert st) noRoom 3 rows nothing
     unfolding splitDeed splitWith
     nsert-none z = stop-nsert st ss f r a (By (pathOf a)) A noRoom (to-split ∙ simp (heads, lows, grant-none v f fr z))
 
@@ -117,18 +118,18 @@ module _ (st : State) (ss : List Section) (f : Free) (r : Ready (desc st .wpr) s
     secs : sections (st .file) ≡ length ss
     secs = sections-is p (st .file) ss f (hd .master-is) (hd .sized)
 
-    pub nsert-none-both : freeCount f ≡ 0 → Gives st (nsert st) noRoom 3 rows
+    pub nsert-none-both : freeCount f ≡ 0 → Gives st ss (nsert st) noRoom 3 rows nothing
     unfolding bothDeed bothAfter bothWith
     nsert-none-both z = stop-nsert st ss f r a (By (pathOf a)) A noRoom (to-both ∙ simp (heads, lows, grant-none v f fr z))
 
-    pub nsert-few : freeCount f ≡ 1 → Gives st (nsert st) noRoom 3 rows
+    pub nsert-few : freeCount f ≡ 1 → Gives st ss (nsert st) noRoom 3 rows nothing
     unfolding bothDeed bothAfter bothWith
     nsert-few z =
         let some : 1 ≤ freeCount f = omega arith in
         stop-nsert st ss f r a (By (pathOf a)) A noRoom
         (to-both ∙ simp (heads, lows, grant-some v f fr some, grant-none v (taken f) (free-taken v f fr some) (omega (arith, z, taken-count f some)), ne-eqb (next f) 0 (λ e. omega (arith, e, next-in p _ _ ss f hd some))))
 
-    pub nsert-sections : 2 ≤ freeCount f → p .control ≤ length ss → Gives st (nsert st) noRoom 3 rows
+    pub nsert-sections : 2 ≤ freeCount f → p .control ≤ length ss → Gives st ss (nsert st) noRoom 3 rows nothing
     unfolding bothDeed bothAfter bothWith
     nsert-sections two c =
         let some : 1 ≤ freeCount f = omega arith in

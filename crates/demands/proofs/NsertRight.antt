@@ -38,20 +38,21 @@ use Rattle.demands.proofs.NsertTexts.{news-length}
 use Rattle.demands.proofs.Nsert.{nsert-duplicate, nsert-room}
 use Rattle.demands.proofs.NsertDeed.{nsert-none, nsert-none-both, nsert-few, nsert-sections}
 use Rattle.demands.proofs.NsertSplit.{nsert-split, nsert-both}
+use Rattle.demands.proofs.Growth.{nothing, aRecord, aSplit, bothSplit}
 
 -- what NSERT comes to, with the number it answers; a is the place of the block that the record belongs in
 pub data Nserted (st : State) (ss : List Section) (f : Free) : Type 0 where
-  duplicate : (x : List ℕ) → hit (key (desc st .k)) (val (keyIn (desc st) (st .work))) (contents (leavesOf ss)) ≡ x ∷ [] → Gives st (nsert st) notFound 3 (contents (leavesOf ss)) → Nserted st ss f
+  duplicate : (x : List ℕ) → hit (key (desc st .k)) (val (keyIn (desc st) (st .work))) (contents (leavesOf ss)) ≡ x ∷ [] → Gives st ss (nsert st) notFound 3 (contents (leavesOf ss)) nothing → Nserted st ss f
   room : hit (key (desc st .k)) (val (keyIn (desc st) (st .work))) (contents (leavesOf ss)) ≡ [] → (a : Place) → ss ≡ treeOf a → length (a .leaf .records) < D (desc st)
-      → Gives st (nsert st) (storedWith (desc st) (length (a .leaf .records) + 1) f) 3 (ins (key (desc st .k)) (st .work) (contents (leavesOf ss))) → Nserted st ss f
+      → Gives st ss (nsert st) (storedWith (desc st) (length (a .leaf .records) + 1) f) 3 (ins (key (desc st .k)) (st .work) (contents (leavesOf ss))) aRecord → Nserted st ss f
   split : hit (key (desc st .k)) (val (keyIn (desc st) (st .work))) (contents (leavesOf ss)) ≡ [] → (a : Place) → ss ≡ treeOf a → length (a .leaf .records) ≡ D (desc st) → length (olds a) < I (desc st)
-      → 1 ≤ freeCount f → (i : ℕ) → Gives st (nsert st) (storedWith (desc st) (halfCount (D (desc st)) i) (taken f)) 7 (ins (key (desc st .k)) (st .work) (contents (leavesOf ss))) → Nserted st ss f
+      → 1 ≤ freeCount f → (i : ℕ) → Gives st ss (nsert st) (storedWith (desc st) (halfCount (D (desc st)) i) (taken f)) 7 (ins (key (desc st .k)) (st .work) (contents (leavesOf ss))) aSplit → Nserted st ss f
   both : hit (key (desc st .k)) (val (keyIn (desc st) (st .work))) (contents (leavesOf ss)) ≡ [] → (a : Place) → ss ≡ treeOf a → length (a .leaf .records) ≡ D (desc st) → length (olds a) ≡ I (desc st)
       → 2 ≤ freeCount f → length ss < desc st .control → (i : ℕ)
-      → Gives st (nsert st) (storedWith (desc st) (halfCount (D (desc st)) i) (taken (taken f))) 8 (ins (key (desc st .k)) (st .work) (contents (leavesOf ss))) → Nserted st ss f
+      → Gives st ss (nsert st) (storedWith (desc st) (halfCount (D (desc st)) i) (taken (taken f))) 8 (ins (key (desc st .k)) (st .work) (contents (leavesOf ss))) bothSplit → Nserted st ss f
   no-room : hit (key (desc st .k)) (val (keyIn (desc st) (st .work))) (contents (leavesOf ss)) ≡ [] → (a : Place) → ss ≡ treeOf a → length (a .leaf .records) ≡ D (desc st)
       → (freeCount f ≡ 0) ⊎ ((length (olds a) ≡ I (desc st)) × ((freeCount f ≡ 1) ⊎ (desc st .control ≤ length ss)))
-      → Gives st (nsert st) noRoom 3 (contents (leavesOf ss)) → Nserted st ss f
+      → Gives st ss (nsert st) noRoom 3 (contents (leavesOf ss)) nothing → Nserted st ss f
 
 module _ (st : State) (ss : List Section) (f : Free) (r : Ready (desc st .wpr) st ss f) (kw : Key (desc st) (keyIn (desc st) (st .work))) where
   abbrev p : Description

@@ -41,9 +41,11 @@ use Rattle.rules.specs.Free.{withFree}
 use Rattle.demands.proofs.Cells.{Cell}
 use Rattle.demands.proofs.Masters.{master-entered}
 use Rattle.demands.proofs.Acts.{low-fits, high-fits, index-fits, two-spot, two-gives, leaves-cut, half-spot, last-cut, four-gives}
-use Rattle.demands.proofs.NsertTexts.{low-ok, high-ok, low-is, high-is, index-is, news-length, news-ok, size₂, index-low, index-high, index-entry}
+use Rattle.demands.proofs.NsertTexts.{low-ok, high-ok, low-is, high-is, index-is, news-length, news-ok, size₂, index-low, index-high, index-entry, size}
 use Rattle.demands.proofs.Nsert.{nsert-by, place, held, asc-ins-here, ins-contents, ins-ended}
 use Rattle.demands.proofs.NsertDeed.{split-deed, both-deed}
+use Rattle.demands.proofs.Growth.{aSplit, bothSplit, grow-from}
+use Rattle.demands.proofs.Changes.{grow-split, grow-both}
 
 module _ (st : State) (ss : List Section) (f : Free) (r : Ready (desc st .wpr) st ss f) (kw : Key (desc st) (keyIn (desc st) (st .work))) (a : Place)
     (A : At (texts st) (st .session .flag) ss f a (By (pathOf a))) (C : Covers (texts st) (keyIn (desc st) (st .work)) a)
@@ -105,8 +107,14 @@ module _ (st : State) (ss : List Section) (f : Free) (r : Ready (desc st .wpr) s
     cost : (ms : List Transfer) (n : ℕ) → length ms ≡ n → length (reached v flag (By (pathOf a)) .moves ++ ms) ≤ 3 + n
     cost ms n e = rw (length-append (reached v flag (By (pathOf a)) .moves) ms) (omega (arith, e, way-cost v flag (By (pathOf a))))
 
+    low-length : length (leaf₁ .records) ≡ lowCount (D p)
+    low-length = rw (length-append xs (y ∷ [])) (omega (arith, lx))
+
+    high-length : length (leaf₂ .records) ≡ D p + 1 - lowCount (D p)
+    high-length = omega (arith, size v a f (A .held) good (st .work) (work-ok st ss f r) full xs y ys cut lx nb, lx)
+
     -- the leaf becomes two
-    pub nsert-split : length (olds a) < I p → 1 ≤ freeCount f → Gives st (nsert st) (storedWith p (halfCount (D p) i) (taken f)) 7 (ins K (st .work) rows)
+    pub nsert-split : length (olds a) < I p → 1 ≤ freeCount f → Gives st ss (nsert st) (storedWith p (halfCount (D p) i) (taken f)) 7 (ins K (st .work) rows) aSplit
     unfolding insertDone splitFile splitMoves writes leafCell
     nsert-split less some =
         let n : ℕ = storedWith p (halfCount (D p) i) (taken f) in
@@ -136,9 +144,10 @@ module _ (st : State) (ss : List Section) (f : Free) (r : Ready (desc st .wpr) s
             ),
           ),
         ) in
-        subst (λ (z : Outcome). Gives st z n 7 (ins K (st .work) rows)) (sym (nsert-by st ss f r (Split (pathOf a) i (takenOf f) n) e (split-deed st ss f r kw a A C none l full less some) done))
+        subst (λ (z : Outcome). Gives st ss z n 7 (ins K (st .work) rows) aSplit) (sym (nsert-by st ss f r (Split (pathOf a) i (takenOf f) n) e (split-deed st ss f r kw a A C none l full less some) done))
         (two-gives st ss f (r .sound) (r .opened) kw a way A xs y ys nb asc ok₁ ok₂ refl some less ms ws ms-is fit (λ w. refl) (ins K (st .work) rows) now (ins-ended st ss f r kw a A C none l)
-        (cond inLow (a .leaf .block) nb) (two-spot st ss f (r .sound) (r .opened) kw a way A xs y ys nb asc ok₁ ok₂ inLow) n 7 (cost ms 4 refl))
+        (cond inLow (a .leaf .block) nb) (two-spot st ss f (r .sound) (r .opened) kw a way A xs y ys nb asc ok₁ ok₂ inLow) n 7 (cost ms 4 refl) aSplit
+        (grow-from p ss (treeOf a) _ aSplit (A .is) (grow-split p good a leaf₁ leaf₂ full low-length high-length)))
 
     -- the section becomes two besides
     module _ (most : length (olds a) ≡ I (desc st)) (qs : List Leaf) (q : Leaf) (zs : List Leaf)
@@ -176,7 +185,7 @@ module _ (st : State) (ss : List Section) (f : Free) (r : Ready (desc st .wpr) s
       all-ok : All (LeafOk p) (us ++ zs)
       all-ok = rw joined (news-ok v a f (A .held) good (st .work) (work-ok st ss f r) full xs y ys cut lx nb)
 
-      pub nsert-both : 2 ≤ freeCount f → length ss < p .control → Gives st (nsert st) (storedWith p (halfCount (D p) i) (taken (taken f))) 8 (ins K (st .work) rows)
+      pub nsert-both : 2 ≤ freeCount f → length ss < p .control → Gives st ss (nsert st) (storedWith p (halfCount (D p) i) (taken (taken f))) 8 (ins K (st .work) rows) bothSplit
       unfolding insertDone bothFile bothMoves writes leafCell
       nsert-both two c =
           let n : ℕ = storedWith p (halfCount (D p) i) (taken (taken f)) in
@@ -219,7 +228,8 @@ module _ (st : State) (ss : List Section) (f : Free) (r : Ready (desc st .wpr) s
           ∙ master-entered p good (a .before) (sec (a .index) (olds a)) (a .behind) (A .held .sized) f₂ rest (sec (a .index) us) (sec nib zs)
           (record { some = a₁; room = a₂; leaves = all-left (LeafOk p) us _ all-ok })
           (last-cut st ss f (r .sound) (r .opened) kw a way A xs y ys nb asc ok₁ ok₂ nib us zs joined a₁ a₂ b₁ b₂) (rw (← A .is) c) in
-          subst (λ (z : Outcome). Gives st z n 8 (ins K (st .work) rows)) (sym (nsert-by st ss f r (Both (pathOf a) i nb (takenOf (taken f)) n) e (both-deed st ss f r kw a A C none l full most two c) done))
+          subst (λ (z : Outcome). Gives st ss z n 8 (ins K (st .work) rows) bothSplit) (sym (nsert-by st ss f r (Both (pathOf a) i nb (takenOf (taken f)) n) e (both-deed st ss f r kw a A C none l full most two c) done))
           (four-gives st ss f (r .sound) (r .opened) kw a way A xs y ys nb asc ok₁ ok₂ nib us zs joined a₁ a₂ b₁ b₂ refl refl two (rw (← A .is) c) ms ws ms-is fit (λ w. refl) op law
           (ins K (st .work) rows) (ap contents (leaves-cut st ss f (r .sound) (r .opened) kw a way A xs y ys nb asc ok₁ ok₂ nib us zs joined a₁ a₂ b₁ b₂) ∙ now) (ins-ended st ss f r kw a A C none l)
-          d (half-spot st ss f (r .sound) (r .opened) kw a way A xs y ys nb asc ok₁ ok₂ nib us zs joined a₁ a₂ b₁ b₂ inLow) n 8 (cost ms 5 refl))
+          d (half-spot st ss f (r .sound) (r .opened) kw a way A xs y ys nb asc ok₁ ok₂ nib us zs joined a₁ a₂ b₁ b₂ inLow) n 8 (cost ms 5 refl) bothSplit
+          (grow-from p ss (treeOf a) _ bothSplit (A .is) (grow-both p good a leaf₁ leaf₂ nib us zs joined full low-length high-length most us-length (omega (arith, sizes, lq)))))

@@ -19,7 +19,7 @@ use Rattle.demands.proofs.Trees.{key, table, entry, indexText}
 use Rattle.demands.proofs.Holds.{Free, Holds, LeafOk, SectionOk, RowOk, masterEntry}
 use Rattle.demands.proofs.Steps.{sec, ix, lower, upper}
 use Rattle.demands.proofs.Places.{Place, treeOf, olds, index-text, leaf-text, sec-ok, leaf-ok, lastBound-append}
-use Rattle.demands.proofs.Texts.{half, low-table, high-table, low-bound}
+use Rattle.demands.proofs.Texts.{half, low-table, high-table, bound-table}
 use Rattle.demands.proofs.Blocks.{masterOf}
 use Rattle.demands.proofs.Entries.{index-rows, index-key}
 use Rattle.demands.proofs.Paths.{pathOf}
@@ -104,19 +104,19 @@ module _ (v : Texts) (a : Place) (f : Free) (hd : Holds (v .desc) (masterOf (v .
   pub low-is : detailLow v (pathOf a) place r ≡ table (p .wpb) (xs ++ (y ∷ []))
   unfolding detailLow detailShape front
   low-is =
-      rw text (low-table (detailShape p) refl (p .wpb) front back lows highs r (D p) (ap length joined ∙ full) (xs ++ (y ∷ [])) ys (rows-long p (xs ++ (y ∷ [])) (low-ok .rows)) cut-here
+      rw text (low-table (detailShape p) refl (p .wpb) front back lows highs r (rok .0) (D p) (ap length joined ∙ full) (xs ++ (y ∷ [])) ys cut-here
       (rw (length-append xs) (omega (arith, lx))))
 
   pub high-is : detailHigh v (pathOf a) place r ≡ table (p .wpb) ys
   unfolding detailHigh detailShape front
   high-is =
-      rw text (high-table (detailShape p) refl (p .wpb) front back lows highs r (D p) (ap length joined ∙ full) (xs ++ (y ∷ [])) ys (rows-long p (xs ++ (y ∷ [])) (low-ok .rows)) cut-here
-      (rw (length-append xs) (omega (arith, lx))) (omega (arith, lx, size, halves)))
+      rw text (high-table (detailShape p) refl (p .wpb) front back lows highs r (rok .0) (D p) (ap length joined ∙ full) (xs ++ (y ∷ [])) ys cut-here
+      (rw (length-append xs) (omega (arith, lx))))
 
   pub entry-is : detailEntry v (pathOf a) place r ≡ entry l₁
   unfolding detailEntry entry detailShape
   entry-is =
-      rw (low-is, low-bound (detailShape p) refl (p .wpb) (D p) xs y (rows-long p xs (all-left (RowOk p) xs _ oks)) (all-right (RowOk p) xs _ oks .0 .0) (good-facts p g .key) lx)
+      rw (low-is, bound-table (p .wpb) (detailShape p) refl (good-facts p g .key) (D p) xs y (rows-long p xs (all-left (RowOk p) xs _ oks)) (all-right (RowOk p) xs _ oks .0 .0) lx)
 
   -- ---- the index block
 
@@ -171,19 +171,21 @@ module _ (v : Texts) (a : Place) (f : Free) (hd : Holds (v .desc) (masterOf (v .
     low-length : length (map entry (qs ++ (q ∷ []))) ≡ lowCount (I p)
     low-length = length-map (qs ++ (q ∷ [])) entry ∙ rw (length-append qs) (omega (arith, lq))
 
+    l₁-long : length (entry l₁) ≡ p .k + 1
+    unfolding entry
+    l₁-long = rw (length-append (l₁ .bound) (l₁ .block ∷ []), low-ok .bound)
+
     pub index-low : indexLow v (pathOf a) place r nb ≡ ix p (qs ++ (q ∷ []))
     unfolding indexLow indexText indexShape
     index-low =
         rw (entry-is, renamed-is, ← length-map (a .low) entry)
-        (low-table (indexShape p) refl (p .wpb) (map entry (a .low)) (map entry (l₀ ∷ a .high)) before after (entry l₁) (I p) count-is (map entry (qs ++ (q ∷ []))) (map entry zs)
-        (index-rows p (qs ++ (q ∷ [])) qs-ok) cut-rows low-length)
+        (low-table (indexShape p) refl (p .wpb) (map entry (a .low)) (map entry (l₀ ∷ a .high)) before after (entry l₁) l₁-long (I p) count-is (map entry (qs ++ (q ∷ []))) (map entry zs) cut-rows low-length)
 
     pub index-high : indexHigh v (pathOf a) place r nb ≡ ix p zs
     unfolding indexHigh indexText indexShape
     index-high =
         rw (entry-is, renamed-is, ← length-map (a .low) entry)
-        (high-table (indexShape p) refl (p .wpb) (map entry (a .low)) (map entry (l₀ ∷ a .high)) before after (entry l₁) (I p) count-is (map entry (qs ++ (q ∷ []))) (map entry zs)
-        (index-rows p (qs ++ (q ∷ [])) qs-ok) cut-rows low-length (length-map zs entry ∙ omega (arith, size₂, lq, halves₂)))
+        (high-table (indexShape p) refl (p .wpb) (map entry (a .low)) (map entry (l₀ ∷ a .high)) before after (entry l₁) l₁-long (I p) count-is (map entry (qs ++ (q ∷ []))) (map entry zs) cut-rows low-length)
 
     bound-is : lowBound (indexShape p) (I p) (ix p (qs ++ (q ∷ []))) ≡ q .bound
     unfolding lowBound

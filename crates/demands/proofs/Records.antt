@@ -21,8 +21,8 @@ use Rattle.demands.proofs.Rows.{firstIn, None, Found, nowhere, at, foun
 use Rattle.demands.proofs.Order.{Asc, after, asc-wide, asc-left, asc-right, asc-append, below, from, below-from, below-at, from-at, below-above, ins, upd, del, hit, ins-local, upd-local, del-local}
 use Rattle.demands.proofs.Trees.{key, table}
 use Rattle.demands.proofs.Holds.{RowOk}
-use Rattle.demands.proofs.Texts.{table-tab, table-row, table-key, table-insert, table-remove, table-replace}
-use Rattle.demands.proofs.Find.{KeyRow, with-is, above-is}
+use Rattle.demands.proofs.Texts.{table-row, table-key, table-insert, table-remove, table-replace}
+use Rattle.demands.proofs.Find.{KeyRow, table-with-is, table-above-is}
 use Rattle.demands.proofs.Sound.{Ended, rows-long}
 
 -- ---- an ascending list, cut at an element
@@ -122,7 +122,7 @@ module _ (p : Description) (kr : p .k ≤ p .wpr) where
     pub at-key : AtKey (p .k) (val w) rows (rowWith (detailShape p) w (table (p .wpb) rows))
     unfolding detailShape key
     at-key =
-        rw (table-tab (p .wpb) (p .wpr) rows (rows-long p rows ok), with-is (detailShape p) [] refl kr rows (rows-long p rows ok) (p .wpb - 1 - length rows * p .wpr) [] w q (key-rows w q e rows ok))
+        rw (table-with-is (detailShape p) kr rows (rows-long p rows ok) w q (key-rows w q e rows ok) refl (p .wpb))
         (go (found (λ r. eqb (key (p .k) r) (val w)) rows))
       where
         go : Found (λ r. eqb (key (p .k) r) (val w)) rows (firstIn (λ r. eqb (key (p .k) r) (val w)) rows) → AtKey (p .k) (val w) rows (firstIn (λ r. eqb (key (p .k) r) (val w)) rows)
@@ -133,8 +133,7 @@ module _ (p : Description) (kr : p .k ≤ p .wpr) where
     pub above-at : rowAbove (detailShape p) w (table (p .wpb) rows) ≡ firstIn (λ r. ltb (val w) (key (p .k) r)) rows
     unfolding detailShape key
     above-at =
-        ap (rowAbove (detailShape p) w) (table-tab (p .wpb) (p .wpr) rows (rows-long p rows ok))
-        ∙ above-is (detailShape p) [] refl kr rows (rows-long p rows ok) (p .wpb - 1 - length rows * p .wpr) [] w q (key-rows w q e rows ok)
+        table-above-is (detailShape p) kr rows (rows-long p rows ok) w q (key-rows w q e rows ok) refl (p .wpb)
 
     -- the place for a new record
     pub new-at : hit (key (p .k)) (val w) rows ≡ [] → rowAbove (detailShape p) w (table (p .wpb) rows) ≡ length (below (key (p .k)) (val w) rows)
@@ -143,28 +142,28 @@ module _ (p : Description) (kr : p .k ≤ p .wpr) where
   pub row-here : (bs : List (List ℕ)) (r : List ℕ) (cs : List (List ℕ)) → All (RowOk p) (bs ++ r ∷ cs) → row (detailShape p) (table (p .wpb) (bs ++ r ∷ cs)) (length bs) ≡ r
   unfolding detailShape
   row-here bs r cs ok =
-      table-row (detailShape p) refl (p .wpb) bs cs (rows-long p bs (all-left (RowOk p) bs _ ok)) (rows-long p cs (all-right (RowOk p) bs _ ok .1)) r (all-right (RowOk p) bs _ ok .0 .0)
+      table-row (p .wpb) (detailShape p) refl bs cs (rows-long p bs (all-left (RowOk p) bs _ ok)) (rows-long p cs (all-right (RowOk p) bs _ ok .1)) r (all-right (RowOk p) bs _ ok .0 .0)
 
   pub key-here : (bs : List (List ℕ)) (r : List ℕ) (cs : List (List ℕ)) → All (RowOk p) (bs ++ r ∷ cs) → keyAt (detailShape p) (table (p .wpb) (bs ++ r ∷ cs)) (length bs) ≡ take (p .k) r
   unfolding detailShape
   key-here bs r cs ok =
-      table-key (detailShape p) refl (p .wpb) bs cs (rows-long p bs (all-left (RowOk p) bs _ ok)) (rows-long p cs (all-right (RowOk p) bs _ ok .1)) r (all-right (RowOk p) bs _ ok .0 .0) kr
+      table-key (p .wpb) (detailShape p) refl bs cs (rows-long p bs (all-left (RowOk p) bs _ ok)) (rows-long p cs (all-right (RowOk p) bs _ ok .1)) r (all-right (RowOk p) bs _ ok .0 .0) kr
 
   -- what is done to the words of the block
   module _ (bs : List (List ℕ)) (x : List ℕ) (cs : List (List ℕ)) where
     pub record-replace : All (RowOk p) (bs ++ x ∷ cs) → (r : List ℕ) → length r ≡ p .wpr → replaced (detailShape p) (length bs) r (table (p .wpb) (bs ++ x ∷ cs)) ≡ table (p .wpb) (bs ++ r ∷ cs)
     unfolding detailShape
     record-replace ok r lr =
-        table-replace (detailShape p) refl (p .wpb) bs cs (rows-long p bs (all-left (RowOk p) bs _ ok)) (rows-long p cs (all-right (RowOk p) bs _ ok .1)) x (all-right (RowOk p) bs _ ok .0 .0) r lr
+        table-replace (p .wpb) (detailShape p) refl bs cs (rows-long p bs (all-left (RowOk p) bs _ ok)) (rows-long p cs (all-right (RowOk p) bs _ ok .1)) x r (all-right (RowOk p) bs _ ok .0 .0) lr
 
     pub record-remove : All (RowOk p) (bs ++ x ∷ cs) → 1 + length (bs ++ x ∷ cs) * p .wpr ≤ p .wpb → removed (detailShape p) (length bs) (table (p .wpb) (bs ++ x ∷ cs)) ≡ table (p .wpb) (bs ++ cs)
     unfolding detailShape
     record-remove ok fits =
-        table-remove (detailShape p) refl (p .wpb) bs cs (rows-long p bs (all-left (RowOk p) bs _ ok)) (rows-long p cs (all-right (RowOk p) bs _ ok .1)) x (all-right (RowOk p) bs _ ok .0 .0) fits
+        table-remove (p .wpb) (detailShape p) refl bs cs (rows-long p bs (all-left (RowOk p) bs _ ok)) (rows-long p cs (all-right (RowOk p) bs _ ok .1)) x (all-right (RowOk p) bs _ ok .0 .0) fits
 
     pub record-insert : All (RowOk p) (bs ++ cs) → length x ≡ p .wpr → 1 + length (bs ++ x ∷ cs) * p .wpr ≤ p .wpb → inserted (detailShape p) (length bs) x (table (p .wpb) (bs ++ cs)) ≡ table (p .wpb) (bs ++ x ∷ cs)
     unfolding detailShape
-    record-insert ok lx fits = table-insert (detailShape p) refl (p .wpb) bs cs (rows-long p bs (all-left (RowOk p) bs _ ok)) (rows-long p cs (all-right (RowOk p) bs _ ok)) x lx fits
+    record-insert ok lx fits = table-insert (p .wpb) (detailShape p) refl bs cs (rows-long p bs (all-left (RowOk p) bs _ ok)) (rows-long p cs (all-right (RowOk p) bs _ ok)) x lx fits
 
   -- a record put in where its key goes
   pub record-ins : (rs : List (List ℕ)) (r : List ℕ) → All (RowOk p) rs → length r ≡ p .wpr → 1 + suc (length rs) * p .wpr ≤ p .wpb

@@ -24,7 +24,7 @@ use Rattle.layout.specs.Tree.{Section}
 use Rattle.demands.proofs.Trees.{leavesOf, contents, key, table}
 use Rattle.demands.proofs.Holds.{Free, LeafOk, RowOk}
 use Rattle.demands.proofs.Steps.{withRows}
-use Rattle.demands.proofs.Places.{lo, hi, leaf-ok, asc-leaf, upd-here}
+use Rattle.demands.proofs.Places.{lo, hi, leaf-ok, asc-leaf, upd-here, treeOf}
 use Rattle.demands.proofs.Blocks.{writes}
 use Rattle.demands.proofs.Paths.{pathOf}
 use Rattle.demands.proofs.Records.{row-here, record-replace, upd-at, ended-upd}
@@ -33,16 +33,18 @@ use Rattle.demands.proofs.Answers.{Ready, key-of, work-is, work-ok, wor
 use Rattle.demands.proofs.Reach.{flush-cost, way-cost, flush-pass, bring}
 use Rattle.demands.proofs.Lookup.{Looked, absent, there, looks}
 use Rattle.demands.proofs.Stores.{asc-rows, row-key, stop-gives, give-gives, store-gives}
+use Rattle.demands.proofs.Growth.{nothing, grow-none, grow-from}
+use Rattle.demands.proofs.Changes.{grow-less}
 
 -- ---- CLOSE
 
-pub close-right : (st : State) (ss : List Section) (f : Free) → Sound st ss f → st .session .opened ≡ true → Gives st (close st) done 1 (contents (leavesOf ss))
+pub close-right : (st : State) (ss : List Section) (f : Free) → Sound st ss f → st .session .opened ≡ true → Gives st ss (close st) done 1 (contents (leavesOf ss)) nothing
 unfolding close closeDone closeChecks atRest writes
 close-right st ss f h o =
     let moves : List Transfer = flushMoves (texts st) (st .session .flag) in
     let out : close st ≡ record { number = done; transfers = moves; after = record { session = atRest false (st .session); file = written (desc st) moves (st .file); buffer = st .buffer; work = st .work } }
     = simp (sizes-pass st ss f h, open-pass st o, flush-pass (texts st) (st .session .flag) ss f (h .kept)) in
-    subst (λ (z : Outcome). Gives st z done 1 (contents (leavesOf ss))) (sym out) (record {
+    subst (λ (z : Outcome). Gives st ss z done 1 (contents (leavesOf ss)) nothing) (sym out) (record {
       number-is = refl;
       most-is = flush-cost (texts st) (st .session .flag);
       desc-is = refl;
@@ -56,14 +58,15 @@ close-right st ss f h o =
         resting = λ e. (refl, refl);
       };
       contents-is = refl;
+      grows = grow-none (desc st) ss;
     })
 
 -- ---- SEEK: not found exactly where the key is not there; else the record is handed out
 
 abbrev pub SeekRight : State → List Section → Type 0
 SeekRight st ss =
-    ((hit (key (desc st .k)) (val (keyIn (desc st) (st .work))) (contents (leavesOf ss)) ≡ []) × Gives st (seek st) notFound 3 (contents (leavesOf ss)) × (seek st .after .work ≡ st .work))
-    ⊎ ((x : List ℕ) × (hit (key (desc st .k)) (val (keyIn (desc st) (st .work))) (contents (leavesOf ss)) ≡ x ∷ []) × Gives st (seek st) done 3 (contents (leavesOf ss)) × (seek st .after .work ≡ x))
+    ((hit (key (desc st .k)) (val (keyIn (desc st) (st .work))) (contents (leavesOf ss)) ≡ []) × Gives st ss (seek st) notFound 3 (contents (leavesOf ss)) nothing × (seek st .after .work ≡ st .work))
+    ⊎ ((x : List ℕ) × (hit (key (desc st .k)) (val (keyIn (desc st) (st .work))) (contents (leavesOf ss)) ≡ x ∷ []) × Gives st ss (seek st) done 3 (contents (leavesOf ss)) nothing × (seek st .after .work ≡ x))
 
 module _ (st : State) (ss : List Section) (f : Free) (r : Ready (desc st .k) st ss f) where
   seek-at : Looked (texts st) (st .session .flag) (keyIn (desc st) (st .work)) ss f → SeekRight st ss
@@ -74,7 +77,7 @@ module _ (st : State) (ss : List Section) (f : Free) (r : Ready (desc st .k) st 
       let out : seek st ≡ outcome (st .session) (stopping notFound (st .work) here)
       = ready-pass st ss f (desc st .k) r (seekSteps v (st .session .flag) (st .work)) (stopping notFound (st .work) here) (simp l) in
       let back : Kept (leftBy v here) (here .flag) ss f = subst (λ (z : List Section). Kept (leftBy v here) (here .flag) z f) (sym (A .is)) (A .kept) in
-      inl (none, subst (λ (z : Outcome). Gives st z notFound 3 (contents (leavesOf ss))) (sym out) (stop-gives st ss f (r .sound) (r .opened) here 3 (way-cost v (st .session .flag) (By (pathOf a))) back notFound (st .work)), ap (λ (z : Outcome). z .after .work) out)
+      inl (none, subst (λ (z : Outcome). Gives st ss z notFound 3 (contents (leavesOf ss)) nothing) (sym out) (stop-gives st ss f (r .sound) (r .opened) here 3 (way-cost v (st .session .flag) (By (pathOf a))) back notFound (st .work)), ap (λ (z : Outcome). z .after .work) out)
   seek-at (there a way A C bs x cs q k one l) =
       let v : Texts = texts st in
       let p : Description = desc st in
@@ -90,7 +93,7 @@ module _ (st : State) (ss : List Section) (f : Free) (r : Ready (desc st .k) st 
       inr (
         x,
         one,
-        subst (λ (z : Outcome). Gives st z done 3 (contents (leavesOf ss))) (sym out) (give-gives st ss f (r .sound) (r .opened) here 3 (way-cost v (st .session .flag) way) back done (length bs) true x at
+        subst (λ (z : Outcome). Gives st ss z done 3 (contents (leavesOf ss)) nothing) (sym out) (give-gives st ss f (r .sound) (r .opened) here 3 (way-cost v (st .session .flag) way) back done (length bs) true x at
             (λ e. row-key p kr x (all-right (RowOk p) bs _ ok .0) (rw k (kw .below)))),
         ap (λ (z : Outcome). z .after .work) out ∙ at,
       )
@@ -104,9 +107,9 @@ module _ (st : State) (ss : List Section) (f : Free) (r : Ready (desc st .k) st 
 
 abbrev pub UpdatRight : State → List Section → Type 0
 UpdatRight st ss =
-    ((hit (key (desc st .k)) (val (keyIn (desc st) (st .work))) (contents (leavesOf ss)) ≡ []) × Gives st (updat st) notFound 3 (contents (leavesOf ss)))
+    ((hit (key (desc st .k)) (val (keyIn (desc st) (st .work))) (contents (leavesOf ss)) ≡ []) × Gives st ss (updat st) notFound 3 (contents (leavesOf ss)) nothing)
     ⊎ ((x : List ℕ) × (hit (key (desc st .k)) (val (keyIn (desc st) (st .work))) (contents (leavesOf ss)) ≡ x ∷ [])
-    × Gives st (updat st) done 3 (upd (key (desc st .k)) (st .work) (contents (leavesOf ss))))
+    × Gives st ss (updat st) done 3 (upd (key (desc st .k)) (st .work) (contents (leavesOf ss))) nothing)
 
 module _ (st : State) (ss : List Section) (f : Free) (r : Ready (desc st .wpr) st ss f) (kw : Key (desc st) (keyIn (desc st) (st .work))) where
   updat-at : Looked (texts st) (st .session .flag) (keyIn (desc st) (st .work)) ss f → UpdatRight st ss
@@ -117,7 +120,7 @@ module _ (st : State) (ss : List Section) (f : Free) (r : Ready (desc st .wpr) s
       let out : updat st ≡ outcome (st .session) (stopping notFound (st .work) here)
       = ready-pass st ss f (desc st .wpr) r (updatSteps v (st .session .flag) (st .work)) (stopping notFound (st .work) here) (simp l) in
       let back : Kept (leftBy v here) (here .flag) ss f = subst (λ (z : List Section). Kept (leftBy v here) (here .flag) z f) (sym (A .is)) (A .kept) in
-      inl (none, subst (λ (z : Outcome). Gives st z notFound 3 (contents (leavesOf ss))) (sym out) (stop-gives st ss f (r .sound) (r .opened) here 3 (way-cost v (st .session .flag) (By (pathOf a))) back notFound (st .work)))
+      inl (none, subst (λ (z : Outcome). Gives st ss z notFound 3 (contents (leavesOf ss)) nothing) (sym out) (stop-gives st ss f (r .sound) (r .opened) here 3 (way-cost v (st .session .flag) (By (pathOf a))) back notFound (st .work)))
   updat-at (there a way A C bs x cs q k one l) =
       let v : Texts = texts st in
       let p : Description = desc st in
@@ -141,14 +144,15 @@ module _ (st : State) (ss : List Section) (f : Free) (r : Ready (desc st .wpr) s
       inr (
         x,
         one,
-        subst (λ (z : Outcome). Gives st z done 3 (upd K (st .work) (contents (leavesOf ss)))) (sym out)
+        subst (λ (z : Outcome). Gives st ss z done 3 (upd K (st .work) (contents (leavesOf ss))) nothing) (sym out)
             (store-gives st ss f (r .sound) (r .opened) here 3 (way-cost v (st .session .flag) way) a (A .kept) (A .current-is) (bs ++ st .work ∷ cs) (upd K (st .work) (contents (leavesOf ss))) t done (st .work) text
             (rw (← same) (asc-upd K (lo p a) (st .work) (a .leaf .records) (hi p a) asc (rw key-is (C .above)) (rw key-is (C .within))))
             (rw len (lk .some)) (rw len (lk .room))
             (all-append (RowOk p) bs (st .work ∷ cs) (all-left (RowOk p) bs _ ok) (work-ok st ss f r, all-right (RowOk p) bs _ ok .1))
             (upd-here p a f _ _ (A .held) (val (keyIn p (st .work))) (C .above) (C .within) (withRows p (a .leaf) (bs ++ st .work ∷ cs) ∷ []) (st .work) key-is (append-nil (bs ++ st .work ∷ cs) ∙ sym same)
             ∙ ap (λ (z : List Section). upd K (st .work) (contents (leavesOf z))) (sym (A .is)))
-            (ended-upd p kr (contents (leavesOf ss)) _ (asc-rows p _ _ ss f (r .sound .kept .holds)) (r .sound .kept .ended) (st .work) (rw key-is (kw .below))) kw),
+            (ended-upd p kr (contents (leavesOf ss)) _ (asc-rows p _ _ ss f (r .sound .kept .holds)) (r .sound .kept .ended) (st .work) (rw key-is (kw .below))) kw nothing
+            (grow-from p ss (treeOf a) _ nothing (A .is) (grow-less p (r .sound .kept .good) a (withRows p (a .leaf) (bs ++ st .work ∷ cs)) (omega (arith, len))))),
       )
 
 pub updat-right : (st : State) (ss : List Section) (f : Free) → Ready (desc st .wpr) st ss f → UpdatRight st ss

@@ -30,7 +30,7 @@ use Rattle.demands.proofs.Trees.{leavesOf, contents, key, table, leafCe
 use Rattle.demands.proofs.Holds.{Free, Holds, LeafOk, RowOk, masterText}
 use Rattle.demands.proofs.Steps.{withRows, replace-rows}
 use Rattle.demands.proofs.Places.{Place, treeOf, treeWith, lo, hi, Spot, spot-in, spot-text, holds-ext, master-same}
-use Rattle.demands.proofs.Texts.{table-length}
+use Rattle.demands.proofs.Texts.{length-table}
 use Rattle.demands.proofs.Blocks.{masterOf, behind, block-length, behind-block, behind-length, master-first, master-put, behind-put, writes, writes-append, Fits, wrotes-ext, wrotes-append, written-length, written-text}
 
 -- a key that a call may be given: k words, not ONES
@@ -240,7 +240,7 @@ rows-long p [] h = tt
 rows-long p (r ∷ rows) h = (h .0 .0, rows-long p rows (h .1))
 
 pub leaf-length : (p : Description) (rows : List (List ℕ)) → goodParams p ≡ true → All (RowOk p) rows → length rows ≤ D p → length (table (p .wpb) rows) ≡ p .wpb
-leaf-length p rows g ok room = table-length (p .wpb) (p .wpr) rows (rows-long p rows ok) (omega (arith, caps p g .records-fit, mul-le-mul-right (p .wpr) room))
+leaf-length p rows g ok room = length-table (p .wpb) (p .wpr) rows (rows-long p rows ok) (omega (arith, caps p g .records-fit, mul-le-mul-right (p .wpr) room))
 
 -- the leaf in the buffer gets other rows, flag on
 pub store-leaf : (v : Texts) (flag : Bool) (a : Place) (f : Free) → Kept v flag (treeOf a) f → v .current ≡ a .leaf .block

@@ -9,7 +9,7 @@ use native.Mathlib.Decide.{ℕ-discrete}
 use lib.Dec.{eqb}
 use lib.ListN.{length, length-replicate}
 use borrow.Author.Tests.{eq-eqb, ne-eqb}
-use Rattle.numbers.specs.Numbers.{done, noneFree, noRoom, notFound, outOfSequence, atEnd, badFile, wrongSize, wrongKey, isClosed, alreadyOpen}
+use Rattle.numbers.specs.Numbers.{accepted, done, noneFree, noRoom, notFound, outOfSequence, atEnd, badFile, wrongSize, wrongKey, isClosed, alreadyOpen}
 use Rattle.numbers.specs.Checked.{Checked, passed, refused, _>>_}
 use Rattle.words.specs.Words.{part, allWords}
 use Rattle.words.specs.Keys.{isOnes}
@@ -39,6 +39,7 @@ use Rattle.demands.proofs.DleteRight.{dlete-right}
 use Rattle.demands.proofs.AdvRight.{adv-right}
 use Rattle.demands.proofs.Last.{Last}
 use Rattle.demands.proofs.XtendRight as x
+use Rattle.demands.proofs.Growth.{Growth}
 
 -- the state after is sound, of the same description
 pub record Leaves (p : Description) (o : Outcome) : Type 0 where
@@ -51,8 +52,8 @@ pub record Leaves (p : Description) (o : Outcome) : Type 0 where
 abbrev pub Fine : Description → Outcome → Type 0
 Fine p o = (o .number ≡ badFile → ⊥) × Leaves p o
 
-fine : (st : State) (o : Outcome) (n most : ℕ) (rows : List (List ℕ)) → Gives st o n most rows → (n ≡ badFile → ⊥) → Fine (desc st) o
-fine st o n most rows g ne = (λ e. ne (sym (g .number-is) ∙ e), record { desc-is = g .desc-is; sections = g .sections; free = g .free; sound = g .sound })
+fine : (st : State) (ss : List Section) (o : Outcome) (n most : ℕ) (rows : List (List ℕ)) (brought : Growth) → Gives st ss o n most rows brought → (n ≡ badFile → ⊥) → Fine (desc st) o
+fine st ss o n most rows brought g ne = (λ e. ne (sym (g .number-is) ∙ e), record { desc-is = g .desc-is; sections = g .sections; free = g .free; sound = g .sound })
 
 stored-fine : (q : Bool) → cond q noneFree done ≡ badFile → ⊥
 stored-fine true e = omega arith
@@ -75,7 +76,7 @@ module _ (st : State) (ss : List Section) (f : Free) (h : Sound st ss f) where
 
   -- the rows of the table before 070003, for a keyed call that reads so many words
   pub data Gate (reads : ℕ) : Type 0 where
-    stopped : (n : ℕ) → (n ≡ badFile → ⊥) → ((steps : Checked Effect) → settle st (sizesOk st >> (workOk st >> (isOpen st >> (keyOk reads st >> steps)))) ≡ unchanged st n) → Gate reads
+    stopped : (n : ℕ) → (n ≡ badFile → ⊥) → accepted n ≡ false → (n ≡ notFound → ⊥) → ((steps : Checked Effect) → settle st (sizesOk st >> (workOk st >> (isOpen st >> (keyOk reads st >> steps)))) ≡ unchanged st n) → Gate reads
     ready : Ready reads st ss f → Gate reads
 
   pub gate : (reads : ℕ) → Gate reads
@@ -83,60 +84,60 @@ module _ (st : State) (ss : List Section) (f : Free) (h : Sound st ss f) where
   gate reads = go (ℕ-discrete (length (st .work)) (desc st .wpr)) (st .session .opened) refl (allWords (part 0 reads (st .work)) && not (isOnes (keyIn (desc st) (st .work)))) refl
     where
       go : Dec (length (st .work) ≡ desc st .wpr) → (u : Bool) → st .session .opened ≡ u → (t : Bool) → (allWords (part 0 reads (st .work)) && not (isOnes (keyIn (desc st) (st .work)))) ≡ t → Gate reads
-      go (no n) u o t e = stopped wrongSize (λ z. omega arith) (λ steps. simp (sizes-pass st ss f h, ne-eqb (length (st .work)) (desc st .wpr) n))
-      go (yes l) false o t e = stopped isClosed (λ z. omega arith) (λ steps. simp (sizes-pass st ss f h, eq-eqb (length (st .work)) (desc st .wpr) l, o))
-      go (yes l) true o false e = stopped wrongKey (λ z. omega arith) (λ steps. simp (sizes-pass st ss f h, eq-eqb (length (st .work)) (desc st .wpr) l, o, e))
+      go (no n) u o t e = stopped wrongSize (λ z. omega arith) refl (λ z. omega arith) (λ steps. simp (sizes-pass st ss f h, ne-eqb (length (st .work)) (desc st .wpr) n))
+      go (yes l) false o t e = stopped isClosed (λ z. omega arith) refl (λ z. omega arith) (λ steps. simp (sizes-pass st ss f h, eq-eqb (length (st .work)) (desc st .wpr) l, o))
+      go (yes l) true o false e = stopped wrongKey (λ z. omega arith) refl (λ z. omega arith) (λ steps. simp (sizes-pass st ss f h, eq-eqb (length (st .work)) (desc st .wpr) l, o, e))
       go (yes l) true o true e = ready (record { sound = h; opened = o; work-length = l; asked = simp e })
 
   seek-step : Gate (desc st .k) → Fine (desc st) (seek st)
   unfolding seek
-  seek-step (stopped n ne e) = stays (seek st) n ne (e (seekSteps (texts st) (st .session .flag) (st .work)))
-  seek-step (ready r) = either (seek-right st ss f r) (λ q. fine st (seek st) notFound 3 _ (q .1) (λ z. omega arith)) (λ q. fine st (seek st) done 3 _ (q .2) (λ z. omega arith))
+  seek-step (stopped n ne ac nf e) = stays (seek st) n ne (e (seekSteps (texts st) (st .session .flag) (st .work)))
+  seek-step (ready r) = either (seek-right st ss f r) (λ q. fine st ss (seek st) notFound 3 _ _ (q .1) (λ z. omega arith)) (λ q. fine st ss (seek st) done 3 _ _ (q .2) (λ z. omega arith))
 
   updat-step : Gate (desc st .wpr) → Fine (desc st) (updat st)
   unfolding updat
-  updat-step (stopped n ne e) = stays (updat st) n ne (e (updatSteps (texts st) (st .session .flag) (st .work)))
-  updat-step (ready r) = either (updat-right st ss f r) (λ q. fine st (updat st) notFound 3 _ (q .1) (λ z. omega arith)) (λ q. fine st (updat st) done 3 _ (q .2) (λ z. omega arith))
+  updat-step (stopped n ne ac nf e) = stays (updat st) n ne (e (updatSteps (texts st) (st .session .flag) (st .work)))
+  updat-step (ready r) = either (updat-right st ss f r) (λ q. fine st ss (updat st) notFound 3 _ _ (q .1) (λ z. omega arith)) (λ q. fine st ss (updat st) done 3 _ _ (q .2) (λ z. omega arith))
 
   dlete-step : Gate (desc st .k) → Fine (desc st) (dlete st)
   unfolding dlete
-  dlete-step (stopped n ne e) = stays (dlete st) n ne (e (dleteSteps (texts st) (st .session .flag) (st .work)))
-  dlete-step (ready r) = either (dlete-right st ss f r) (λ q. fine st (dlete st) notFound 3 _ (q .1) (λ z. omega arith)) (λ q. fine st (dlete st) done 6 _ (q .2) (λ z. omega arith))
+  dlete-step (stopped n ne ac nf e) = stays (dlete st) n ne (e (dleteSteps (texts st) (st .session .flag) (st .work)))
+  dlete-step (ready r) = either (dlete-right st ss f r) (λ q. fine st ss (dlete st) notFound 3 _ _ (q .1) (λ z. omega arith)) (λ q. fine st ss (dlete st) done 6 _ _ (q .2) (λ z. omega arith))
 
   nsert-step : Gate (desc st .wpr) → Fine (desc st) (nsert st)
   unfolding nsert
-  nsert-step (stopped n ne e) = stays (nsert st) n ne (e (nsertSteps (texts st) (st .session .flag) (st .work)))
+  nsert-step (stopped n ne ac nf e) = stays (nsert st) n ne (e (nsertSteps (texts st) (st .session .flag) (st .work)))
   nsert-step (ready r) = go (nsert-right st ss f r)
     where
       go : Nserted st ss f → Fine (desc st) (nsert st)
-      go (duplicate y e g) = fine st (nsert st) notFound 3 _ g (λ z. omega arith)
-      go (room e a i l g) = fine st (nsert st) _ 3 _ g (stored-with (desc st) (length (a .leaf .records) + 1) f)
-      go (split e a i l m s k g) = fine st (nsert st) _ 7 _ g (stored-with (desc st) (halfCount (D (desc st)) k) (taken f))
-      go (both e a i l m s c k g) = fine st (nsert st) _ 8 _ g (stored-with (desc st) (halfCount (D (desc st)) k) (taken (taken f)))
-      go (no-room e a i l w g) = fine st (nsert st) noRoom 3 _ g (λ z. omega arith)
+      go (duplicate y e g) = fine st ss (nsert st) notFound 3 _ _ g (λ z. omega arith)
+      go (room e a i l g) = fine st ss (nsert st) _ 3 _ _ g (stored-with (desc st) (length (a .leaf .records) + 1) f)
+      go (split e a i l m s k g) = fine st ss (nsert st) _ 7 _ _ g (stored-with (desc st) (halfCount (D (desc st)) k) (taken f))
+      go (both e a i l m s c k g) = fine st ss (nsert st) _ 8 _ _ g (stored-with (desc st) (halfCount (D (desc st)) k) (taken (taken f)))
+      go (no-room e a i l w g) = fine st ss (nsert st) noRoom 3 _ _ g (λ z. omega arith)
 
   xtend-step : Gate (desc st .wpr) → Fine (desc st) (xtend st)
   unfolding xtend
-  xtend-step (stopped n ne e) = stays (xtend st) n ne (e (xtendSteps (texts st) (st .session .flag) (st .work)))
+  xtend-step (stopped n ne ac nf e) = stays (xtend st) n ne (e (xtendSteps (texts st) (st .session .flag) (st .work)))
   xtend-step (ready r) = let q = x.xtend-right st ss f r in go (q .0) (q .1)
     where
       go : (L : Last (texts st) (st .session .flag) ss f) → x.Xtended st ss f L → Fine (desc st) (xtend st)
-      go L (x.too-low fr y e l g) = fine st (xtend st) outOfSequence 4 _ g (λ z. omega arith)
-      go L (x.too-low-alone e l g) = fine st (xtend st) outOfSequence 4 _ g (λ z. omega arith)
-      go L (x.room l g) = fine st (xtend st) _ 4 _ g (stored-with (desc st) (length (L .leaf .records) + 1) f)
-      go L (x.started l m s g) = fine st (xtend st) _ 7 _ g (stored-with (desc st) (length (L .leaf .records)) (taken f))
-      go L (x.both l m s c g) = fine st (xtend st) _ 8 _ g (stored-with (desc st) (length (L .leaf .records)) (taken (taken f)))
-      go L (x.no-room l w g) = fine st (xtend st) noRoom 4 _ g (λ z. omega arith)
+      go L (x.too-low fr y e l g) = fine st ss (xtend st) outOfSequence 4 _ _ g (λ z. omega arith)
+      go L (x.too-low-alone e l g) = fine st ss (xtend st) outOfSequence 4 _ _ g (λ z. omega arith)
+      go L (x.room l g) = fine st ss (xtend st) _ 4 _ _ g (stored-with (desc st) (length (L .leaf .records) + 1) f)
+      go L (x.started l m s g) = fine st ss (xtend st) _ 7 _ _ g (stored-with (desc st) (length (L .leaf .records)) (taken f))
+      go L (x.both l m s c g) = fine st ss (xtend st) _ 8 _ _ g (stored-with (desc st) (length (L .leaf .records)) (taken (taken f)))
+      go L (x.no-room l w g) = fine st ss (xtend st) noRoom 4 _ _ g (λ z. omega arith)
 
   adv-step : Dec (length (st .work) ≡ desc st .wpr) → (u : Bool) → st .session .opened ≡ u → Fine (desc st) (adv st)
   unfolding adv workOk isOpen settle
   adv-step (no n) u o = stays (adv st) wrongSize (λ z. omega arith) (simp (sizes-pass st ss f h, ne-eqb (length (st .work)) (desc st .wpr) n))
   adv-step (yes l) false o = stays (adv st) isClosed (λ z. omega arith) (simp (sizes-pass st ss f h, eq-eqb (length (st .work)) (desc st .wpr) l, o))
-  adv-step (yes l) true o = let q = adv-right st ss f h o l in fine st (adv st) _ 5 _ (q .3) (adv-fine (isOnes (keyIn (desc st) (q .0))))
+  adv-step (yes l) true o = let q = adv-right st ss f h o l in fine st ss (adv st) _ 5 _ _ (q .3) (adv-fine (isOnes (keyIn (desc st) (q .0))))
 
   close-step : (u : Bool) → st .session .opened ≡ u → Fine (desc st) (close st)
   unfolding close closeChecks closeDone isOpen
-  close-step true o = fine st (close st) done 1 _ (close-right st ss f h o) (λ z. omega arith)
+  close-step true o = fine st ss (close st) done 1 _ _ (close-right st ss f h o) (λ z. omega arith)
   close-step false o = stays (close st) isClosed (λ z. omega arith) (simp (sizes-pass st ss f h, o))
 
   -- OPEN of an open session is refused; of a closed one it leaves the file as it is
@@ -148,7 +149,7 @@ module _ (st : State) (ss : List Section) (f : Free) (h : Sound st ss f) where
       go (yes l) = stays (openFile st marks .outcome) alreadyOpen (λ z. omega arith) (simp (sizes-pass st ss f h, eq-eqb (length marks) (desc st .n) l, o))
       go (no n) = stays (openFile st marks .outcome) wrongSize (λ z. omega arith) (simp (sizes-pass st ss f h, ne-eqb (length marks) (desc st .n) n))
 
-  opened-sound : st .session .opened ≡ false → Sound (record { session = atRest true (st .session); file = st .file; buffer = st .buffer; work = st .work }) ss f
+  pub opened-sound : st .session .opened ≡ false → Sound (record { session = atRest true (st .session); file = st .file; buffer = st .buffer; work = st .work }) ss f
   unfolding atRest
   opened-sound o =
       let q : (st .session .current ≡ 0) × (st .session .flag ≡ false) = h .resting o in
@@ -185,7 +186,7 @@ module _ (st : State) (ss : List Section) (f : Free) (h : Sound st ss f) where
       go (refused n) = same n
       go (passed t) = tested (layoutMarks (desc st) (st .file))
 
-lent-sound : (w : List ℕ) (st : State) (ss : List Section) (f : Free) → Sound st ss f → Sound (lending w st) ss f
+pub lent-sound : (w : List ℕ) (st : State) (ss : List Section) (f : Free) → Sound st ss f → Sound (lending w st) ss f
 unfolding lending
 lent-sound w st ss f h = record { kept = h .kept; position = h .position; placed = h .placed; resting = h .resting }
 

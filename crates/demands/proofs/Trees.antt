@@ -3,13 +3,12 @@ use Prim.Native.Nat.{ℕ, suc, _+_, _-_}
 use mathlib.Core.Path.{_≡_, refl, sym}
 use mathlib.Core.List.{List, [], _∷_, _++_, map, append-assoc}
 use native.Mathlib.Omega.{arith}
-use lib.ListN.{length, take}
+use lib.ListN.{take}
 use Rattle.words.specs.Keys.{val}
-use Rattle.table.specs.Tables.{laid}
 use Rattle.layout.specs.Tree.{Leaf, Section}
-use Rattle.demands.proofs.Rows.{cat}
 use Rattle.demands.proofs.Order.{Asc, asc-append}
 use Rattle.demands.proofs.Cells.{Cell}
+unfoldable pub use Rattle.table.specs.Rows.{table}
 
 abbrev pub leavesOf : List Section → List Leaf
 leavesOf [] = []
@@ -76,9 +75,6 @@ module _ (k : ℕ) where
   reach-swap lo bs ls ls′ cs e = simp reach-append (rw e)
 
 -- ---- the cells that a tree asks for
-
-unfoldable pub table : ℕ → List (List ℕ) → List ℕ
-table wpb rows = laid wpb (length rows) (cat rows)
 
 unfoldable pub entry : Leaf → List ℕ
 entry l = l .bound ++ (l .block ∷ [])

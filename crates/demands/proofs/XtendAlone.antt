@@ -42,6 +42,7 @@ use Rattle.demands.proofs.Answers.{Ready, Gives}
 use Rattle.demands.proofs.Frees.{storedWith}
 use Rattle.demands.proofs.Last.{ending, Last}
 use Rattle.demands.proofs.Xtend.{size-is, good, counted, path-of, stop-xtend, room-gives}
+use Rattle.demands.proofs.Growth.{nothing, aRecord}
 
 module _ (st : State) (ss : List Section) (f : Free) (r : Ready (desc st .wpr) st ss f) (kw : Key (desc st) (keyIn (desc st) (st .work))) (L : Last (texts st) (st .session .flag) ss f) where
   abbrev p : Description
@@ -129,12 +130,12 @@ module _ (st : State) (ss : List Section) (f : Free) (r : Ready (desc st .wpr) s
         ∙ ap (λ (m : Checked Path). m >>= (λ x. cond (notAboveBefore v w x) (passed (Stop (L .way) (x .index) outOfSequence)) (roomDeed v (L .way) (x .index)))) (path-of st ss f r kw L)
         ∙ ap (λ (t : Bool). cond t (passed (Stop (L .way) (L .index) outOfSequence)) (roomDeed v (L .way) (L .index))) before-test
 
-    pub alone-five : val w < lo p a → Gives st (xtend st) outOfSequence 4 rows
+    pub alone-five : val w < lo p a → Gives st ss (xtend st) outOfSequence 4 rows nothing
     alone-five h = stop-xtend st ss f r kw L (L .index) outOfSequence (to-alone ∙ simp (lt-ltb (val w) (lo p a) h))
 
     pub few : size < FD p
     few = omega (arith, one, caps p (good st ss f r kw L) .fd-least)
 
-    pub alone-room : lo p a ≤ val w → Gives st (xtend st) (storedWith p (size + 1) f) 4 (ins K (st .work) rows)
+    pub alone-room : lo p a ≤ val w → Gives st ss (xtend st) (storedWith p (size + 1) f) 4 (ins K (st .work) rows) aRecord
     alone-room h =
         room-gives st ss f r kw L (subst (λ (z : List (List ℕ)). Asc K (lo p a) z (val w)) (sym alone) h) few (L .index) (to-alone ∙ simp (le-ltb (val w) (lo p a) h))

@@ -34,6 +34,7 @@ use Rattle.demands.proofs.Answers.{Ready, Gives}
 use Rattle.demands.proofs.Frees.{freeCount, storedWith, FreeOk, free-ok, stored-number, next, taken, takenOf, free-taken, taken-count, grant-none, grant-some, next-in, second-in, next-outside, second-outside, second-other, new-pass}
 use Rattle.demands.proofs.Last.{ending, Last}
 use Rattle.demands.proofs.Xtend.{good, held, oks, counted, heads, lows, path-of, stop-xtend, to-new}
+use Rattle.demands.proofs.Growth.{nothing}
 
 module _ (st : State) (ss : List Section) (f : Free) (r : Ready (desc st .wpr) st ss f) (kw : Key (desc st) (keyIn (desc st) (st .work))) (L : Last (texts st) (st .session .flag) ss f)
     (fr : List (List ℕ)) (y : List ℕ) (e : L .front ≡ fr ++ y ∷ []) (higher : key (desc st .k) y < val (keyIn (desc st) (st .work))) (full : FD (desc st) ≤ length (L .leaf .records)) where
@@ -100,7 +101,7 @@ module _ (st : State) (ss : List Section) (f : Free) (r : Ready (desc st .wpr) s
   ls = lows st ss f r kw L
 
   module _ (room : length (L .low ++ (L .leaf ∷ [])) < FI (desc st)) where
-    pub new-none : freeCount f ≡ 0 → Gives st (xtend st) noRoom 4 rows
+    pub new-none : freeCount f ≡ 0 → Gives st ss (xtend st) noRoom 4 rows nothing
     unfolding newAt newWith
     new-none z = stop-xtend st ss f r kw L 0 noRoom (to-at ∙ simp (hs, ls, grant-none v f fo z, cnt, lt-ltb (length (L .low ++ (L .leaf ∷ []))) (FI p) room))
 
@@ -119,11 +120,11 @@ module _ (st : State) (ss : List Section) (f : Free) (r : Ready (desc st .wpr) s
         )
 
   module _ (most : FI (desc st) ≤ length (L .low ++ (L .leaf ∷ []))) where
-    pub both-none : freeCount f ≡ 0 → Gives st (xtend st) noRoom 4 rows
+    pub both-none : freeCount f ≡ 0 → Gives st ss (xtend st) noRoom 4 rows nothing
     unfolding newAt bothAfter bothWith
     both-none z = stop-xtend st ss f r kw L 0 noRoom (to-at ∙ simp (hs, ls, grant-none v f fo z, cnt, le-ltb (length (L .low ++ (L .leaf ∷ []))) (FI p) most))
 
-    pub both-few : freeCount f ≡ 1 → Gives st (xtend st) noRoom 4 rows
+    pub both-few : freeCount f ≡ 1 → Gives st ss (xtend st) noRoom 4 rows nothing
     unfolding newAt bothAfter bothWith
     both-few z =
         let some : 1 ≤ freeCount f = omega arith in
@@ -138,7 +139,7 @@ module _ (st : State) (ss : List Section) (f : Free) (r : Ready (desc st .wpr) s
           ne-eqb (next f) 0 (λ q. omega (arith, q, next-in p _ _ ss f hd some)),
         ))
 
-    pub both-sections : 2 ≤ freeCount f → p .control ≤ length ss → Gives st (xtend st) noRoom 4 rows
+    pub both-sections : 2 ≤ freeCount f → p .control ≤ length ss → Gives st ss (xtend st) noRoom 4 rows nothing
     unfolding newAt bothAfter bothWith
     both-sections two c =
         let some : 1 ≤ freeCount f = omega arith in

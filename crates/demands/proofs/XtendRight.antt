@@ -27,19 +27,20 @@ use Rattle.demands.proofs.Xtend.{xtend-five, xtend-room}
 use Rattle.demands.proofs.XtendAlone.{alone-five, few, alone-room}
 use Rattle.demands.proofs.XtendDeed.{new-none, both-none, both-few, both-sections}
 use Rattle.demands.proofs.XtendNew.{xtend-new, xtend-both}
+use Rattle.demands.proofs.Growth.{nothing, aRecord, aStart, bothStart}
 
 -- what XTEND comes to, with the number it answers; L is the last block, `front` its ordinary records
 pub data Xtended (st : State) (ss : List Section) (f : Free) (L : Last (texts st) (st .session .flag) ss f) : Type 0 where
   -- "Out of sequence (5) when the key is not above the highest ordinary key there, or, if none is there, not above the bound before that block"
-  too-low : (fr : List (List ℕ)) (y : List ℕ) → L .front ≡ fr ++ y ∷ [] → val (keyIn (desc st) (st .work)) ≤ key (desc st .k) y → Gives st (xtend st) outOfSequence 4 (contents (leavesOf ss)) → Xtended st ss f L
-  too-low-alone : L .front ≡ [] → val (keyIn (desc st) (st .work)) < lo (desc st) (ending (L .before) (L .index) (L .low) (L .leaf)) → Gives st (xtend st) outOfSequence 4 (contents (leavesOf ss)) → Xtended st ss f L
-  room : length (L .leaf .records) < FD (desc st) → Gives st (xtend st) (storedWith (desc st) (length (L .leaf .records) + 1) f) 4 (ins (key (desc st .k)) (st .work) (contents (leavesOf ss))) → Xtended st ss f L
+  too-low : (fr : List (List ℕ)) (y : List ℕ) → L .front ≡ fr ++ y ∷ [] → val (keyIn (desc st) (st .work)) ≤ key (desc st .k) y → Gives st ss (xtend st) outOfSequence 4 (contents (leavesOf ss)) nothing → Xtended st ss f L
+  too-low-alone : L .front ≡ [] → val (keyIn (desc st) (st .work)) < lo (desc st) (ending (L .before) (L .index) (L .low) (L .leaf)) → Gives st ss (xtend st) outOfSequence 4 (contents (leavesOf ss)) nothing → Xtended st ss f L
+  room : length (L .leaf .records) < FD (desc st) → Gives st ss (xtend st) (storedWith (desc st) (length (L .leaf .records) + 1) f) 4 (ins (key (desc st .k)) (st .work) (contents (leavesOf ss))) aRecord → Xtended st ss f L
   started : FD (desc st) ≤ length (L .leaf .records) → length (L .low ++ (L .leaf ∷ [])) < FI (desc st) → 1 ≤ freeCount f
-      → Gives st (xtend st) (storedWith (desc st) (length (L .leaf .records)) (taken f)) 7 (ins (key (desc st .k)) (st .work) (contents (leavesOf ss))) → Xtended st ss f L
+      → Gives st ss (xtend st) (storedWith (desc st) (length (L .leaf .records)) (taken f)) 7 (ins (key (desc st .k)) (st .work) (contents (leavesOf ss))) aStart → Xtended st ss f L
   both : FD (desc st) ≤ length (L .leaf .records) → FI (desc st) ≤ length (L .low ++ (L .leaf ∷ [])) → 2 ≤ freeCount f → length ss < desc st .control
-      → Gives st (xtend st) (storedWith (desc st) (length (L .leaf .records)) (taken (taken f))) 8 (ins (key (desc st .k)) (st .work) (contents (leavesOf ss))) → Xtended st ss f L
+      → Gives st ss (xtend st) (storedWith (desc st) (length (L .leaf .records)) (taken (taken f))) 8 (ins (key (desc st .k)) (st .work) (contents (leavesOf ss))) bothStart → Xtended st ss f L
   no-room : FD (desc st) ≤ length (L .leaf .records) → (freeCount f ≡ 0) ⊎ ((FI (desc st) ≤ length (L .low ++ (L .leaf ∷ []))) × ((freeCount f ≡ 1) ⊎ (desc st .control ≤ length ss)))
-      → Gives st (xtend st) noRoom 4 (contents (leavesOf ss)) → Xtended st ss f L
+      → Gives st ss (xtend st) noRoom 4 (contents (leavesOf ss)) nothing → Xtended st ss f L
 
 module _ (st : State) (ss : List Section) (f : Free) (r : Ready (desc st .wpr) st ss f) (kw : Key (desc st) (keyIn (desc st) (st .work))) (L : Last (texts st) (st .session .flag) ss f) where
   abbrev p : Description

@@ -1,0 +1,116 @@
+-- Demand 2's and demand 3's sentences over whole runs, from CREATE and OPEN on.
+use Prim.Native.Nat.{ℕ}
+use mathlib.Core.Bool.{Bool, true, false, cond, not, _&&_}
+use mathlib.Core.Path.{_≡_, refl, sym, ap, _∙_, subst}
+use mathlib.Core.List.{List, [], _∷_}
+use native.Mathlib.Omega.{arith}
+use lib.Dec.{eqb}
+use lib.ListN.{length}
+use borrow.Author.Tests.{eqb-true, not-true}
+use Rattle.numbers.specs.Numbers.{done, wrongSize, alreadyOpen}
+use Rattle.numbers.specs.Checked.{Checked, passed, refused, _>>_, require}
+use Rattle.drum.specs.declared.Description.{Description}
+use Rattle.drum.specs.Params.{goodParams, fileSize, sized}
+use Rattle.drum.proofs.Good.{Sized, sized-facts}
+use Rattle.layout.specs.Create.{created}
+use Rattle.layout.specs.Tree.{Tree, Section, freshTree, freshSection, freshLeaf}
+use Rattle.layout.specs.Tree as lay
+use Rattle.layout.specs.Inspect.{layoutMarks}
+use Rattle.layout.specs.Holds.{Holds}
+use Rattle.layout.proofs.Made.{create-opens}
+use Rattle.layout.proofs.Unique.{one-tree}
+use Rattle.rules.specs.State.{State, desc, keyIn, lent, atRest}
+use Rattle.rules.specs.Checks.{sizesOk}
+use Rattle.rules.specs.Open.{Created, create, openChecks, openDone, openLayout, openFile}
+use Rattle.rules.specs.Requests.{Request}
+use Rattle.demands.specs.Formula.{Demand3, CallWithin}
+use Rattle.demands.specs.History.{FoundExactly, events, standing, withKey}
+use Rattle.demands.proofs.Trees.{leavesOf, contents}
+use Rattle.demands.proofs.Holds.{Free}
+use Rattle.demands.proofs.Sound.{Sound}
+use Rattle.demands.proofs.Reader.{leaves-in, records-in}
+use Rattle.demands.proofs.Opens.{Opens, open-right}
+use Rattle.demands.proofs.Growth.{counts, sizes}
+use Rattle.demands.proofs.Within as formula
+use Rattle.demands.proofs.Calls.{stepped}
+use Rattle.demands.proofs.Standing.{found}
+
+-- the bound of one call, from a sound state
+pub call-bound : (st : State) (ss : List Section) (f : Free) → Sound st ss f → (q : Request) → CallWithin st q
+call-bound st ss f h q = formula.call-within st ss f h q (stepped st ss f h q)
+
+-- ---- an OPEN that answers 0 has passed its checks
+
+record Opening (st : State) (marks : List ℕ) : Type 0 where
+  sizes-are : Sized (desc st) (length (st .file)) (length (st .buffer))
+  marks-are : length marks ≡ desc st .n
+  was-closed : st .session .opened ≡ false
+
+opening-by : (st : State) (marks : List ℕ) (a b c : Bool) → openDone st marks (require a wrongSize >> (require b wrongSize >> require c alreadyOpen)) .outcome .number ≡ done → (a ≡ true) × (b ≡ true) × (c ≡ true)
+unfolding openDone
+opening-by st marks true true true e = (refl, refl, refl)
+opening-by st marks true true false e = absurd (omega arith)
+opening-by st marks true false c e = absurd (omega arith)
+opening-by st marks false b c e = absurd (omega arith)
+
+opening : (st : State) (marks : List ℕ) → openFile st marks .outcome .number ≡ done → Opening st marks
+unfolding openFile openChecks sizesOk
+opening st marks e =
+    let t = opening-by st marks (sized (desc st) (length (st .file)) (length (st .buffer))) (eqb (length marks) (desc st .n)) (not (st .session .opened)) e in
+    record { sizes-are = sized-facts (desc st) (length (st .file)) (length (st .buffer)) (t .0); marks-are = eqb-true _ _ (t .1); was-closed = not-true _ (t .2) }
+
+opens : (st : State) (marks : List ℕ) → openFile st marks .outcome .number ≡ done → Opens st marks
+opens st marks e = let o = opening st marks e in open-right st marks (o .sizes-are .good) (o .sizes-are .file-is) (o .sizes-are .buffer-is) (o .marks-are) (o .was-closed) e
+
+-- it keeps the parameters
+opened-desc : (st : State) (marks : List ℕ) → openFile st marks .outcome .number ≡ done → desc (openFile st marks .outcome .after) ≡ desc st
+unfolding openFile openDone openLayout atRest
+opened-desc st marks e = go (openChecks st marks)
+  where
+    tested : (c : Checked (List ℕ)) → desc (openLayout st c .outcome .after) ≡ desc st
+    tested (refused n) = refl
+    tested (passed m) = refl
+
+    go : (c : Checked Bool) → desc (openDone st marks c .outcome .after) ≡ desc st
+    go (refused n) = refl
+    go (passed t) = tested (layoutMarks (desc st) (st .file))
+
+-- ---- demand 3
+
+-- CREATE that answers 0 writes the file anew
+create-file : (p : Description) (f : List ℕ) → create p f .number ≡ done → create p f .file ≡ created p
+unfolding create
+create-file p f = go (goodParams p && eqb (length f) (fileSize p))
+  where
+    go : (t : Bool) → cond {A = Created} t (record { number = done; file = created p }) (record { number = wrongSize; file = f }) .number ≡ done
+        → cond {A = Created} t (record { number = done; file = created p }) (record { number = wrongSize; file = f }) .file ≡ created p
+    go true e = refl
+    go false e = absurd (omega arith)
+
+fresh-counts : (p : Description) → (counts (leavesOf (freshTree p .sections)) ≡ 1 ∷ []) × (sizes (freshTree p .sections) ≡ 1 ∷ [])
+unfolding counts sizes freshTree freshSection freshLeaf
+fresh-counts p = (refl, refl)
+
+pub session-formula : Demand3
+session-formula =
+    formula.demand-3 stepped λ session f buffer work marks c o.
+    let st : State = lent session (create (session .desc) f .file) buffer work in
+    let z : Opens st marks = opens st marks o in
+    let p : Description = session .desc in
+    let good : goodParams p ≡ true = opening st marks o .sizes-are .good in
+    let is : z .tree ≡ freshTree p = one-tree p (created p) (z .tree) (freshTree p) good (subst (λ (x : List ℕ). Holds p x (z .tree)) (create-file p f c) (z .stands)) (create-opens p good) in
+    (z .tree .sections, _, z .sound, ap (λ (t : Tree). counts (leavesOf (t .sections))) is ∙ fresh-counts p .0, ap (λ (t : Tree). sizes (t .sections)) is ∙ fresh-counts p .1)
+
+-- ---- demand 2
+
+pub found-after-open : FoundExactly
+found-after-open st marks o t h qs w u =
+    let z : Opens st marks = opens st marks o in
+    let p : Description = desc st in
+    let good : goodParams p ≡ true = opening st marks o .sizes-are .good in
+    let is : z .tree ≡ t = one-tree p (st .file) (z .tree) t good (z .stands) h in
+    let c : contents (leavesOf (z .tree .sections)) ≡ lay.contents t = sym (records-in (leavesOf (z .tree .sections))) ∙ ap lay.recordsIn (sym (leaves-in (z .tree .sections))) ∙ ap lay.contents is in
+    let s : State = openFile st marks .outcome .after in
+    found s (z .tree .sections) _ (z .sound) qs w u
+    ∙ ap (λ (d : Description). standing d (keyIn d w) (events s qs) (withKey d (keyIn d w) (contents (leavesOf (z .tree .sections))))) (opened-desc st marks o)
+    ∙ ap (λ (rows : List (List ℕ)). standing p (keyIn p w) (events s qs) (withKey p (keyIn p w) rows)) c

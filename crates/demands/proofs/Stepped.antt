@@ -1,0 +1,57 @@
+-- What one call from a sound state leaves and brings: all that the theorems over whole runs ask of a call.
+use Prim.Native.Nat.{ℕ, _+_, _*_, _≤_}
+use mathlib.Core.Path.{_≡_}
+use mathlib.Core.List.{List, map}
+use lib.ListN.{length}
+use Rattle.words.specs.Keys.{val}
+use Rattle.drum.specs.declared.Description.{Description}
+use Rattle.rules.specs.State.{State, Outcome, desc, keyIn}
+use Rattle.rules.specs.Requests.{Request, opening, closing, seeking, advancing, inserting, deleting, updating, extending, answer}
+use Rattle.demands.specs.Formula.{acceptedBy, share}
+use Rattle.demands.specs.History.{eventOf}
+use Rattle.demands.specs.History as told
+use Rattle.demands.proofs.Lists.{All}
+use Rattle.layout.specs.Tree.{Section}
+use Rattle.demands.proofs.Trees.{leavesOf, contents, key}
+use Rattle.demands.proofs.Holds.{Free}
+use Rattle.demands.proofs.Sound.{Key, Sound}
+use Rattle.demands.proofs.History.{Event, stored, removed, happened}
+use Rattle.demands.proofs.Growth.{Growth, nothing, Grows}
+
+-- what a call may bring: NSERT splits and XTEND starts, with a record where it is accepted; the others bring nothing
+abbrev pub Brought : Request → Outcome → Growth → Type 0
+Brought (opening marks) o g = g ≡ nothing
+Brought closing o g = g ≡ nothing
+Brought (seeking w) o g = g ≡ nothing
+Brought (advancing w) o g = g ≡ nothing
+Brought (inserting w) o g = (g .records ≡ acceptedBy o) × (g .starts ≡ 0) × (g .index-starts ≡ 0)
+Brought (deleting w) o g = g ≡ nothing
+Brought (updating w) o g = g ≡ nothing
+Brought (extending w) o g = (g .records ≡ acceptedBy o) × (g .splits ≡ 0) × (g .index-splits ≡ 0)
+
+-- the transfers that a call may make which brings g
+abbrev pub most : Request → Growth → ℕ
+most q g = share q + 4 * (g .splits + g .starts) + (g .index-splits + g .index-starts)
+
+-- an event by the number of its key, and that its key is one that a call may be given
+unfoldable pub numbered : told.Event → Event (List ℕ)
+numbered (told.stored r) = stored r
+numbered (told.removed x) = removed (val x)
+
+abbrev pub KeyOf : Description → told.Event → Type 0
+KeyOf p (told.stored r) = Key p (keyIn p r)
+KeyOf p (told.removed x) = Key p x
+
+-- a call from a sound state with the tree ss: a sound state again, of the same file; the contents with what the call put in or took out; and
+-- what the call brought, at what cost
+pub record Stepped (st : State) (ss : List Section) (q : Request) : Type 0 where
+  pub sections : List Section
+  pub free : Free
+  pub sound : Sound (answer st q .after) sections free
+  pub desc-is : desc (answer st q .after) ≡ desc st
+  pub contents-is : contents (leavesOf sections) ≡ happened (key (desc st .k)) (map numbered (eventOf (desc st) q (answer st q))) (contents (leavesOf ss))
+  pub keys : All (KeyOf (desc st)) (eventOf (desc st) q (answer st q))
+  pub growth : Growth
+  pub grows : Grows (desc st) ss sections growth
+  pub brought : Brought q (answer st q) growth
+  pub cost : length (answer st q .transfers) ≤ most q growth

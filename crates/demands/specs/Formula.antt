@@ -1,0 +1,127 @@
+-- Document 01, "The session formula": what demand 3 says of a run of calls, and of one call. Nothing is proved here. All numbers are
+-- counted from the run itself: by the calls, their answers, their lists of transfers and the words of the file.
+use Prim.Native.Nat.{ℕ, zero, suc, _+_, _*_, _-_, _/_, _≤_}
+use mathlib.Core.Path.{_≡_}
+use mathlib.Core.Bool.{cond}
+use mathlib.Core.List.{List}
+use lib.ListN.{length}
+use Rattle.numbers.specs.Numbers.{done, accepted}
+use Rattle.table.specs.Tables.{count, blockIn}
+use Rattle.drum.specs.declared.Description.{Description}
+use Rattle.drum.specs.Params.{D, I, FD, FI, masterShape}
+use Rattle.drum.specs.Blocks.{blockAt, sections}
+use Rattle.rules.specs.State.{Session, State, Outcome, desc, lent}
+use Rattle.rules.specs.Open.{create, openFile}
+use Rattle.rules.specs.Requests.{Request, opening, closing, seeking, advancing, inserting, deleting, updating, extending, answer, tally}
+
+-- "hD = (D+1)/2, hI = (I+1)/2, rounded down."
+unfoldable pub hD : Description → ℕ
+hD p = (D p + 1) / 2
+
+unfoldable pub hI : Description → ℕ
+hI p = (I p + 1) / 2
+
+-- the detail blocks that the first n sections of the file f name: "Index block: word 0 count, then entries: key and detail block"
+unfoldable pub detailsUnder : Description → List ℕ → ℕ → ℕ
+detailsUnder p f zero = 0
+detailsUnder p f (suc n) = detailsUnder p f n + count (blockAt p f (blockIn (masterShape p) f n))
+
+-- the detail blocks and the index blocks in use. An index block is never the buffered one, so that its words are the file's
+unfoldable pub detailBlocks : State → ℕ
+detailBlocks st = detailsUnder (desc st) (st .file) (sections (st .file))
+
+unfoldable pub indexBlocks : State → ℕ
+indexBlocks st = sections (st .file)
+
+-- how many more of them are in use after a call than before it; 0 where there are fewer
+unfoldable pub newDetails : State → Outcome → ℕ
+newDetails before o = detailBlocks (o .after) - detailBlocks before
+
+unfoldable pub newIndexes : State → Outcome → ℕ
+newIndexes before o = indexBlocks (o .after) - indexBlocks before
+
+-- 1 where the call answers 0 or 070001: "stored"
+unfoldable pub acceptedBy : Outcome → ℕ
+acceptedBy o = cond (accepted (o .number)) 1 0
+
+-- n of an NSERT, and 0 of any other call; n of an XTEND
+unfoldable pub ofNsert : ℕ → Request → ℕ
+ofNsert n (opening marks) = 0
+ofNsert n closing = 0
+ofNsert n (seeking w) = 0
+ofNsert n (advancing w) = 0
+ofNsert n (inserting w) = n
+ofNsert n (deleting w) = 0
+ofNsert n (updating w) = 0
+ofNsert n (extending w) = 0
+
+unfoldable pub ofXtend : ℕ → Request → ℕ
+ofXtend n (opening marks) = 0
+ofXtend n closing = 0
+ofXtend n (seeking w) = 0
+ofXtend n (advancing w) = 0
+ofXtend n (inserting w) = 0
+ofXtend n (deleting w) = 0
+ofXtend n (updating w) = 0
+ofXtend n (extending w) = n
+
+-- "3·(SEEK+UPDAT+NSERT) + 5·ADV + 6·DLETE + 4·XTEND + CLOSE": a call's share of that sum
+unfoldable pub share : Request → ℕ
+share (opening marks) = 0
+share closing = 1
+share (seeking w) = 3
+share (advancing w) = 5
+share (inserting w) = 3
+share (deleting w) = 6
+share (updating w) = 3
+share (extending w) = 4
+
+-- ---- of a run of calls, from the state st on
+
+module _ (st : State) (qs : List Request) where
+  -- "Let M be records accepted by NSERT and XTEND"
+  unfoldable pub M : ℕ
+  M = tally (λ before q o. ofNsert (acceptedBy o) q + ofXtend (acceptedBy o) q) st qs
+
+  -- "S, s detail and index splits by NSERT": each puts one more block in use
+  unfoldable pub S : ℕ
+  S = tally (λ before q o. ofNsert (newDetails before o) q) st qs
+
+  unfoldable pub s : ℕ
+  s = tally (λ before q o. ofNsert (newIndexes before o) q) st qs
+
+  -- "X, x detail and index blocks started by XTEND"
+  unfoldable pub X : ℕ
+  X = tally (λ before q o. ofXtend (newDetails before o) q) st qs
+
+  unfoldable pub x : ℕ
+  x = tally (λ before q o. ofXtend (newIndexes before o) q) st qs
+
+  -- "the sum of transfers", and "calls counted whether refused or not"
+  unfoldable pub allTransfers : ℕ
+  allTransfers = tally (λ before q o. length (o .transfers)) st qs
+
+  unfoldable pub shares : ℕ
+  shares = tally (λ before q o. share q) st qs
+
+-- "hD·S ≤ M, FD·X ≤ M, hI·s ≤ S+X, FI·x ≤ S+X, and the sum of transfers is at most 3·(SEEK+UPDAT+NSERT) + 5·ADV + 6·DLETE + 4·XTEND +
+-- CLOSE + 4·(S+X) + s + x, calls counted whether refused or not."
+pub record Within (st : State) (qs : List Request) : Type 0 where
+  pub splits : hD (desc st) * S st qs ≤ M st qs
+  pub starts : FD (desc st) * X st qs ≤ M st qs
+  pub index-splits : hI (desc st) * s st qs ≤ S st qs + X st qs
+  pub index-starts : FI (desc st) * x st qs ≤ S st qs + X st qs
+  pub transfers : allTransfers st qs ≤ shares st qs + 4 * (S st qs + X st qs) + s st qs + x st qs
+
+-- "From a CREATE and then an OPEN that both answer 0, any calls, each given what the last left, closing and reopening included"
+abbrev pub Demand3 : Type 0
+Demand3 =
+    (session : Session) (f buffer work marks : List ℕ) → create (session .desc) f .number ≡ done
+    → let made = lent session (create (session .desc) f .file) buffer work in
+    openFile made marks .outcome .number ≡ done → (qs : List Request) → Within (openFile made marks .outcome .after) qs
+
+-- ---- of one call
+
+-- at most its share of transfers, 4 for each new detail block and 1 for each new index block
+abbrev pub CallWithin : State → Request → Type 0
+CallWithin st q = length (answer st q .transfers) ≤ share q + 4 * newDetails st (answer st q) + newIndexes st (answer st q)
