@@ -13,22 +13,23 @@ use Rattle.table.specs.Splits.{lowCount, lowBound, renamed, entered}
 use Rattle.table.proofs.Places.{row-lt}
 use Rattle.table.proofs.Lengths.{length-low, length-high, length-entered}
 use Rattle.drum.specs.declared.Description.{Description}
-use Rattle.drum.specs.Params.{D, I, masterSize, fileSize, masterShape, indexShape, detailShape}
-use Rattle.drum.specs.Blocks.{Fitting, Block, Read, written, blockAt, putBlock, Texts, textOf, sections}
+use Rattle.drum.specs.Params.{D, I, fileSize, masterShape, indexShape, detailShape}
+use Rattle.drum.specs.Blocks.{Fitting, Block, Transfer, Read, Write, written, blockAt, putBlock, Texts, textOf, sections}
 use Rattle.drum.proofs.Good.{Caps, caps}
-use Rattle.drum.proofs.Blocks.{length-putBlock, block-same, block-other, block-over, block-swap, master-word, length-textOf}
-use Rattle.drum.proofs.Written.{written-append}
+use Rattle.drum.proofs.Blocks.{length-putBlock, block-same, block-other, block-over, block-swap, length-textOf}
+use Rattle.drum.proofs.Written.{Moves, written-append, moves-append}
 use Rattle.rules.specs.declared.Path.{Path}
 use Rattle.rules.specs.declared.Way.the-variants.{By}
 use Rattle.rules.specs.declared.Taken.{Taken}
 use Rattle.rules.specs.Lookup.{flushMoves, bringing, reached}
 use Rattle.rules.specs.Free.{withFree}
 use Rattle.rules.specs.NsertDone.{detailLow, detailHigh, detailEntry, indexEntered, indexLow, indexHigh, indexEntry, splitMoves, bothMoves, splitFile, bothFile}
+use Rattle.rules.proofs.Kept.{index-block, detail-block, flush-moves, freed-count}
 use Rattle.acts.proofs.Moves.{written-reads}
 use Rattle.split.specs.Halves.{halved, lowEntry}
 use Rattle.nsert.specs.Fits.{CutFits}
 use Rattle.nsert.specs.Steps.{flushedFile, readyFile, cutFile, aboveFile}
-use Rattle.nsert.proofs.Ready.{length-flushed-file, sections-flushed}
+use Rattle.nsert.proofs.Ready.{length-flushed-file}
 
 -- block i written, then d and n, then i again
 module _ (p : Description) (f : List ℕ) (hf : length f ≡ fileSize p) (i d n : ℕ) (t x y : List ℕ) (ht : length t ≡ p .wpb) (hx : length x ≡ p .wpb) (hy : length y ≡ p .wpb)
@@ -38,9 +39,6 @@ module _ (p : Description) (f : List ℕ) (hf : length f ≡ fileSize p) (i d n 
 
   h₂ : length (putBlock p (putBlock p f i t) d x) ≡ fileSize p
   h₂ = length-putBlock p (putBlock p f i t) h₁ d hd x hx
-
-  length-three : length (putBlock p (putBlock p (putBlock p f i t) d x) n y) ≡ fileSize p
-  length-three = length-putBlock p (putBlock p (putBlock p f i t) d x) h₂ n hn y hy
 
   block-kept : blockAt p (putBlock p (putBlock p (putBlock p f i t) d x) n y) i ≡ t
   block-kept =
@@ -60,14 +58,14 @@ module _ (v : Texts) (fit : Fitting (v .desc) (v .file) (v .buffer)) (flag : Boo
   q : Caps (v .desc)
   q = caps (v .desc) (fit .good)
 
-  index-block : Block (v .desc) (w .index)
-  index-block = (x .path .index-least, x .path .index-most)
+  index-good : Block (v .desc) (w .index)
+  index-good = index-block v w (x .path)
 
-  detail-block : Block (v .desc) (w .detail)
-  detail-block = (x .path .detail-least, x .path .detail-most)
+  detail-good : Block (v .desc) (w .detail)
+  detail-good = detail-block v w (x .path)
 
   length-index : length (textOf v (w .index)) ≡ v .desc .wpb
-  length-index = length-textOf v (w .index) fit index-block
+  length-index = length-textOf v (w .index) fit index-good
 
   length-detailLow : length (detailLow v w i r) ≡ v .desc .wpb
   unfolding detailLow detailShape
@@ -86,37 +84,28 @@ module _ (v : Texts) (fit : Fitting (v .desc) (v .file) (v .buffer)) (flag : Boo
       let m = length-part (1 + (lowCount n - 1) * v .desc .wpr) (v .desc .k) (detailLow v w i r) (omega (arith, length-detailLow, q .records-fit, q .facts .key)) in
       length-append (part (1 + (lowCount n - 1) * v .desc .wpr) (v .desc .k) (detailLow v w i r)) (w .detail ∷ []) ∙ ap (λ (y : ℕ). y + 1) m
 
-  -- the file once the detail block is split: its length, its sections, its index block
+  -- the file once the detail block is split: its index block, its sections
   length-flushed : length (flushedFile v flag (d .head) (d .lowest)) ≡ fileSize (v .desc)
   length-flushed = length-flushed-file v fit flag (x .flush) (d .head) (d .lowest)
 
-  pub length-cut : length (cutFile v flag w i r d) ≡ fileSize (v .desc)
-  unfolding cutFile readyFile
-  length-cut = length-three (v .desc) (flushedFile v flag (d .head) (d .lowest)) length-flushed (w .index) (w .detail) (d .block) (textOf v (w .index)) (detailLow v w i r) (detailHigh v w i r) length-index length-detailLow length-detailHigh index-block detail-block (x .new .block) (x .path .apart) (x .new .not-index)
-
   pub index-at : blockAt (v .desc) (cutFile v flag w i r d) (w .index) ≡ textOf v (w .index)
   unfolding cutFile readyFile
-  index-at = block-kept (v .desc) (flushedFile v flag (d .head) (d .lowest)) length-flushed (w .index) (w .detail) (d .block) (textOf v (w .index)) (detailLow v w i r) (detailHigh v w i r) length-index length-detailLow length-detailHigh index-block detail-block (x .new .block) (x .path .apart) (x .new .not-index)
+  index-at = block-kept (v .desc) (flushedFile v flag (d .head) (d .lowest)) length-flushed (w .index) (w .detail) (d .block) (textOf v (w .index)) (detailLow v w i r) (detailHigh v w i r) length-index length-detailLow length-detailHigh index-good detail-good (x .new .block) (x .path .apart) (x .new .not-index)
 
   pub sections-cut : sections (cutFile v flag w i r d) ≡ sections (v .file)
-  unfolding cutFile readyFile
+  unfolding cutFile readyFile flushedFile written
   sections-cut =
       let p : Description = v .desc in
-      let f : List ℕ = flushedFile v flag (d .head) (d .lowest) in
-      let m : 0 < masterSize p = omega (arith, q .sections-fit) in
-      let g₁ = length-putBlock p f length-flushed (w .index) index-block (textOf v (w .index)) length-index in
-      let f₁ : List ℕ = putBlock p f (w .index) (textOf v (w .index)) in
-      let g₂ = length-putBlock p f₁ g₁ (w .detail) detail-block (detailLow v w i r) length-detailLow in
-      master-word p (putBlock p f₁ (w .detail) (detailLow v w i r)) g₂ (d .block) (x .new .block) (detailHigh v w i r) length-detailHigh 0 m
-      ∙ master-word p f₁ g₁ (w .detail) detail-block (detailLow v w i r) length-detailLow 0 m
-      ∙ master-word p f length-flushed (w .index) index-block (textOf v (w .index)) length-index 0 m
-      ∙ sections-flushed v fit flag (x .flush) (d .head) (d .lowest)
+      let ws : List Transfer = Write (w .index) (textOf v (w .index)) ∷ Write (w .detail) (detailLow v w i r) ∷ Write (d .block) (detailHigh v w i r) ∷ [] in
+      let m : Moves p (flushMoves v flag ++ ws) = moves-append p (flushMoves v flag) ws (flush-moves v fit flag (x .flush))
+      (index-good, length-index, (detail-good, length-detailLow, (x .new .block, length-detailHigh, tt))) in
+      ap sections (sym (written-append p (flushMoves v flag) ws (withFree (d .head) (d .lowest) (v .file)))) ∙ freed-count v fit (flushMoves v flag ++ ws) m (d .head) (d .lowest)
 
   -- the index block written over it
   over : (e : List ℕ) → length e ≡ v .desc .wpb → putBlock (v .desc) (cutFile v flag w i r d) (w .index) e
       ≡ putBlock (v .desc) (putBlock (v .desc) (putBlock (v .desc) (flushedFile v flag (d .head) (d .lowest)) (w .detail) (detailLow v w i r)) (d .block) (detailHigh v w i r)) (w .index) e
   unfolding cutFile readyFile
-  over e he = absorbed (v .desc) (flushedFile v flag (d .head) (d .lowest)) length-flushed (w .index) (w .detail) (d .block) (textOf v (w .index)) (detailLow v w i r) (detailHigh v w i r) length-index length-detailLow length-detailHigh index-block detail-block (x .new .block) (x .path .apart) (x .new .not-index) e he
+  over e he = absorbed (v .desc) (flushedFile v flag (d .head) (d .lowest)) length-flushed (w .index) (w .detail) (d .block) (textOf v (w .index)) (detailLow v w i r) (detailHigh v w i r) length-index length-detailLow length-detailHigh index-good detail-good (x .new .block) (x .path .apart) (x .new .not-index) e he
 
   -- the lookup's transfers come first
   looked : written (v .desc) (reached v flag (By w) .moves) (withFree (d .head) (d .lowest) (v .file)) ≡ flushedFile v flag (d .head) (d .lowest)

@@ -1,24 +1,22 @@
 -- The file made ready for a split: words 1 and 2 of the master set, the buffer written, the index block's current text in its place. Current
 -- texts stay as they were.
-use mathlib.Core.Path.{_≡_, refl, sym, ap, _∙_}
-use mathlib.Core.Bool.{Bool, true, false}
+use mathlib.Core.Path.{_≡_, sym, ap, _∙_}
+use mathlib.Core.Bool.{Bool}
 use mathlib.Core.List.{List}
-use Prim.Native.Nat.{ℕ, _≤_}
+use Prim.Native.Nat.{ℕ}
 use native.Mathlib.Decide.{ℕ-discrete}
-use native.Mathlib.Omega.{arith}
-use lib.ListN.{length, set, length-set}
-use lib.Seq.{getD-set-other}
+use lib.ListN.{length}
 use Rattle.drum.specs.declared.Description.{Description}
-use Rattle.drum.specs.Params.{masterSize, fileSize}
-use Rattle.drum.specs.Blocks.{Fitting, Block, written, blockAt, putBlock, Texts, seen, textOf, sections}
-use Rattle.drum.proofs.Good.{caps}
-use Rattle.drum.proofs.Blocks.{block-other, block-set, text-current, text-other, length-textOf}
-use Rattle.drum.proofs.Written.{Moves, master-word-written}
+use Rattle.drum.specs.Params.{fileSize}
+use Rattle.drum.specs.Blocks.{Fitting, Block, written, blockAt, putBlock, Texts, seen, textOf}
+use Rattle.drum.proofs.Blocks.{block-other, text-current, text-other, length-textOf}
 use Rattle.rules.specs.declared.Path.{Path}
 use Rattle.rules.specs.Lookup.{flushMoves}
 use Rattle.rules.specs.Free.{withFree}
 use Rattle.rules.specs.Fits.{PathFits, FlushFits}
-use Rattle.acts.proofs.Moves.{length-flushed, text-flushed}
+use Rattle.rules.proofs.Rooms.{free-length, free-blocks}
+use Rattle.rules.proofs.Kept.{flush-moves, freed-length, index-block, detail-block}
+use Rattle.acts.proofs.Moves.{text-flushed}
 use Rattle.nsert.specs.Steps.{flushedFile, readyFile}
 
 -- the current text of a block stays where the file's block does
@@ -33,40 +31,19 @@ module _ (v : Texts) (fit : Fitting (v .desc) (v .file) (v .buffer)) (flag : Boo
   free : List ℕ
   free = withFree head lowest (v .file)
 
-  three : 3 ≤ masterSize (v .desc)
-  three = omega (arith, caps (v .desc) (fit .good) .sections-fit)
-
   free-fits : Fitting (v .desc) free (v .buffer)
-  unfolding free withFree
-  free-fits = record { good = fit .good; file-is = simp length-set (fit .file-is); buffer-is = fit .buffer-is }
-
-  block-free : (x : ℕ) → blockAt (v .desc) free x ≡ blockAt (v .desc) (v .file) x
-  unfolding free withFree
-  block-free x =
-      block-set (v .desc) (set (v .file) 1 head) 2 lowest x (omega (arith, three))
-      ∙ block-set (v .desc) (v .file) 1 head x (omega (arith, three))
+  unfolding free
+  free-fits = record { good = fit .good; file-is = free-length (v .desc) (fit .good) head lowest (v .file) ∙ fit .file-is; buffer-is = fit .buffer-is }
 
   pub length-flushed-file : length (flushedFile v flag head lowest) ≡ fileSize (v .desc)
-  unfolding flushedFile flushMoves free
-  length-flushed-file = length-flushed (seen (v .desc) (v .current) free (v .buffer)) free-fits flag flush
+  unfolding flushedFile
+  length-flushed-file = freed-length v fit (flushMoves v flag) (flush-moves v fit flag flush) head lowest
 
   text-flushed-file : (x : ℕ) → Block (v .desc) x → textOf (seen (v .desc) (v .current) (flushedFile v flag head lowest) (v .buffer)) x ≡ textOf v x
   unfolding flushedFile flushMoves free
   text-flushed-file x h =
       text-flushed (seen (v .desc) (v .current) free (v .buffer)) free-fits flag flush x h
-      ∙ text-kept (v .desc) (v .current) (v .file) free (v .buffer) x (λ n. block-free x)
-
-  moves-flush : (t : Bool) → FlushFits v t → Moves (v .desc) (flushMoves v t)
-  unfolding flushMoves
-  moves-flush true h = (h refl, fit .buffer-is, tt)
-  moves-flush false h = tt
-
-  pub sections-flushed : sections (flushedFile v flag head lowest) ≡ sections (v .file)
-  unfolding flushedFile withFree free
-  sections-flushed =
-      master-word-written (v .desc) free (free-fits .file-is) (flushMoves v flag) (moves-flush flag flush) 0 (omega (arith, three))
-      ∙ getD-set-other (set (v .file) 1 head) 2 0 lowest 0 (λ e. omega arith)
-      ∙ getD-set-other (v .file) 1 0 head 0 (λ e. omega arith)
+      ∙ text-kept (v .desc) (v .current) (v .file) free (v .buffer) x (λ n. free-blocks (v .desc) (fit .good) head lowest (v .file) x)
 
   -- what the calls left is that
   module _ (w : Path) (path : PathFits v w) (f₁ f₂ f₃ b₁ : List ℕ)
@@ -83,13 +60,13 @@ module _ (v : Texts) (fit : Fitting (v .desc) (v .file) (v .buffer)) (flag : Boo
     ready-by =
         e₃
         ∙ ap (λ (z : List ℕ). putBlock (v .desc) z (w .index) (textOf (seen (v .desc) (v .current) z (v .buffer)) (w .index))) flushed-by
-        ∙ ap (putBlock (v .desc) (flushedFile v flag head lowest) (w .index)) (text-flushed-file (w .index) (path .index-least, path .index-most))
+        ∙ ap (putBlock (v .desc) (flushedFile v flag head lowest) (w .index)) (text-flushed-file (w .index) (index-block v w path))
 
     pub detail-by : b₁ ≡ textOf v (w .detail)
     unfolding readyFile
     detail-by =
-        let h : Block (v .desc) (w .index) = (path .index-least, path .index-most) in
-        let k : Block (v .desc) (w .detail) = (path .detail-least, path .detail-most) in
+        let h : Block (v .desc) (w .index) = index-block v w path in
+        let k : Block (v .desc) (w .detail) = detail-block v w path in
         let g : List ℕ = flushedFile v flag head lowest in
         let t : List ℕ = textOf v (w .index) in
         eb

@@ -19,17 +19,17 @@ ghost use lib.Dec.{eqb, leb};
 ghost use lib.ListN.{length};
 ghost use Rattle.words.specs.Words.{part};
 ghost use Rattle.table.specs.Tables.{rowAbove};
-ghost use Rattle.drum.specs.Params.{D, I, goodParams, detailShape};
+ghost use Rattle.drum.specs.Params.{I, goodParams, detailShape};
 ghost use Rattle.drum.specs.Blocks.{Fitting, Block, seen, textOf, blockAt, sections};
 ghost use Rattle.rules.specs.Fits.{PathFits, FlushFits, LookFits};
 ghost use Rattle.rules.specs.Lookup.{flushMoves};
 ghost use Rattle.rules.specs.Nsert.{halfCount, roomDeed, splitWith, splitDeed, bothStored, bothWith, bothAfter, bothDeed, insertAt, insertAfter, insertDeed};
 ghost use Rattle.rules.specs.NsertDone.{halfOf, detailEntry, splitFile, bothFile, insertDone, nsertSteps};
-ghost use Rattle.rules.specs.State.{recordIn, keyIn};
+ghost use Rattle.rules.specs.State.{recordIn};
 ghost use Rattle.rules.specs.Told.{gave, told};
 ghost use Rattle.nsert.specs.Answers.{asInsert};
 ghost use Rattle.nsert.specs.Fits.{CutFits, RoomFits, SplitFits, BothFits, InsertFits};
-ghost use Rattle.nsert.specs.Steps.{flushedFile, readyFile, cutFile, aboveFile};
+ghost use Rattle.nsert.specs.Steps.{readyFile, cutFile, aboveFile};
 
 // How many records the half has in which the one put in at place i of n falls.
 fn half_count(n: usize, i: usize) -> usize

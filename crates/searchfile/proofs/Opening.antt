@@ -13,8 +13,9 @@ use Rattle.drum.specs.declared.Description.{Description}
 use Rattle.drum.specs.Params.{sized, goodParams, fileSize}
 use Rattle.layout.specs.Create.{created}
 use Rattle.layout.specs.Inspect.{layoutMarks}
-use Rattle.rules.specs.State.{State, Outcome, desc, lent, atRest, unchanged}
+use Rattle.rules.specs.State.{Session, State, Outcome, desc, lent, atRest, unchanged}
 use Rattle.rules.specs.Checks.{sizesOk}
+use Rattle.searchfile.specs.Promise.{CountedOpen}
 use Rattle.rules.specs.Open.{Opened, openFile, openChecks, openDone, openLayout, Created, create}
 
 -- refused, these marks left; and opened
@@ -63,3 +64,10 @@ module _ (p : Description) (f : List ℕ) where
   pub create-done : goodParams p ≡ true → length f ≡ fileSize p → create p f ≡ record { number = done; file = created p }
   unfolding create
   create-done g e = simp (g, eq-eqb _ _ e)
+
+-- the answer of an OPEN that is done, its marks as they are
+pub open-told : (s r : Session) (f b ms : List ℕ) → s ≡ r
+    → _≡_ {A = CountedOpen}
+    (record { outcome = record { number = 0; transfers = 0; after = lent s f b [] }; marks = ms })
+    (record { outcome = record { number = 0; transfers = 0; after = lent r f b [] }; marks = ms })
+open-told s r f b ms e = λ j. record { outcome = record { number = 0; transfers = 0; after = lent (e j) f b [] }; marks = ms }

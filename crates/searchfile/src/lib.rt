@@ -20,6 +20,7 @@ ghost use Rattle.rules.specs.Close.{close as closed, view as viewed};
 ghost use Rattle.rules.specs.Adv.{adv as advanced};
 ghost use Rattle.rules.specs.NsertDone.{nsert as inserted};
 ghost use Rattle.rules.specs.Dlete.{dlete as deleted};
+ghost use Rattle.rules.specs.XtendDone.{xtend as extended};
 ghost use Rattle.rules.specs.Seek.{seek as sought, updat as updated};
 ghost use Rattle.searchfile.specs.Promise.{held, given, counted, answered, countedOpen, answeredOpen, made, refusing};
 ghost use Rattle.searchfile.specs.Checks.{plainChecks, keyedChecks};
@@ -311,6 +312,20 @@ impl Session {
             return self.refused(number);
         }
         let done = dlete::dlete(p, self.current, self.flag, file, buffer, work);
+        self.after(done, work)
+    }
+
+    // XTEND: the workspace's record put in after all others, in ascending order.
+    pub fn xtend(self, file: &mut [u32], buffer: &mut [u32], work: &[u32]) -> Answer
+        ensures { λ r. ⌜ answered r (now (file .exit)) (now (buffer .exit)) (now (work .entry)) ≡ counted (extended (given self (now (file .entry)) (now (buffer .entry)) (now (work .entry)))) ⌝ }
+    {
+        let p = self.desc;
+        let wpr = p.wpr;
+        let number = refused_key(p, self.opened, file.len(), buffer.len(), work, wpr);
+        if number != 0 {
+            return self.refused(number);
+        }
+        let done = xtend::xtend(p, self.current, self.flag, file, buffer, work);
         self.after(done, work)
     }
 }

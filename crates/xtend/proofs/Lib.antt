@@ -1,0 +1,5 @@
+pub mod Ways
+pub mod Ready
+pub mod Entries
+pub mod Started
+pub mod Outcome
