@@ -59,7 +59,7 @@ opening st marks e =
     let t = opening-by st marks (sized (desc st) (length (st .file)) (length (st .buffer))) (eqb (length marks) (desc st .n)) (not (st .session .opened)) e in
     record { sizes-are = sized-facts (desc st) (length (st .file)) (length (st .buffer)) (t .0); marks-are = eqb-true _ _ (t .1); was-closed = not-true _ (t .2) }
 
-opens : (st : State) (marks : List ℕ) → openFile st marks .outcome .number ≡ done → Opens st marks
+pub opens : (st : State) (marks : List ℕ) → openFile st marks .outcome .number ≡ done → Opens st marks
 opens st marks e = let o = opening st marks e in open-right st marks (o .sizes-are .good) (o .sizes-are .file-is) (o .sizes-are .buffer-is) (o .marks-are) (o .was-closed) e
 
 -- it keeps the parameters

@@ -59,3 +59,8 @@ pub mod Potential
 pub mod Standing
 pub mod Stepped
 pub mod Within
+pub mod Promised
+pub mod Sheets
+pub mod WrongRoutines
+pub mod Plans
+pub mod Contents

@@ -127,11 +127,11 @@ tells p (q ∷ qs) st ss f h e =
 
 -- ---- SEEK
 
-rows-of : (p : Description) (ls : List Leaf) → All (LeafOk p) ls → All (RowOk p) (contents ls)
+pub rows-of : (p : Description) (ls : List Leaf) → All (LeafOk p) ls → All (RowOk p) (contents ls)
 rows-of p [] h = tt
 rows-of p (l ∷ ls) h = all-append (RowOk p) (l .records) (contents ls) (h .0 .rows) (rows-of p ls (h .1))
 
-rows-ok : (p : Description) (ss : List Section) → All (SectionOk p) ss → All (LeafOk p) (leavesOf ss)
+pub rows-ok : (p : Description) (ss : List Section) → All (SectionOk p) ss → All (LeafOk p) (leavesOf ss)
 rows-ok p [] h = tt
 rows-ok p (s ∷ ss) h = all-append (LeafOk p) (s .leaves) (leavesOf ss) (h .0 .leaves) (rows-ok p ss (h .1))
 

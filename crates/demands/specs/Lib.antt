@@ -1,2 +1,5 @@
 pub mod Formula
 pub mod History
+pub mod Promises
+pub mod Planned
+pub mod Contents

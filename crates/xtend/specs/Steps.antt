@@ -1,6 +1,6 @@
 -- The file between the steps of XTEND, as the code leaves it. The index block's text stands in the file before it is changed there, so
--- that the buffer is free for the last block; and the new block is written before the old one, whose end record it takes. The write of
--- the index block that follows makes no difference to either.
+-- that the buffer is free for the last block; and the new block is written before the old one, whose end record it takes. Neither makes a
+-- difference to the file once the index block is written.
 use Prim.Native.Nat.{ℕ, _-_}
 use mathlib.Core.Bool.{Bool}
 use mathlib.Core.List.{List}

@@ -213,8 +213,8 @@ fn set_bound(p: Description, h: Shape, t: &mut [u32], key: &[u32])
     requires { ⌜ (1 ≤ h .base) × (p .k ≤ h .stride) × (1 ≤ count (now t)) × (place h (count (now t)) ≤ length (now t)) × (p .k ≤ length (now key)) ⌝ }
     ensures { λ _. ⌜ now (t .exit) ≡ bounded h (part 0 (p .k) (now (key .entry))) (now (t .entry)) ⌝ }
 {
-    let n = words::word_at(t, 0);
-    table::replace_row(h, t, n - 1, key, 0, p.k);
+    let last = words::word_at(t, 0) - 1;
+    table::replace_row(h, t, last, key, 0, p.k);
 }
 
 // The last bound becomes the key, and an entry with the bound ONES for block b is put in behind it.

@@ -8,12 +8,10 @@ use Rattle.xtend.proofs.set_bound.Statement.{statement}
 use Rattle.xtend.proofs.set_bound.Tie as tie
 
 word-at-requires : tie.Need-word-at-requires
-word-at-requires c κs =
-    let l = c .before .before .before .pre .3 in
-    omega arith
+word-at-requires c κs = search needs
 
-sub-replace-row : tie.Need-sub-replace-row
-sub-replace-row c = search needs
+sub-last : tie.Need-sub-last
+sub-last c = search needs
 
 replace-row-requires : tie.Need-replace-row-requires
 replace-row-requires c κs =
@@ -33,4 +31,4 @@ returns c = rw (← c .before .before .before .before .word-at .ensures) (c .bef
 
 pub set-bound-spec : {M : Type 1} → statement M
 set-bound-spec =
-    tie.close (tie.spec word-at-requires sub-replace-row replace-row-requires same-length returns)
+    tie.close (tie.spec word-at-requires sub-last replace-row-requires same-length returns)
