@@ -53,9 +53,19 @@ lines =
     ∷ line 0o000000 0 []
     ∷ []
 
--- "prints: .." and "After the third NSERT block 1 is 3 10 2 20 4 262143 3 0."
+-- the whole file after the third NSERT: the master and the four blocks, as docs/FORMAT.md draws them
+abbrev drawn : List ℕ
+drawn =
+    1 ∷ 0 ∷ 5 ∷ 262143 ∷ 1 ∷ 0 ∷ 0 ∷ 0
+    ∷ 3 ∷ 10 ∷ 2 ∷ 20 ∷ 4 ∷ 262143 ∷ 3 ∷ 0
+    ∷ 2 ∷ 5 ∷ 7 ∷ 7 ∷ 10 ∷ 1 ∷ 2 ∷ 0
+    ∷ 1 ∷ 262143 ∷ 0 ∷ 0 ∷ 0 ∷ 0 ∷ 0 ∷ 0
+    ∷ 1 ∷ 20 ∷ 3 ∷ 4 ∷ 0 ∷ 0 ∷ 0 ∷ 0 ∷ []
+
+-- "prints: ..", "After the third NSERT block 1 is 3 10 2 20 4 262143 3 0.", and the file then
 pub table :
     (printed words (begun small) calls ≡ lines)
     × (textOf (texts (ended words (begun small) (take 5 calls))) 1 ≡ 3 ∷ 10 ∷ 2 ∷ 20 ∷ 4 ∷ 262143 ∷ 3 ∷ 0 ∷ [])
+    × (ended words (begun small) (take 5 calls) .file ≡ drawn)
 unfolding computing
-table = (refl, refl)
+table = (refl, refl, refl)
