@@ -40,7 +40,7 @@ module _ (p : Description) (kr : p .k ≤ p .wpr) (w : List ℕ) (kw : Key p w) 
   abbrev K : List ℕ → ℕ
   K = key (p .k)
 
-  row-under : (r : List ℕ) → RowOk p r → keyLt (keyIn p r) w ≡ ltb (K r) (val w)
+  pub row-under : (r : List ℕ) → RowOk p r → keyLt (keyIn p r) w ≡ ltb (K r) (val w)
   unfolding key part
   row-under r ok = let l = key-long p kr r ok in keyLt-val (keyIn p r) w (l .1) (kw .wide) (l .0 ∙ sym (kw .long))
 
@@ -57,7 +57,7 @@ module _ (p : Description) (kr : p .k ≤ p .wpr) (w : List ℕ) (kw : Key p w) 
       go (yes l) e = rw (row-under r (ok .0), lt-ltb (K r) (val w) l) (ap (λ (z : List (List ℕ)). r ∷ z) e)
       go (no n) e = rw (row-under r (ok .0), le-ltb (K r) (val w) (omega arith)) (e ∙ below-above K (val w) rows hi (asc-wide K (suc (K r)) (val w) rows hi hi (h .1) (omega arith) (omega arith)))
 
-  above-is : (lo : ℕ) (rows : List (List ℕ)) (hi : ℕ) → Asc K lo rows hi → All (RowOk p) rows → recordsAbove p w rows ≡ from K (suc (val w)) rows
+  pub above-is : (lo : ℕ) (rows : List (List ℕ)) (hi : ℕ) → Asc K lo rows hi → All (RowOk p) rows → recordsAbove p w rows ≡ from K (suc (val w)) rows
   unfolding recordsAbove from
   above-is lo [] hi h ok = refl
   above-is lo (r ∷ rows) hi h ok = go (decLt (val w) (K r)) (above-is (suc (K r)) rows hi (h .1) (ok .1))
@@ -109,7 +109,7 @@ changed-is st ss f h q ks = go q ks
     go (updating w) k = some-is p kr _ _ asc ok (accepted (answer st (updating w) .number)) (stored w) k
     go (extending w) k = some-is p kr _ _ asc ok (accepted (answer st (extending w) .number)) (stored w) k
 
-read-in : (ss : List Section) → lay.recordsIn (lay.leavesIn ss) ≡ contents (leavesOf ss)
+pub read-in : (ss : List Section) → lay.recordsIn (lay.leavesIn ss) ≡ contents (leavesOf ss)
 read-in ss = ap lay.recordsIn (leaves-in ss) ∙ records-in (leavesOf ss)
 
 pub call-contents : CallContents

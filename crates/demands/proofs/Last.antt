@@ -73,7 +73,7 @@ module _ (v : Texts) (flag : Bool) (ss : List Section) (f : Free) (h : Kept v fl
       let n : count (table (p .wpb) (fr ++ y ∷ [])) - 1 ≡ length fr = omega (arith, count-table (p .wpb) (fr ++ y ∷ []), length-append fr (y ∷ [])) in
       ap isOnes (ap (keyAt (detailShape p) (table (p .wpb) (fr ++ y ∷ []))) n ∙ key-here p kr fr y [] ok)
 
-  end-ones : isOnes (take (p .k) (endRecord p)) ≡ true
+  pub end-ones : isOnes (take (p .k) (endRecord p)) ≡ true
   unfolding endRecord
   end-ones = ap isOnes (take-at (ones (p .k)) (zeros (p .wpr - p .k)) (p .k) (length-replicate {A = ℕ} (p .k) topWord)) ∙ isOnes-ones (p .k)
 

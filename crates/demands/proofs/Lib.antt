@@ -64,3 +64,6 @@ pub mod Sheets
 pub mod WrongRoutines
 pub mod Plans
 pub mod Contents
+pub mod Ordinary
+pub mod Extends
+pub mod Answered

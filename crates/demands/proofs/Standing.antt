@@ -55,7 +55,7 @@ module _ (p : Description) (kr : p .k ≤ p .wpr) (w : List ℕ) (kw : Key p w) 
   unfolding key part
   row-same r ok = same-is (keyIn p r) (key-long p kr r ok .0) (key-long p kr r ok .1)
 
-  with-hit : (lo : ℕ) (rows : List (List ℕ)) (hi : ℕ) → Asc K lo rows hi → All (RowOk p) rows → withKey p w rows ≡ hit K (val w) rows
+  pub with-hit : (lo : ℕ) (rows : List (List ℕ)) (hi : ℕ) → Asc K lo rows hi → All (RowOk p) rows → withKey p w rows ≡ hit K (val w) rows
   unfolding withKey hit below from
   with-hit lo [] hi h ok = refl
   with-hit lo (r ∷ rows) hi h ok = go (tri (K r) (val w)) (with-hit (suc (K r)) rows hi (h .1) (ok .1))

@@ -3,3 +3,4 @@ pub mod History
 pub mod Promises
 pub mod Planned
 pub mod Contents
+pub mod Answers
