@@ -1,12 +1,15 @@
--- Where the key or record has room, and OPEN is lent marks that are all 0, a call does what it does in the printed session.
+-- Where the key or record has room, and OPEN is lent as many marks as there are blocks, a call does what it does in the printed session.
 use Prim.Native.Nat.{ℕ, _+_, _≤_}
-use mathlib.Core.Path.{_≡_, refl, ap}
+use mathlib.Core.Path.{_≡_, refl, sym, ap, _∙_}
+use mathlib.Core.Bool.{Bool}
 use mathlib.Core.List.{List}
-use lib.ListN.{length}
+use lib.ListN.{length, length-replicate}
+use Rattle.numbers.specs.Checked.{Checked, passed, refused}
 use Rattle.words.specs.Words.{zeros}
 use Rattle.rules.specs.declared.Call.{Call}
 use Rattle.rules.specs.declared.Call.the-variants.{Create, Open, Close, Seek, Adv, Nsert, Dlete, Updat, Xtend}
 use Rattle.rules.specs.State.{State, desc, lent}
+use Rattle.rules.specs.Open.{openFile, openChecks, openDone}
 use Rattle.rules.specs.Seek.{seek, updat}
 use Rattle.rules.specs.NsertDone.{nsert}
 use Rattle.rules.specs.Dlete.{dlete}
@@ -32,19 +35,28 @@ Room ws st (Dlete at) = HasRoom ws st at (desc st .k)
 Room ws st (Updat at) = HasRoom ws st at (desc st .wpr)
 Room ws st (Xtend at) = HasRoom ws st at (desc st .wpr)
 
-pub done-printed : (ws : List ℕ) (st : State) (c : Call) → Room ws st c → done ws st (zeros (desc st .n)) c .outcome ≡ perform ws st c
+-- OPEN asks how many marks it is lent, and never what they are
+open-marks : (st : State) (m n : List ℕ) → length m ≡ length n → openFile st m .outcome ≡ openFile st n .outcome
+unfolding openFile openChecks openDone
+open-marks st m n h = rw h (go (openChecks st n))
+  where
+    go : (x : Checked Bool) → openDone st m x .outcome ≡ openDone st n x .outcome
+    go (refused e) = refl
+    go (passed x) = refl
+
+pub done-printed : (ws : List ℕ) (st : State) (m : List ℕ) (c : Call) → length m ≡ desc st .n → Room ws st c → done ws st m c .outcome ≡ perform ws st c
 unfolding done called workFor perform answer lending keyFrom recordFrom
-done-printed ws st Create h = refl
-done-printed ws st Open h = refl
-done-printed ws st Close h = refl
-done-printed ws st (Seek at) h =
+done-printed ws st m Create l h = refl
+done-printed ws st m Open l h = open-marks st m (zeros (desc st .n)) (l ∙ sym (length-replicate (desc st .n) 0))
+done-printed ws st m Close l h = refl
+done-printed ws st m (Seek at) l h =
     ap (λ (w : List ℕ). seek (lent (st .session) (st .file) (st .buffer) w)) (staged-room ws at (desc st .k) (st .work) (h .0) (h .1))
-done-printed ws st Adv h = refl
-done-printed ws st (Nsert at) h =
+done-printed ws st m Adv l h = refl
+done-printed ws st m (Nsert at) l h =
     ap (λ (w : List ℕ). nsert (lent (st .session) (st .file) (st .buffer) w)) (staged-room ws at (desc st .wpr) (st .work) (h .0) (h .1))
-done-printed ws st (Dlete at) h =
+done-printed ws st m (Dlete at) l h =
     ap (λ (w : List ℕ). dlete (lent (st .session) (st .file) (st .buffer) w)) (staged-room ws at (desc st .k) (st .work) (h .0) (h .1))
-done-printed ws st (Updat at) h =
+done-printed ws st m (Updat at) l h =
     ap (λ (w : List ℕ). updat (lent (st .session) (st .file) (st .buffer) w)) (staged-room ws at (desc st .wpr) (st .work) (h .0) (h .1))
-done-printed ws st (Xtend at) h =
+done-printed ws st m (Xtend at) l h =
     ap (λ (w : List ℕ). xtend (lent (st .session) (st .file) (st .buffer) w)) (staged-room ws at (desc st .wpr) (st .work) (h .0) (h .1))

@@ -1,0 +1,12 @@
+pub mod Steps
+pub mod Turns
+pub mod Letters
+pub mod Kept
+pub mod Digits
+pub mod Names
+pub mod Fold
+pub mod Words
+pub mod Tally
+pub mod Spelled
+pub mod Lines
+pub mod Cuts

@@ -1,0 +1,5 @@
+pub mod Puts
+pub mod Digits
+pub mod Lines
+pub mod Decimal
+pub mod Examples
