@@ -4,8 +4,8 @@ use rules::Done;
 use rules::Way;
 use table::Shape;
 ghost use mathlib.Core.Path.{_≡_};
-ghost use mathlib.Core.Bool.{true};
-ghost use Prim.Native.Nat.{_+_, _*_, _≤_, _<_};
+ghost use mathlib.Core.Bool.{true, false};
+ghost use Prim.Native.Nat.{_+_, _≤_, _<_};
 ghost use lib.ListN.{length};
 ghost use Rattle.words.specs.Words.{part};
 ghost use Rattle.table.specs.Tables.{count, place, row, inserted, removed, replaced, laid};
@@ -108,6 +108,27 @@ pub fn reach(
     }
 }
 
+// Follows the way without its block being brought: a flagged buffer is written, and the reads are counted.
+pub fn follow(
+    p: Description,
+    current: usize,
+    flag: bool,
+    file: &mut [u32],
+    buffer: &[u32],
+    way: Way,
+) -> usize
+    requires { ⌜ Fitting p (now file) (now buffer) × WayFits (seen p current (now file) (now buffer)) flag way ⌝ }
+    ensures { λ r. ⌜ (r ≡ length (reached (seen p current (now (file .entry)) (now (buffer .entry))) flag way .moves)) × (now (file .exit) ≡ written p (reached (seen p current (now (file .entry)) (now (buffer .entry))) flag way .moves) (now (file .entry))) ⌝ }
+{
+    match way {
+        Way::Here => 0,
+        Way::By(_) => {
+            let wrote = flush(p, current, flag, file, buffer);
+            wrote + 2
+        }
+    }
+}
+
 // Reaches the block, and the call stops there with its number.
 pub fn stop(
     p: Description,
@@ -128,6 +149,28 @@ pub fn stop(
         current: here.current,
         flag: here.flag,
         keyed: false,
+    }
+}
+
+// The buffer takes block b, which the file has, and the call ends there with its number.
+pub fn land(
+    p: Description,
+    file: &[u32],
+    buffer: &mut [u32],
+    b: usize,
+    number: u32,
+    transfers: usize,
+) -> Done
+    requires { ⌜ Fitting p (now file) (now buffer) × Block p b ⌝ }
+    ensures { λ r. ⌜ (r ≡ record { number = number; transfers = transfers; current = b; flag = false; keyed = true }) × (now (buffer .exit) ≡ blockAt p (now (file .entry)) b) ⌝ }
+{
+    drum::read_block(p, file, buffer, b);
+    Done {
+        number,
+        transfers,
+        current: b,
+        flag: false,
+        keyed: true,
     }
 }
 

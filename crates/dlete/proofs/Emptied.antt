@@ -23,7 +23,7 @@ use Rattle.rules.specs.Lookup.{reached}
 use Rattle.rules.specs.Dlete.{entryGone, emptyMoves, emptyAll, bothAll, emptyFile, bothFile}
 use Rattle.dlete.specs.Fits.{EmptyFits}
 use Rattle.dlete.specs.Freed.{freed}
-use Rattle.dlete.proofs.Ways.{way-moves, length-followed, text-followed}
+use Rattle.acts.proofs.Ways.{way-moves, length-followed, text-followed}
 use Rattle.dlete.proofs.Gone.{length-gone}
 
 -- the list of an emptied block

@@ -1,5 +1,5 @@
 pub mod Gone
-pub mod Ways
+pub mod Reached
 pub mod Emptied
 pub mod Planned
 pub mod Ended

@@ -17,7 +17,7 @@ ghost use Rattle.numbers.specs.Checked.{passed};
 ghost use Rattle.words.specs.Words.{zeros};
 ghost use Rattle.table.specs.Tables.{count, removed};
 ghost use Rattle.drum.specs.Params.{I, goodParams, fileSize, detailShape};
-ghost use Rattle.drum.specs.Blocks.{Fitting, Block, seen, textOf, blockAt, putBlock, written};
+ghost use Rattle.drum.specs.Blocks.{Fitting, Block, seen, textOf, blockAt, putBlock};
 ghost use Rattle.rules.specs.Lookup.{reached, textAt, storing};
 ghost use Rattle.rules.specs.Fits.{WayFits};
 ghost use Rattle.rules.specs.Dlete.{entryGone, emptyAll, bothAll, emptyFile, bothFile, deleteDone};
@@ -57,28 +57,6 @@ fn gone_in(p: Description, file: &mut [u32], b: usize, j: usize)
     entry_gone(p, &mut file[start..end], j);
 }
 
-// Follows the way without its block being brought, which is not wanted in the buffer: a flagged buffer is written, and the reads are
-// counted.
-fn follow(
-    p: Description,
-    current: usize,
-    flag: bool,
-    file: &mut [u32],
-    buffer: &[u32],
-    way: Way,
-) -> usize
-    requires { ⌜ Fitting p (now file) (now buffer) × WayFits (seen p current (now file) (now buffer)) flag way ⌝ }
-    ensures { λ r. ⌜ (r ≡ length (reached (seen p current (now (file .entry)) (now (buffer .entry))) flag way .moves)) × (now (file .exit) ≡ written p (reached (seen p current (now (file .entry)) (now (buffer .entry))) flag way .moves) (now (file .entry))) ⌝ }
-{
-    match way {
-        Way::Here => 0,
-        Way::By(_) => {
-            let wrote = acts::flush(p, current, flag, file, buffer);
-            wrote + 2
-        }
-    }
-}
-
 // The stores up to the index block: a flagged buffer, the index block's current text, which may stand in the buffer alone, the emptied
 // block with its link, and the chain's new head.
 fn free_detail(
@@ -95,7 +73,7 @@ fn free_detail(
     requires { ⌜ Fitting p (now file) (now buffer) × EmptyFits (seen p current (now file) (now buffer)) flag way w link × (head ≤ p .n) ⌝ }
     ensures { λ r. ⌜ (r ≡ length (reached (seen p current (now (file .entry)) (now (buffer .entry))) flag way .moves)) × (now (file .exit) ≡ set (freed (seen p current (now (file .entry)) (now (buffer .entry))) flag way w link) 1 head) ⌝ }
 {
-    let moved = follow(p, current, flag, file, buffer, way);
+    let moved = acts::follow(p, current, flag, file, buffer, way);
     acts::stage(p, current, file, buffer, w.index);
     acts::lay_block(p, file, w.detail, link, buffer, 0, 0);
     words::put_word(file, 1, head);

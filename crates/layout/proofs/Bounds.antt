@@ -50,7 +50,7 @@ module _ (p : Description) (f : List ℕ) (z : Sized p f) where
   leaf-ok low e h i w =
       let s = start p (named p f e) in
       let n = getD f s 0 in
-      let kwpr = z .good .kwpr in
+      let kwpr = z .good .key in
       let t = tested p f low e (s + 1) n (w .good) in
       let l : n * p .wpr ≤ D p * p .wpr = mul-le-mul-right (p .wpr) (w .rows .fits .1) in
       let k : s + 1 + n * p .wpr ≤ length f = omega (arith, block-in p f z (named p f e) i, cap-d p (z .good)) in
@@ -118,7 +118,7 @@ module _ (p : Description) (f : List ℕ) (z : Sized p f) where
   end-is : (e r : ℕ) → r + p .wpr ≤ length f → isOnes (keyIn p f e) ≡ true → endOk p f e r ≡ true → part r (p .wpr) f ≡ endRecord p
   unfolding endOk endRecord
   end-is e r h q w =
-      let g = z .good .kwpr in
+      let g = z .good .key in
       let (a, b) = and-both (isOnes (keyIn p f r)) (allAre 0 (part (r + p .k) (p .wpr - p .k) f)) (simp q at w) in
       let l : p .wpr ≡ p .k + (p .wpr - p .k) = omega arith in
       ap (λ (n : ℕ). part r n f) l

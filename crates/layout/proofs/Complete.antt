@@ -62,7 +62,7 @@ module _ (p : Description) (f : List ℕ) (z : Sized p f) where
     unfolding treeAt befores
     facts =
         let m = master-words p f z (treeAt p f) h in
-        let d = ends p (z .good .kwpr) [] (leavesOf (treeAt p f)) (h .leaves) (sections-words p f z secs 3 (h .words)) (h .end) in
+        let d = ends p (z .good .key) [] (leavesOf (treeAt p f)) (h .leaves) (sections-words p f z secs 3 (h .words)) (h .end) in
         sections-facts p f z secs 0 3 (omega arith) entries-in (h .leaves) (h .counted) (h .reached) (h .indexes) (h .details) d
         (rw (sections-length p f secs 3) at (m .rows))
 

@@ -14,7 +14,7 @@ use Rattle.drum.specs.Params.{goodParams, fileSize, start}
 use Rattle.layout.specs.Inspect.{rowsIn, marked, through, detailHeld, indexHeld, chainHeld, walked, layoutMarks}
 use Rattle.layout.specs.Tree.{Tree, marksOf}
 use Rattle.layout.specs.Holds.{Holds, WellFormed}
-use Rattle.layout.proofs.Good.{Sized, good}
+use Rattle.layout.proofs.Good.{Sized, good-facts}
 use Rattle.numbers.proofs.Passed.{clash}
 use Rattle.layout.proofs.Read.{treeAt}
 use Rattle.layout.proofs.Found.{layout-facts}
@@ -101,7 +101,7 @@ unfolding WellFormed
 open-exact p f g size = (held, complete-for p f z, λ none. go none (layoutMarks p f) refl)
   where
     z : Sized p f
-    z = record { good = good p g; size = size }
+    z = record { good = good-facts p g; size = size }
 
     stands : (ms : List ℕ) → layoutMarks p f ≡ passed ms → Holds p f (treeAt p f)
     stands ms e = sound p f z ms (layout-facts p f .holds ms e)

@@ -33,7 +33,7 @@ module _ (p : Description) (f : List ℕ) (z : Sized p f) where
       → (isOnes (keyIn p f r) && allAre 0 (part (r + p .k) (p .wpr - p .k) f)) ≡ true
   unfolding endRecord keyIn
   end-both r h q =
-      let g = z .good .kwpr in
+      let g = z .good .key in
       let m = p .wpr - p .k in
       let l : p .wpr ≡ p .k + m = omega arith in
       let t : part r (p .k) f ++ part (r + p .k) m f ≡ ones (p .k) ++ zeros m =
@@ -58,7 +58,7 @@ module _ (p : Description) (f : List ℕ) (z : Sized p f) where
   leaf-facts low e i o t d =
       let s = start p (named p f e) in
       let n = getD f s 0 in
-      let kwpr = z .good .kwpr in
+      let kwpr = z .good .key in
       let rs = rowsAt f (p .wpr) (s + 1) n in
       let len = rows-length f (p .wpr) n (s + 1) in
       let c : OneTo (D p) n = rw len at (o .counted) in
@@ -149,7 +149,7 @@ module _ (p : Description) (f : List ℕ) (z : Sized p f) where
   chain-facts [] i t = (tt, refl)
   chain-facts (c ∷ cs) (i, is) (t, ts) =
       let (a, b) = chain-facts cs is ts in
-      let g = z .good .wpb6 in
+      let g = z .good .wpb-least in
       let w = block-words p f c (headOf cs) [] (block-in p f z c i) (omega arith) t in
       ((i, w .behind, a), (refl, rw (w .count) b))
 

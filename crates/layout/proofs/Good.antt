@@ -1,44 +1,15 @@
--- What good parameters and the right length of the file give: the ranges, what fits in a block, and where the blocks lie.
+-- What good parameters and the right length of the file give: what fits in a block, and where the blocks lie.
 use Prim.Native.Nat.{ℕ, suc, _≤_, _-_, _+_, _*_}
 use mathlib.Core.Path.{_≡_}
-use mathlib.Core.List.{List, [], _∷_}
-use mathlib.Core.Bool.{Bool, true}
+use mathlib.Core.List.{List}
 use lib.ListN.{length}
-use borrow.Author.Tests.{leb-true}
-use native.Mathlib.Nat.{suc-mul, mul-le-mul-right, div-mul-le-self}
+use native.Mathlib.Nat.{suc-mul, mul-le-mul-right}
 use native.Mathlib.Omega.{arith}
-use Rattle.words.proofs.All.{and-both}
 use Rattle.drum.specs.declared.Description.{Description}
-use Rattle.drum.specs.Params.{every, goodParams, D, I, fileSize, start, masterSize}
+use Rattle.drum.specs.Params.{D, I, fileSize, start, masterSize}
 use Rattle.drum.specs.Blocks.{Block}
-use Rattle.layout.specs.Holds.{All}
-
--- tests that all hold, one by one
-every-all : (ts : List Bool) → every ts ≡ true → All (λ t. t ≡ true) ts
-unfolding every All
-every-all [] e = tt
-every-all (t ∷ ts) e = let (a, b) = and-both t (every ts) e in (a, every-all ts b)
-
-pub record Good (p : Description) : Type 0 where
-  pub wpb6 : 6 ≤ p .wpb
-  pub kwpr : p .k ≤ p .wpr
-  pub d2 : 2 ≤ D p
-  pub i2 : 2 ≤ I p
-  pub control1 : 1 ≤ p .control
-  pub n2 : 2 ≤ p .n
-
-pub good : (p : Description) → goodParams p ≡ true → Good p
-unfolding goodParams All
-good p e =
-    let (even, (w6, (w4096, (k1, (k63, (kwpr, (d2, (i2, (sd, (si, (c1, (c4095, (n2, (nTop, u)))))))))))))) = every-all _ e in
-    record {
-      wpb6 = leb-true _ _ w6;
-      kwpr = leb-true _ _ kwpr;
-      d2 = leb-true _ _ d2;
-      i2 = leb-true _ _ i2;
-      control1 = leb-true _ _ c1;
-      n2 = leb-true _ _ n2;
-    }
+use Rattle.drum.proofs.Good.{good-yes, caps}
+pub use Rattle.drum.proofs.Good.{Good, good-facts}
 
 pub row-more : (n s : ℕ) → suc n * s ≡ s + n * s
 row-more n s = rw suc-mul (omega arith)
@@ -46,12 +17,10 @@ row-more n s = rw suc-mul (omega arith)
 module _ (p : Description) (g : Good p) where
   -- D records, and I entries, fit in a block behind its count
   pub cap-d : 1 + D p * p .wpr ≤ p .wpb
-  unfolding D
-  cap-d = omega (arith, div-mul-le-self (p .wpb - 1) (p .wpr), g .wpb6)
+  cap-d = caps p (good-yes p g) .records-fit
 
   pub cap-i : 1 + I p * (p .k + 1) ≤ p .wpb
-  unfolding I
-  cap-i = omega (arith, div-mul-le-self (p .wpb - 1) (p .k + 1), g .wpb6)
+  cap-i = caps p (good-yes p g) .entries-fit
 
   pub master-fits : (n : ℕ) → n ≤ p .control → 3 + n * (p .k + 1) ≤ masterSize p
   unfolding masterSize

@@ -20,7 +20,7 @@ use Rattle.layout.specs.Create.{endRecord, created}
 use Rattle.layout.specs.Inspect.{layoutMarks}
 use Rattle.layout.specs.Tree.{lastOf, boundOf, leavesIn, recordsIn, leafBlocks, blocksIn, times, markOf, marksFrom, marksOf, freshLeaf, freshSection, freshTree}
 use Rattle.layout.specs.Holds.{All, Holds, LeafOk, LeavesOk, ChainIn, indexEntries, ascending}
-use Rattle.layout.proofs.Good.{Good, good}
+use Rattle.layout.proofs.Good.{Good, good-facts}
 use Rattle.layout.proofs.Complete.{complete-for}
 use Rattle.layout.proofs.Pieces.{indexPiece, detailPiece, length-end, length-made, words-made, master-made, first-block, second-block, later-block}
 
@@ -33,7 +33,7 @@ module _ (p : Description) (g : Good p) where
   leaf-made : LeafOk p [] (freshLeaf p)
   unfolding freshLeaf All ascending
   leaf-made = record {
-    counted = (omega arith, omega (arith, g .d2));
+    counted = (omega arith, omega (arith, g .two-records));
     width = length-replicate (p .k) topWord;
     widths = (length-end p g, tt);
     order = refl;
@@ -60,28 +60,28 @@ module _ (p : Description) (g : Good p) where
     details = (rw (append-nil (endRecord p)) (second-block p g), tt);
     chained = tt;
     unused = later-block p g;
-    control = (omega arith, g .control1);
-    counted = ((omega arith, omega (arith, g .i2)), tt);
+    control = (omega arith, g .control-least);
+    counted = ((omega arith, omega (arith, g .two-entries)), tt);
     leaves = (leaf-made, tt);
     last = refl;
     end = refl;
     once = once-made;
-    reached = ((omega arith, omega (arith, g .n2)), ((omega arith, g .n2), tt));
+    reached = ((omega arith, omega (arith, g .n-least)), ((omega arith, g .n-least), tt));
     linked = tt;
-    lowest = (omega arith, omega (arith, g .n2));
+    lowest = (omega arith, omega (arith, g .n-least));
   }
 
 -- what CREATE writes has the length of the file
 pub created-length : (p : Description) → goodParams p ≡ true → length (created p) ≡ fileSize p
-created-length p h = length-made p (good p h)
+created-length p h = length-made p (good-facts p h)
 
 -- the fresh tree stands in it
 pub create-opens : (p : Description) → goodParams p ≡ true → Holds p (created p) (freshTree p)
-create-opens p h = holds-made p (good p h)
+create-opens p h = holds-made p (good-facts p h)
 
 -- OPEN's test passes it, with the fresh tree's marks: block 1 and block 2 are reached, the others never used
 pub created-marks : (p : Description) → goodParams p ≡ true → layoutMarks p (created p) ≡ passed (marksOf (freshTree p) (p .n))
-created-marks p h = complete-for p (created p) (record { good = good p h; size = created-length p h }) (freshTree p) (create-opens p h)
+created-marks p h = complete-for p (created p) (record { good = good-facts p h; size = created-length p h }) (freshTree p) (create-opens p h)
 
 marks-beyond : (p : Description) (n b : ℕ) → 3 ≤ b → marksFrom (freshTree p) b n ≡ zeros n
 unfolding marksFrom markOf times blocksIn leafBlocks freshTree freshSection freshLeaf
@@ -92,5 +92,5 @@ marks-beyond p (suc n) b h =
 pub fresh-marks : (p : Description) → goodParams p ≡ true → marksOf (freshTree p) (p .n) ≡ 1 ∷ 1 ∷ zeros (p .n - 2)
 unfolding marksFrom markOf times blocksIn leafBlocks freshTree freshSection freshLeaf
 fresh-marks p h =
-    let e : p .n ≡ suc (suc (p .n - 2)) = omega (arith, good p h .n2) in
+    let e : p .n ≡ suc (suc (p .n - 2)) = omega (arith, good-facts p h .n-least) in
     ap (marksOf (freshTree p)) e ∙ ap (λ (l : List ℕ). 1 ∷ 1 ∷ l) (marks-beyond p (p .n - 2) 3 (omega arith))

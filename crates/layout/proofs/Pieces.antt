@@ -43,7 +43,7 @@ module _ (p : Description) (g : Good p) where
   rest = zeros ((p .n - 2) * p .wpb)
 
   entry-fits : 3 + (p .k + 1) ≤ masterSize p
-  entry-fits = omega (arith, master-fits p g 1 (g .control1))
+  entry-fits = omega (arith, master-fits p g 1 (g .control-least))
 
   length-master : length (masterPiece p) ≡ masterSize p
   unfolding masterPiece
@@ -60,24 +60,24 @@ module _ (p : Description) (g : Good p) where
   length-index : length (indexPiece p) ≡ p .wpb
   unfolding indexPiece
   length-index =
-      let i : 1 ≤ I p = omega (arith, g .i2) in
+      let i : 1 ≤ I p = omega (arith, g .two-entries) in
       length-laid (p .wpb) 1 (ones (p .k) ++ (2 ∷ [])) (rw (length-entry 2) (omega (arith, mul-le-mul-right (p .k + 1) i, cap-i p g)))
 
   pub length-end : length (endRecord p) ≡ p .wpr
   unfolding endRecord
   length-end =
       let n = p .wpr - p .k in
-      rw (length-append (ones (p .k)) (zeros n), length-replicate (p .k) topWord, length-replicate {A = ℕ} n 0) (omega (arith, g .kwpr))
+      rw (length-append (ones (p .k)) (zeros n), length-replicate (p .k) topWord, length-replicate {A = ℕ} n 0) (omega (arith, g .key))
 
   length-detail : length (detailPiece p) ≡ p .wpb
   unfolding detailPiece
   length-detail =
-      let d : 1 ≤ D p = omega (arith, g .d2) in
+      let d : 1 ≤ D p = omega (arith, g .two-records) in
       length-laid (p .wpb) 1 (endRecord p) (omega (arith, length-end, mul-le-mul-right (p .wpr) d, cap-d p g))
 
   two-blocks : p .n * p .wpb ≡ p .wpb + (p .wpb + (p .n - 2) * p .wpb)
   two-blocks =
-      let e : p .n ≡ suc (suc (p .n - 2)) = omega (arith, g .n2) in
+      let e : p .n ≡ suc (suc (p .n - 2)) = omega (arith, g .n-least) in
       ap (λ (n : ℕ). n * p .wpb) e ∙ row-more (suc (p .n - 2)) (p .wpb) ∙ ap (λ (x : ℕ). p .wpb + x) (row-more (p .n - 2) (p .wpb))
 
   pub length-made : length (created p) ≡ fileSize p

@@ -100,7 +100,7 @@ module _ (p : Description) (f : List ℕ) (z : Sized p f) where
   unfolding freeText laid
   free-text c i q =
       let l = block-in p f z c i in
-      let g = z .good .wpb6 in
+      let g = z .good .wpb-least in
       let e : p .wpb ≡ suc (p .wpb - 1) = omega arith in
       let a : suc (start p c) ≡ start p c + 1 = omega arith in
       block-part p f c

@@ -13,7 +13,7 @@ use Rattle.drum.specs.Params.{goodParams, masterSize}
 use Rattle.drum.specs.Blocks.{sections, chainHead, lowestUnused}
 use Rattle.layout.specs.Tree.{Section, Tree, headOf}
 use Rattle.layout.specs.Holds.{Holds, masterEntries, masterText}
-use Rattle.layout.proofs.Good.{Sized, good, master-fits, master-in}
+use Rattle.layout.proofs.Good.{Sized, good-facts, master-fits, master-in}
 use Rattle.layout.proofs.Lists.{append-parts}
 use Rattle.layout.proofs.Read.{sectionsAt, chainAt, treeAt}
 use Rattle.layout.proofs.Texts.{three-words}
@@ -72,5 +72,5 @@ module _ (p : Description) (f : List ℕ) (z : Sized p f) (t : Tree) (h : Holds 
 -- one file, one tree
 pub one-tree : (p : Description) (f : List ℕ) (t u : Tree) → goodParams p ≡ true → Holds p f t → Holds p f u → t ≡ u
 one-tree p f t u g h k =
-    let z : Sized p f = record { good = good p g; size = h .size } in
+    let z : Sized p f = record { good = good-facts p g; size = h .size } in
     sym (tree-at p f z t h) ∙ tree-at p f z u k

@@ -1,17 +1,18 @@
 -- What reading a part of a line keeps: the lengths of the lent words, and that the bytes kept of the name stand in them.
-use Prim.Native.Nat.{ℕ, suc, _≤_, _<_}
+use Prim.Native.Nat.{ℕ, suc, _+_, _≤_, _<_}
 use native.Mathlib.Omega.{arith}
-use mathlib.Core.Path.{_≡_, refl, sym, _∙_, subst}
+use mathlib.Core.Path.{_≡_, refl, sym, ap, _∙_, subst}
 use mathlib.Core.Bool.{Bool, true, false, cond, _&&_}
 use mathlib.Core.List.{List, [], _∷_}
 use lib.Dec.{ltb, eqb}
-use lib.ListN.{length, length-set}
+use lib.ListN.{length, drop, length-set, length-drop}
 use borrow.Author.Tests.{ltb-true}
 use Rattle.words.proofs.All.{and-both}
 use Rattle.lines.specs.declared.Reading.{Reading}
+use Rattle.lines.specs.declared.Taken.{Taken}
 use Rattle.lines.specs.Lines.{isBlank, isLineFeed}
 use Rattle.lines.specs.Reading.{Read, unread, spells, letter, rested, step, steps, readLine, resting}
-use Rattle.lines.specs.Promise.{toLineFeed, read}
+use Rattle.lines.specs.Promise.{Took, toLineFeed, read, took}
 use Rattle.lines.proofs.Letters.{letterWith, letter-is, restWith, stores, rested-is}
 
 -- t has the lent words of s, changed or not, and where the name fits s it fits t
@@ -80,6 +81,24 @@ part-keeps s at (b ∷ l) = go (isLineFeed b) (part-keeps (step s b) (suc at) l)
         → Keeps s (cond t (record { kept = rested s; at = suc at; ended = true }) (toLineFeed (step s b) (suc at) l) .kept)
     go true r = rested-keeps s
     go false r = keeps-on s (step s b) (toLineFeed (step s b) (suc at) l .kept) (step-keeps s b) r
+
+-- a part is read no further than to its end
+part-ends : (s : Read) (at : ℕ) (l : List ℕ) → toLineFeed s at l .at ≤ at + length l
+unfolding toLineFeed
+part-ends s at [] = omega arith
+part-ends s at (b ∷ l) = go (isLineFeed b) (part-ends (step s b) (suc at) l)
+  where
+    go : (t : Bool)
+        → toLineFeed (step s b) (suc at) l .at ≤ suc at + length l
+        → cond t (record { kept = rested s; at = suc at; ended = true }) (toLineFeed (step s b) (suc at) l) .at ≤ at + suc (length l)
+    go true r = omega arith
+    go false r = omega arith
+
+pub taken-within : (t : Taken) (name numbers : List ℕ) (s : Read) (from : ℕ) (bytes : List ℕ) → from ≤ length bytes
+    → took t name numbers ≡ toLineFeed s from (drop from bytes) → t .at ≤ length bytes
+taken-within t name numbers s from bytes h e =
+    let a : t .at ≡ toLineFeed s from (drop from bytes) .at = ap (λ (z : Took). z .at) e in
+    omega (arith, part-ends s from (drop from bytes), length-drop from bytes)
 
 -- an unread line has kept no byte, so from there on the bytes kept always stand in the lent ones
 pub unread-fits : (name : List ℕ) → unread .spelled ≤ length name

@@ -8,36 +8,37 @@ use Rattle.texts.specs.Results.{spelling, resultText, refusedText, badLine, too
 use Rattle.lines.specs.Lines.{isBlank, isLineFeed, leading, pieces, filled, wordsOf, ended, linesOf, isDigit, allDigits, valueFrom, valueOf, isNumber, allNumbers, values, kinds, namedIn, named, carries, withNumbers, parsedWords, parse, firstNamed, described, parameters}
 use Rattle.printed.specs.Output.{startWith, startOf, played, callLines, refusal, refusedLines, startText, following, outputOf, output}
 
+-- one name that opens every definition that `output` is made of
 unfoldable printing : ℕ
 unfolding computing bytes digits places decimal octal listed spelling resultText refusedText badLine tooLarge isBlank isLineFeed leading pieces filled wordsOf ended linesOf isDigit allDigits valueFrom valueOf isNumber allNumbers values kinds namedIn named carries withNumbers parsedWords parse firstNamed described parameters startWith startOf played callLines refusal refusedLines startText following outputOf output
 printing = 0
 
--- no first line
-no-line : output [] ≡ bytes "BAD LINE\n"
+-- no first line at all
+pub no-line : output [] ≡ bytes "BAD LINE\n"
 unfolding printing
 no-line = refl
 
 -- parameters out of range: a name alone decides, whatever stands behind it; VIEW names no call
-out-of-range : output (bytes "8 4 1 0 2 4\nSEEK x 99999999999\n CREATE\t7\r\nVIEW 1\nOPEN\n") ≡ bytes "SEEK 020007 0\nCREATE 020007 0\nBAD LINE\n"
+pub out-of-range : output (bytes "8 4 1 0 2 4\nSEEK x 99999999999\n CREATE\t7\r\nVIEW 1\nOPEN\n") ≡ bytes "SEEK 020007 0\nCREATE 020007 0\nBAD LINE\n"
 unfolding printing
 out-of-range = refl
 
-too-large : output (bytes "4096 3 1 0 2 2\nCREATE\n") ≡ bytes "TOO LARGE\n"
+-- a file above 8,192 words, and one of 8,192
+pub too-large : output (bytes "4096 3 1 0 2 2\nCREATE\n") ≡ bytes "TOO LARGE\n"
 unfolding printing
 too-large = refl
 
--- 8,192 words, the most that are taken
-most-words : output (bytes "8 3 1 0 2 1023\nCLOSE\n") ≡ bytes "CLOSE 020005 0\n"
+pub most-words : output (bytes "8 3 1 0 2 1023\nCLOSE\n") ≡ bytes "CLOSE 020005 0\n"
 unfolding printing
 most-words = refl
 
--- the line feed at the end of the last line starts no other, and a last line without one counts; a blank line is no call
-last-line : (output (bytes "8 3 1 0 2 4\nCREATE") ≡ bytes "CREATE 000000 0\n") × (output (bytes "8 3 1 0 2 4\nCREATE\n") ≡ bytes "CREATE 000000 0\n")
+-- the line feed at the end of the last line starts no other, and a last line without one counts
+pub last-line : (output (bytes "8 3 1 0 2 4\nCREATE") ≡ bytes "CREATE 000000 0\n") × (output (bytes "8 3 1 0 2 4\nCREATE\n") ≡ bytes "CREATE 000000 0\n")
 unfolding printing
 last-line = (refl, refl)
 
--- a blank line, VIEW, a number above the greatest, a record of two words: each ends the program
-bad-lines : (output (bytes "8 3 1 0 2 4\n\nCREATE\n") ≡ bytes "BAD LINE\n")
+-- a blank line, VIEW, a number above the greatest, two words for a record of three, five parameters: each ends the program
+pub bad-lines : (output (bytes "8 3 1 0 2 4\n\nCREATE\n") ≡ bytes "BAD LINE\n")
     × (output (bytes "8 3 1 0 2 4\nCREATE\nVIEW 1\nOPEN\n") ≡ bytes "CREATE 000000 0\nBAD LINE\n")
     × (output (bytes "8 3 1 0 2 4\nOPEN\nSEEK 4294967295\nSEEK 4294967296\nOPEN\n") ≡ bytes "OPEN 070003 0\nSEEK 020005 0\nBAD LINE\n")
     × (output (bytes "8 3 1 0 2 4\nNSERT 10 1\n") ≡ bytes "BAD LINE\n")

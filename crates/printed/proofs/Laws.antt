@@ -57,7 +57,7 @@ call-in P p r (some c) h = go (eqb (r .others) 1 && eqb (r .numbers) (carries p 
 abbrev Fits : List ℕ → State → Call → Type 0
 Fits ws st c = (perform (part 0 (carries (desc st) c) ws) st c ≡ perform ws st c) × Room ws st c
 
-module _ (ws : List ℕ) (st : State) (kn : desc st .k ≤ length ws) (rn : desc st .wpr ≤ length ws) (kw : desc st .k ≤ length (st .work)) (rw-fits : desc st .wpr ≤ length (st .work)) where
+module _ (ws : List ℕ) (st : State) (key-given : desc st .k ≤ length ws) (record-given : desc st .wpr ≤ length ws) (key-room : desc st .k ≤ length (st .work)) (record-room : desc st .wpr ≤ length (st .work)) where
   key-again : keyFrom (part 0 (desc st .k) ws) st 0 ≡ keyFrom ws st 0
   unfolding keyFrom
   key-again = rw (part-part 0 (desc st .k) 0 (desc st .k) ws (omega arith))
@@ -68,31 +68,7 @@ module _ (ws : List ℕ) (st : State) (kn : desc st .k ≤ length ws) (rn : desc
 
   each-fits : Each (Fits ws st) kinds
   unfolding kinds carries perform
-  each-fits = (
-    (refl, tt),
-    (
-      (refl, tt),
-      (
-        (refl, tt),
-        (
-          (rw key-again, (omega arith, kw)),
-          (
-            (refl, tt),
-            (
-              (rw record-again, (omega arith, rw-fits)),
-              (
-                (rw key-again, (omega arith, kw)),
-                (
-                  (rw record-again, (omega arith, rw-fits)),
-                  ((rw record-again, (omega arith, rw-fits)), tt),
-                ),
-              ),
-            ),
-          ),
-        ),
-      ),
-    ),
-  )
+  each-fits = search (arith, key-again, record-again)
 
   fits : (r : Reading) (name : List ℕ) → Of (Fits ws st) (callOf (desc st) r name)
   unfolding callOf named

@@ -18,10 +18,11 @@ use Rattle.printed.specs.declared.Start.the-variants.{BadLine, OutOfRang
 abbrev pub mostWords : ℕ
 mostWords = 8192
 
--- the first line, of the parameters that it gives: not six numbers; then parameters out of range, "no size is taken"; then the file's size
+-- a first line of six numbers: "With parameters out of range no size is taken"; then the file's size
 unfoldable pub startWith : Description → Start
 startWith p = cond (goodParams p) (cond (ltb mostWords (fileSize p)) TooLarge (Good p)) OutOfRange
 
+-- "a first line not of six numbers, prints `BAD LINE`"
 unfoldable pub startOf : Option Description → Start
 startOf none = BadLine
 startOf (some p) = startWith p
@@ -53,6 +54,7 @@ unfoldable pub refusal : Option Call → Refused
 refusal none = record { over = true; text = badLine }
 refusal (some c) = record { over = false; text = refusedText c }
 
+-- such lines, up to the first that ends the program
 unfoldable pub refusedLines : List (List ℕ) → List ℕ
 refusedLines [] = []
 refusedLines (l ∷ ls) = let o = refusal (firstNamed (wordsOf l)) in o .text ++ cond (o .over) [] (refusedLines ls)

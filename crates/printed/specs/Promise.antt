@@ -13,16 +13,18 @@ use Rattle.printed.specs.declared.Told.{Told}
 use Rattle.printed.specs.declared.Turn.{Turn}
 use Rattle.printed.specs.Output.{Played, Refused}
 
--- a line of calls played, its text put into the lent bytes `out` from place `at` on; `at` is then the place behind it
+-- a line of calls that was played, with the lent bytes and the place behind its text
 pub record Shown : Type 0 where
   pub over : Bool
   pub after : State
   pub out : List ℕ
   pub at : ℕ
 
+-- the text put into the lent bytes `out` from place `at` on
 abbrev pub shownAt : List ℕ → ℕ → Played → Shown
 shownAt out at o = record { over = o .over; after = o .after; out = put out at (o .text); at = at + length (o .text) }
 
+-- what the code gives back, with the words and bytes it leaves
 abbrev pub shown : Turn → List ℕ → List ℕ → List ℕ → List ℕ → Shown
 shown r file buffer work out = record { over = r .over; after = given (r .session) file buffer work; out = out; at = r .at }
 
@@ -32,9 +34,11 @@ pub record Said : Type 0 where
   pub out : List ℕ
   pub at : ℕ
 
+-- its text put likewise
 abbrev pub saidAt : List ℕ → ℕ → Refused → Said
 saidAt out at o = record { over = o .over; out = put out at (o .text); at = at + length (o .text) }
 
+-- what the code gives back of it
 abbrev pub said : Told → List ℕ → Said
 said r out = record { over = r .over; out = out; at = r .at }
 

@@ -13,6 +13,7 @@ ghost use mathlib.Core.Bool.{true, false, cond};
 ghost use mathlib.Core.List.{[]};
 ghost use Prim.Native.Nat.{_≤_};
 ghost use lib.ListN.{length, replicate};
+ghost use Rattle.words.specs.Words.{part, put};
 ghost use Rattle.drum.specs.Params.{goodParams};
 ghost use Rattle.rules.specs.State.{holding, positioned, atRest, keyIn};
 ghost use Rattle.rules.specs.Open.{create as creation, openFile};
@@ -84,6 +85,14 @@ fn refused_key(
     0
 }
 
+// Writes the key of k words that stands first in the workspace over the first words of a position.
+fn put_key(position: &mut [u32; 63], work: &[u32], k: usize)
+    requires { ⌜ (k ≤ 63) × (k ≤ length (now work)) ⌝ }
+    ensures { λ _. ⌜ now (position .exit) ≡ put (now (position .entry)) 0 (part 0 k (now (work .entry))) ⌝ }
+{
+    words::copy_words(position, 0, work, 0, k);
+}
+
 // CREATE: writes a new file, every word of it. It has no session: one that is open on the file stays as it is.
 pub fn create(p: Description, file: &mut [u32]) -> u32
     ensures { λ r. ⌜ made r (now (file .exit)) ≡ creation p (now (file .entry)) ⌝ }
@@ -153,10 +162,8 @@ impl Session {
                 session: next,
             };
         }
-        let mut position = self.position;
-        words::copy_words(&mut position, 0, work, 0, k);
+        put_key(&mut next.position, work, k);
         next.placed = true;
-        next.position = position;
         Answer {
             number: done.number,
             transfers: done.transfers,

@@ -5,8 +5,11 @@ use mathlib.Core.List.{List}
 use Prim.Native.Nat.{ℕ, zero, suc, _≤_, _<_}
 use native.Mathlib.Nat.{not-suc-le-zero}
 use native.Mathlib.Omega.{arith}
-use Rattle.words.specs.Keys.{order}
-use Rattle.words.proofs.Keys.{Stands, below, same, above, stands, order-lt, order-eq, order-gt, keyLt-asym, keyLt-not-same, same-not-lt, sameKey-eq, sameKey-ne, keyLt-ne, keyLe-yes, keyLe-no}
+use lib.ListN.{length, getD}
+use Rattle.words.specs.Words.{part}
+use Rattle.words.specs.Keys.{order, keyLt}
+use Rattle.words.proofs.Parts.{part-cons}
+use Rattle.words.proofs.Keys.{keyLt-head, Stands, below, same, above, stands, order-lt, order-eq, order-gt, keyLt-asym, keyLt-not-same, same-not-lt, sameKey-eq, sameKey-ne, keyLt-ne, keyLe-yes, keyLe-no}
 use Rattle.table.specs.declared.Want.{Want}
 use Rattle.table.specs.declared.Want.the-variants.{Equal, NotBelow, Over}
 use Rattle.table.specs.Tables.{firstWhere, asked, wanted}
@@ -37,6 +40,16 @@ asked-wanted w key x = go w (stands x key)
     go Over (below p) = rw (order-lt x key p, keyLt-asym x key p)
     go Over (same e) = rw (order-eq x key e, same-not-lt key x (sym e))
     go Over (above p) = rw (order-gt x key p, p)
+
+-- a row that begins with a word below the key's first is below the key, and no search wants it
+pub low-first : (t key : List ℕ) (p at width : ℕ) → 1 ≤ width → p < length t → at < length key → getD t p 0 < getD key at 0 → keyLt (part p width t) (part at width key) ≡ true
+low-first t key p at zero h ht hk l = absurd (not-suc-le-zero h)
+low-first t key p at (suc m) h ht hk l = rw (part-cons p m t ht, part-cons at m key hk) (keyLt-head _ _ _ _ l)
+
+pub low-unwanted : (w : Want) (key x : List ℕ) → keyLt x key ≡ true → wanted w key x ≡ false
+low-unwanted Equal key x p = keyLt-not-same x key p
+low-unwanted NotBelow key x p = keyLe-no key x p
+low-unwanted Over key x p = keyLt-asym x key p
 
 -- where a search stops: at most n, the test false before it, and true there unless it is n
 pub first-le : (t : ℕ → Bool) (n : ℕ) → firstWhere t n ≤ n

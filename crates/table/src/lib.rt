@@ -2,10 +2,11 @@
 // word 0. Master, index block and detail block are such tables, so one function serves all three.
 use words::Order;
 ghost use mathlib.Core.Path.{_≡_};
-ghost use Prim.Native.Nat.{_+_, _*_, _≤_, _<_};
+ghost use mathlib.Core.Bool.{true};
+ghost use Prim.Native.Nat.{ℕ, _+_, _*_, _≤_, _<_};
 ghost use lib.ListN.{length};
 ghost use Rattle.words.specs.Words.{part};
-ghost use Rattle.words.specs.Keys.{order};
+ghost use Rattle.words.specs.Keys.{order, keyLt};
 ghost use Rattle.table.specs.Tables.{count, place, firstWhere, asked, fits, opened, closed, inserted, removed, replaced};
 
 pub struct Shape {
@@ -44,6 +45,36 @@ fn is_wanted(w: Want, o: Order) -> bool
     }
 }
 
+// How many rows at the front begin with a word below the key's first: their keys are below it, so no search wants them. Most rows of a
+// search are passed here, by one word each.
+fn low_rows(
+    base: usize,
+    stride: usize,
+    width: usize,
+    t: &[u32],
+    n: usize,
+    key: &[u32],
+    at: usize,
+) -> usize
+    requires { ⌜ (base + n * stride ≤ length (now t)) × (width ≤ stride) × (at + width ≤ length (now key)) ⌝ }
+    ensures { λ r. ⌜ (r ≤ n) × ((j : ℕ) → j < r → keyLt (part (base + j * stride) width (now (t .entry))) (part at width (now (key .entry))) ≡ true) ⌝ }
+{
+    if width == 0 {
+        return 0;
+    }
+    let first = key[at];
+    let mut i = 0;
+    let mut word = base;
+    while i < n {
+        if first <= t[word] {
+            return i;
+        }
+        word += stride;
+        i += 1;
+    }
+    n
+}
+
 // `find`, the shape taken apart: a loop keeps plain numbers.
 fn find_row(
     w: Want,
@@ -58,8 +89,8 @@ fn find_row(
     requires { ⌜ (base + n * stride ≤ length (now t)) × (width ≤ stride) × (at + width ≤ length (now key)) ⌝ }
     ensures { λ r. ⌜ r ≡ firstWhere (fits w (record { base = base; stride = stride; width = width }) (part at width (now (key .entry))) (now (t .entry))) n ⌝ }
 {
-    let mut i = 0;
-    let mut place = base;
+    let mut i = low_rows(base, stride, width, t, n, key, at);
+    let mut place = base + i * stride;
     while i < n {
         let o = words::compare_keys(t, place, key, at, width);
         if is_wanted(w, o) {

@@ -1,4 +1,4 @@
-pub mod Ways
+pub mod Reading
 pub mod Ready
 pub mod Entries
 pub mod Started

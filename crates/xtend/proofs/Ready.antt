@@ -21,7 +21,7 @@ use Rattle.rules.specs.Free.{withFree}
 use Rattle.rules.specs.Fits.{WayFits}
 use Rattle.xtend_plan.specs.Fits.{LastFits}
 use Rattle.xtend.specs.Steps.{reachedFile, readyFile}
-use Rattle.xtend.proofs.Ways.{way-moves, length-followed, text-followed}
+use Rattle.acts.proofs.Ways.{way-moves, length-followed, text-followed}
 
 -- words 1 and 2 of the master, set before or after some transfers
 module _ (p : Description) (good : goodParams p ≡ true) (f : List ℕ) (hf : length f ≡ fileSize p) (head lowest : ℕ) where

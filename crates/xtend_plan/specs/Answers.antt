@@ -4,8 +4,8 @@ use Rattle.numbers.specs.Checked.{Checked, passed, refused}
 use Rattle.rules.specs.declared.Way.{Way}
 use Rattle.rules.specs.declared.Extend.{Extend}
 use Rattle.rules.specs.declared.Extend.the-variants.{Bad, Stop, Room, New, Both}
-use Rattle.xtend_plan.specs.declared.Last.{Last}
-use Rattle.xtend_plan.specs.declared.Last.the-variants as last-is
+use Rattle.xtend_plan.specs.declared.last.Last.{Last}
+use Rattle.xtend_plan.specs.declared.last.Last.the-variants as last-is
 
 abbrev pub asLast : Last → Checked Way
 asLast last-is.Bad = refused badFile

@@ -17,7 +17,7 @@ rename-requires c κs =
 insert-row-requires : tie.Need-insert-row-requires
 insert-row-requires c κs =
     let a = c .before .before .before .before .before .before .before .args in
-    let e : count (c .before .before .before .rename .last .1 .0) ≡ count (a .t .now) = ap count (c .before .before .before .rename .ensures) ∙ count-renamed (a .h) (a .i) (a .t .now) (a .b) (c .before .before .before .before .before .before .before .pre .0) in
+    let e : count (c .before .before .before .rename .last .1 .0) ≡ count (a .t .now) = ap count (c .before .before .before .rename .ensures) ∙ count-renamed (a .h) _ (a .t .now) (a .b) (c .before .before .before .before .before .before .before .pre .0) in
     let m = c .before .before .before .before .before .before .before .pre .3 in
     (c .before .before .before .before .before .before .before .pre .0, rw e (omega arith), rw e (omega arith), rw e (c .before .before .before .before .before .before .before .pre .4), omega arith)
 

@@ -1,15 +1,14 @@
--- Of every row passed the test is false.
+-- Of every row passed the test is false: of the low ones at the front, and of those compared.
 use mathlib.Core.Path.{_≡_, sym, _∙_}
 use mathlib.Core.Bool.{false}
 use Prim.Native.Nat.{ℕ, _+_, _*_, _-_, _≤_, _<_}
-use native.Mathlib.Nat.{not-suc-le-zero}
 use native.Mathlib.Omega.{arith}
 use borrow.Author.Needs.{needs}
 use borrow.Author.Count.{below-more}
 use Rattle.words.specs.Words.{part}
 use Rattle.table.specs.Tables.{fits, keyAt}
-use Rattle.table.proofs.Places.{row-lt, row-next}
-use Rattle.table.proofs.Searches.{first-at, first-none, asked-wanted}
+use Rattle.table.proofs.Places.{row-le, row-lt, row-next}
+use Rattle.table.proofs.Searches.{first-at, first-none, asked-wanted, low-unwanted}
 use Rattle.table.proofs.find_row.Statement.{statement}
 use Rattle.table.proofs.find_row.Tie as tie
 
@@ -20,15 +19,27 @@ abbrev μ-loop : tie.MeasureT-loop
 μ-loop w base stride width t n key at i₀ place₀ i place = n - i
 
 -- what `is_wanted` answered is the test of row i
-tested : (c : tie.After-is-wanted Inv-loop μ-loop) → fits (c .before .before .before .before .before .before .args .w) (record { base = c .before .before .before .before .before .before .args .base; stride = c .before .before .before .before .before .before .args .stride; width = c .before .before .before .before .before .before .args .width }) (part (c .before .before .before .before .before .before .args .at) (c .before .before .before .before .before .before .args .width) (c .before .before .before .before .before .before .args .key .now)) (c .before .before .before .before .before .before .args .t .now) (c .before .before .before .loop .i) ≡ c .is-wanted .result
+tested : (c : tie.After-is-wanted Inv-loop μ-loop) → fits (c .before .before .before .before .before .before .before .args .w) (record { base = c .before .before .before .before .before .before .before .args .base; stride = c .before .before .before .before .before .before .before .args .stride; width = c .before .before .before .before .before .before .before .args .width }) (part (c .before .before .before .before .before .before .before .args .at) (c .before .before .before .before .before .before .before .args .width) (c .before .before .before .before .before .before .before .args .key .now)) (c .before .before .before .before .before .before .before .args .t .now) (c .before .before .before .loop .i) ≡ c .is-wanted .result
 unfolding fits keyAt
-tested c = rw (c .is-wanted .ensures, c .before .compare-keys .ensures, c .before .before .before .loop .inv .1) (sym (asked-wanted (c .before .before .before .before .before .before .args .w) (part (c .before .before .before .before .before .before .args .at) (c .before .before .before .before .before .before .args .width) (c .before .before .before .before .before .before .args .key .now)) (part (c .before .before .before .before .before .before .args .base + c .before .before .before .loop .i * c .before .before .before .before .before .before .args .stride) (c .before .before .before .before .before .before .args .width) (c .before .before .before .before .before .before .args .t .now))))
+tested c =
+    let a = c .before .before .before .before .before .before .before .args in
+    rw (c .is-wanted .ensures, c .before .compare-keys .ensures, c .before .before .before .loop .inv .1) (sym (asked-wanted (a .w) (part (a .at) (a .width) (a .key .now)) (part (a .base + c .before .before .before .loop .i * a .stride) (a .width) (a .t .now))))
+
+low-rows-requires : tie.Need-low-rows-requires Inv-loop μ-loop
+low-rows-requires c κs = c .before .before .pre
+
+mul-place : tie.Need-mul-place Inv-loop μ-loop
+mul-place c = omega (arith, row-le _ _ (c .before .before .before .args .stride) (c .low-rows .ensures .0))
+
+add-place : tie.Need-add-place Inv-loop μ-loop
+add-place c = omega (arith, row-le _ _ (c .before .before .before .args .stride) (c .low-rows .ensures .0))
 
 loop-holds : tie.Need-loop-holds Inv-loop μ-loop
-loop-holds c = (omega arith, omega arith, λ j h. absurd (not-suc-le-zero h))
+unfolding fits keyAt
+loop-holds c = (c .low-rows .ensures .0, omega arith, λ j h. low-unwanted (c .before .before .before .args .w) _ _ (c .low-rows .ensures .1 j h))
 
 compare-keys-requires : tie.Need-compare-keys-requires Inv-loop μ-loop
-compare-keys-requires c κs = omega (arith, row-lt _ _ (c .before .before .before .before .args .stride) (c .loop-test .taken))
+compare-keys-requires c κs = omega (arith, row-lt _ _ (c .before .before .before .before .before .args .stride) (c .loop-test .taken))
 
 is-wanted-requires : tie.Need-is-wanted-requires Inv-loop μ-loop
 is-wanted-requires c κs = search needs
@@ -36,8 +47,8 @@ is-wanted-requires c κs = search needs
 returns : tie.Need-returns Inv-loop μ-loop
 returns c = sym (first-at _ _ _ (c .before .before .before .loop-test .taken) (c .before .before .before .before .loop .inv .2) (tested (c .before) ∙ c .if1 .taken))
 
-add-place : tie.Need-add-place Inv-loop μ-loop
-add-place c = omega (arith, row-lt _ _ (c .before .before .before .before .before .before .before .args .stride) (c .before .before .before .loop-test .taken))
+add-place-2 : tie.Need-add-place-2 Inv-loop μ-loop
+add-place-2 c = omega (arith, row-lt _ _ (c .before .before .before .before .before .before .before .before .args .stride) (c .before .before .before .loop-test .taken))
 
 add-i : tie.Need-add-i Inv-loop μ-loop
 add-i c = omega arith
@@ -46,12 +57,11 @@ loop-less : tie.Need-loop-less Inv-loop μ-loop
 loop-less c = omega arith
 
 loop-again : tie.Need-loop-again Inv-loop μ-loop
-loop-again c =
-    (omega arith, omega (arith, row-next (c .before .before .before .before .loop .i) (c .before .before .before .before .before .before .before .args .stride)), below-more _ _ (c .before .before .before .before .loop .inv .2) (tested (c .before) ∙ c .if1 .left))
+loop-again c = (omega arith, omega (arith, row-next (c .before .before .before .before .loop .i) (c .before .before .before .before .before .before .before .before .args .stride)), below-more _ _ (c .before .before .before .before .loop .inv .2) (tested (c .before) ∙ c .if1 .left))
 
 returns-2 : tie.Need-returns-2 Inv-loop μ-loop
 returns-2 c =
-    let e : c .before .loop .i ≡ c .before .before .before .before .args .n = omega arith in
+    let e : c .before .loop .i ≡ c .before .before .before .before .before .args .n = omega arith in
     sym (first-none _ _ (rw e at (c .before .loop .inv .2)))
 
 pub find-row-spec : {M : Type 1} → statement M
@@ -60,11 +70,14 @@ find-row-spec =
     (tie.spec
     Inv-loop
     μ-loop
+    low-rows-requires
+    mul-place
+    add-place
     loop-holds
     compare-keys-requires
     is-wanted-requires
     returns
-    add-place
+    add-place-2
     add-i
     loop-less
     loop-again

@@ -4,7 +4,7 @@ use native.Mathlib.Omega.{arith}
 use Rattle.drum.specs.Params.{masterShape}
 use Rattle.drum.specs.Blocks.{seen}
 use Rattle.drum.proofs.Good.{caps}
-use Rattle.dlete.proofs.Ways.{moves-most}
+use Rattle.acts.proofs.Ways.{moves-most}
 use Rattle.dlete.proofs.Emptied.{freed-fits, both-on, both-sections, both-by}
 use borrow.Author.Needs.{needs}
 use Rattle.dlete.proofs.deeds.empty_both.Statement.{statement}

@@ -4,7 +4,7 @@ use mathlib.Core.List.{List}
 use Prim.Native.Nat.{ℕ}
 use native.Mathlib.Omega.{arith}
 use Rattle.drum.specs.Blocks.{seen, blockAt}
-use Rattle.dlete.proofs.Ways.{moves-most}
+use Rattle.acts.proofs.Ways.{moves-most}
 use Rattle.dlete.proofs.Emptied.{index-freed, freed-fits, one-by}
 use borrow.Author.Needs.{needs}
 use Rattle.dlete.proofs.deeds.empty_one.Statement.{statement}

@@ -9,7 +9,7 @@ use Rattle.drum.specs.Params.{detailShape}
 use Rattle.drum.specs.Blocks.{seen}
 use Rattle.rules.specs.Lookup.{storing}
 use Rattle.acts.specs.Reach.{Come}
-use Rattle.dlete.proofs.Ways.{rows-reached}
+use Rattle.dlete.proofs.Reached.{rows-reached}
 use borrow.Author.Needs.{needs}
 use Rattle.dlete.proofs.deeds.remove_record.Statement.{statement}
 use Rattle.dlete.proofs.deeds.remove_record.Tie as tie

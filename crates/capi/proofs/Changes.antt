@@ -1,0 +1,186 @@
+-- The same of the steps of NSERT, DLETE and XTEND: a new block is one of 1..N.
+use Prim.Native.Nat.{ℕ, _≤_}
+use mathlib.Core.Path.{_≡_}
+use mathlib.Core.Bool.{Bool, true, false, cond, _||_}
+use mathlib.Core.List.{List, [], _∷_}
+use native.Mathlib.Omega.{arith}
+use lib.Dec.{eqb, ltb, leb}
+use lib.ListN.{length}
+use Rattle.numbers.specs.Checked.{passed}
+use Rattle.numbers.proofs.Passed.{Passed, chain, by-passed}
+use Rattle.drum.specs.Blocks.{Transfer, Read, Texts, Fitting, sections}
+use Rattle.rules.specs.declared.Path.{Path}
+use Rattle.rules.specs.declared.Way.{Way}
+use Rattle.rules.specs.declared.Way.the-variants.{Here, By}
+use Rattle.rules.specs.declared.Look.{Look}
+use Rattle.rules.specs.declared.Look.the-variants as look-is
+use Rattle.rules.specs.declared.Taken.{Taken}
+use Rattle.rules.specs.declared.Insert.{Insert}
+use Rattle.rules.specs.declared.Insert.the-variants as insert-is
+use Rattle.rules.specs.declared.Delete.{Delete}
+use Rattle.rules.specs.declared.Delete.the-variants as delete-is
+use Rattle.rules.specs.declared.Extend.{Extend}
+use Rattle.rules.specs.declared.Extend.the-variants as extend-is
+use Rattle.rules.specs.Lookup.{look, reached, stopping, storing}
+use Rattle.rules.specs.Free.{granted}
+use Rattle.rules.specs.Fits.{PathFits, FlushFits, WayFits, LookFits}
+use Rattle.rules.specs.Nsert.{roomDeed, splitWith, splitDeed, bothStored, bothWith, bothAfter, bothDeed, insertAt, insertAfter, insertDeed}
+use Rattle.rules.specs.NsertDone.{splitMoves, bothMoves, halfOf, insertDone, nsertSteps}
+use Rattle.rules.specs.Dlete.{emptyDeed, emptyAt, deleteAfter, deleteDeed, emptyMoves, emptyAll, bothAll, emptying, deleteDone, dleteSteps}
+use Rattle.rules.specs.Xtend as x
+use Rattle.rules.specs.XtendDone as y
+use Rattle.rules.proofs.Fits.{look-passed, last-passed, granted-fits, neither}
+use Rattle.capi.proofs.Modest.{Modest, way-brought, stop-modest, store-modest, land-modest, more-few}
+
+module _ (v : Texts) (fit : Fitting (v .desc) (v .file) (v .buffer)) (flag : Bool) (work : List ℕ) where
+  looked : (key : List ℕ) (l : Look) → look v flag key ≡ passed l → LookFits v flag l
+  looked key l e = look-passed v flag key .holds l e
+
+  -- NSERT
+  record Inserts (d : Insert) : Type 0 where
+    modest : Passed (Modest v) (insertDone v flag work d)
+
+  module _ (w : Path) (path : PathFits v w) (due : FlushFits v flag) where
+    half-most : (n i b : ℕ) → b ≤ v .desc .n → halfOf n i (w .detail) b ≤ v .desc .n
+    half-most n i b new = go (ltb i _)
+      where
+        go : (t : Bool) → cond t (w .detail) b ≤ v .desc .n
+        go true = path .detail-most
+        go false = new
+
+    stop-deed : (n : ℕ) → Inserts (insert-is.Stop (By w) n)
+    unfolding insertDone
+    stop-deed n = record { modest = by-passed _ (stop-modest v fit n work (reached v flag (By w)) (way-brought v fit flag (By w) (path, due))) }
+
+    room-deed : (i n : ℕ) → Inserts (insert-is.Room w i n)
+    unfolding insertDone
+    room-deed i n = record { modest = by-passed _ (store-modest v fit n work (reached v flag (By w)) _ (way-brought v fit flag (By w) (path, due))) }
+
+    split-deed : (i n : ℕ) (d : Taken) (head lowest : ℕ) → granted v head lowest ≡ passed d → eqb (d .block) 0 ≡ false → Inserts (insert-is.Split w i d n)
+    unfolding insertDone splitMoves
+    split-deed i n d head lowest e z =
+        let new = granted-fits v head lowest d e z in
+        record { modest = by-passed _ (land-modest v fit n work _ _ _ (half-most _ i (d .block) (new .1)) (more-few v fit flag (By w) _ (path, due) (omega arith))) }
+
+    both-deed : (i n : ℕ) (d t : Taken) (head lowest : ℕ) → granted v head lowest ≡ passed d
+        → (eqb (d .block) 0 || (eqb (t .block) 0 || leb (v .desc .control) (sections (v .file)))) ≡ false → Inserts (insert-is.Both w i (d .block) t n)
+    unfolding insertDone bothMoves
+    both-deed i n d t head lowest e z =
+        let a = neither (eqb (d .block) 0) _ z in
+        let new = granted-fits v head lowest d e (a .0) in
+        record { modest = by-passed _ (land-modest v fit n work _ _ _ (half-most _ i (d .block) (new .1)) (more-few v fit flag (By w) _ (path, due) (omega arith))) }
+
+  duplicate-deed : (way : Way) (i n : ℕ) → LookFits v flag (look-is.Found way i) → Inserts (insert-is.Stop way n)
+  unfolding insertDone
+  duplicate-deed way i n h = record { modest = by-passed _ (stop-modest v fit n work (reached v flag way) (way-brought v fit flag way (h .0))) }
+
+  insert-after : (key : List ℕ) (l : Look) → LookFits v flag l → Passed Inserts (insertAfter v flag key l)
+  unfolding insertAfter insertAt roomDeed splitDeed splitWith bothDeed bothAfter bothWith bothStored
+  insert-after key look-is.Bad h = search chain
+  insert-after key (look-is.Found way i) h = by-passed _ (duplicate-deed way i _ h)
+  insert-after key (look-is.Missing w) h =
+      let p : PathFits v w = h .0 in
+      let f : FlushFits v flag = h .1 in
+      search (chain, stop-deed, room-deed, split-deed, both-deed) depth 16
+
+  insert-passed : (key : List ℕ) → Passed Inserts (insertDeed v flag key)
+  unfolding insertDeed
+  insert-passed key = search (chain, insert-after, looked)
+
+  insert-done : (key : List ℕ) (d : Insert) → insertDeed v flag key ≡ passed d → Passed (Modest v) (insertDone v flag work d)
+  insert-done key d e = insert-passed key .holds d e .modest
+
+  pub nsert-modest : Passed (Modest v) (nsertSteps v flag work)
+  unfolding nsertSteps
+  nsert-modest = search (chain, insert-done)
+
+  -- DLETE
+  record Deletes (d : Delete) : Type 0 where
+    modest : Passed (Modest v) (deleteDone v flag work d)
+
+  stopped : (w : Path) → LookFits v flag (look-is.Missing w) → Deletes (delete-is.Stop w)
+  unfolding deleteDone
+  stopped w h = record { modest = by-passed _ (stop-modest v fit _ work (reached v flag (By w)) (way-brought v fit flag (By w) h)) }
+
+  removing : (way : Way) (i : ℕ) → LookFits v flag (look-is.Found way i) → Deletes (delete-is.Remove way i)
+  unfolding deleteDone
+  removing way i h = record { modest = by-passed _ (store-modest v fit _ work (reached v flag way) _ (way-brought v fit flag way (h .0))) }
+
+  emptied : (moves : List Transfer) (f : List ℕ) → length moves ≤ 16 → Modest v (emptying (v .desc) work moves f)
+  unfolding emptying
+  emptied moves f l = record { current-most = λ c. omega arith; few = l }
+
+  either : (t : Bool) (way : Way) (w : Path) (head : ℕ) → WayFits v flag way → Deletes (cond t (delete-is.Both way w head) (delete-is.Empty way w head))
+  unfolding deleteDone bothAll emptyAll emptyMoves
+  either true way w head h = record { modest = by-passed _ (emptied _ _ (more-few v fit flag way _ h (omega arith))) }
+  either false way w head h = record { modest = by-passed _ (emptied _ _ (more-few v fit flag way _ h (omega arith))) }
+
+  delete-after : (key : List ℕ) (l : Look) → LookFits v flag l → Passed Deletes (deleteAfter v key l)
+  unfolding deleteAfter emptyAt emptyDeed
+  delete-after key look-is.Bad h = search chain
+  delete-after key (look-is.Missing w) h = by-passed _ (stopped w h)
+  delete-after key (look-is.Found Here i) h = let r = removing Here i h in let b : WayFits v flag Here = h .0 in search (chain, either) depth 12
+  delete-after key (look-is.Found (By w) i) h = let r = removing (By w) i h in let b : WayFits v flag (By w) = h .0 in search (chain, either) depth 12
+
+  delete-passed : (key : List ℕ) → Passed Deletes (deleteDeed v flag key)
+  unfolding deleteDeed
+  delete-passed key = search (chain, delete-after, looked)
+
+  delete-done : (key : List ℕ) (d : Delete) → deleteDeed v flag key ≡ passed d → Passed (Modest v) (deleteDone v flag work d)
+  delete-done key d e = delete-passed key .holds d e .modest
+
+  pub dlete-modest : Passed (Modest v) (dleteSteps v flag work)
+  unfolding dleteSteps
+  dlete-modest = search (chain, delete-done)
+
+  -- XTEND
+  record Extends (d : Extend) : Type 0 where
+    modest : Passed (Modest v) (y.extendDone v flag work d)
+
+  index-read : (n : ℕ) → length (cond (eqb n 0) [] (Read n ∷ [])) ≤ 1
+  index-read n = go (eqb n 0)
+    where
+      go : (t : Bool) → length (cond t [] (Read n ∷ [])) ≤ 1
+      go true = omega arith
+      go false = omega arith
+
+  module _ (way : Way) (reach : WayFits v flag way) where
+    reading-few : (n : ℕ) → length (y.reading n (reached v flag way) .moves) ≤ 16
+    unfolding y.reading
+    reading-few n = let r = index-read n in more-few v fit flag way _ reach (omega arith)
+
+    extend-stop : (n z : ℕ) → Extends (extend-is.Stop way n z)
+    unfolding y.extendDone y.reading stopping
+    extend-stop n z = record { modest = by-passed _ (record { current-most = way-brought v fit flag way reach .current-most; few = reading-few n }) }
+
+    extend-room : (n z : ℕ) → Extends (extend-is.Room way n z)
+    unfolding y.extendDone y.reading storing
+    extend-room n z = record { modest = by-passed _ (record { current-most = way-brought v fit flag way reach .current-most; few = reading-few n }) }
+
+    extend-new : (w : Path) (n : ℕ) (d : Taken) (head lowest : ℕ) → granted v head lowest ≡ passed d → eqb (d .block) 0 ≡ false → Extends (extend-is.New way w d n)
+    unfolding y.extendDone y.newMoves
+    extend-new w n d head lowest e z =
+        let new = granted-fits v head lowest d e z in
+        record { modest = by-passed _ (land-modest v fit n work _ _ _ (new .1) (more-few v fit flag way _ reach (omega arith))) }
+
+    extend-both : (w : Path) (n : ℕ) (d t : Taken) (head lowest : ℕ) → granted v head lowest ≡ passed d
+        → (eqb (d .block) 0 || (eqb (t .block) 0 || leb (v .desc .control) (sections (v .file)))) ≡ false → Extends (extend-is.Both way w (d .block) t n)
+    unfolding y.extendDone y.bothMoves
+    extend-both w n d t head lowest e z =
+        let a = neither (eqb (d .block) 0) _ z in
+        let new = granted-fits v head lowest d e (a .0) in
+        record { modest = by-passed _ (land-modest v fit n work _ _ _ (new .1) (more-few v fit flag way _ reach (omega arith))) }
+
+  last-fits : (way : Way) → x.lastWay v flag ≡ passed way → WayFits v flag way
+  last-fits way e = last-passed v flag .holds way e
+
+  extend-passed : (key : List ℕ) → Passed Extends (x.extendDeed v flag key)
+  unfolding x.extendDeed x.extendAt x.aloneDeed x.roomDeed x.newDeed x.newAt x.newWith x.bothAfter x.bothWith
+  extend-passed key = search (chain, last-fits, extend-stop, extend-room, extend-new, extend-both) depth 20
+
+  extend-done : (key : List ℕ) (d : Extend) → x.extendDeed v flag key ≡ passed d → Passed (Modest v) (y.extendDone v flag work d)
+  extend-done key d e = extend-passed key .holds d e .modest
+
+  pub xtend-modest : Passed (Modest v) (y.xtendSteps v flag work)
+  unfolding y.xtendSteps
+  xtend-modest = search (chain, extend-done)

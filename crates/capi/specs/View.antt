@@ -1,0 +1,37 @@
+-- `nasturakh_view(session, file, buffer, block)`: where the part lies that VIEW lends back.
+use Prim.Native.Nat.{ℕ, _+_, _-_}
+use mathlib.Core.Bool.{cond, _&&_}
+use mathlib.Core.List.{List, []}
+use lib.Dec.{eqb, ltb}
+use lib.ListN.{length}
+use Rattle.numbers.specs.Numbers.{wrongSize}
+use Rattle.numbers.specs.Checked.{between}
+use Rattle.words.specs.Words.{part}
+use Rattle.drum.specs.Params.{sized, start}
+use Rattle.rules.specs.State.{State, desc, lent}
+use Rattle.capi.specs.Words.{isSession, sessionOf, packed}
+
+-- "2^32 plus the word offset of the part in the file"
+abbrev pub inFile : ℕ
+inFile = 4294967296
+
+-- "or 2^33 for the buffer"
+abbrev pub inBuffer : ℕ
+inBuffer = 8589934592
+
+-- "returns 0 for an empty part, 2^32 plus the word offset of the part in the file, or 2^33 for the buffer"
+unfoldable pub placeOf : State → ℕ → ℕ
+placeOf st b =
+    cond (st .session .opened && (sized (desc st) (length (st .file)) (length (st .buffer)) && between 1 (desc st .n) b))
+    (cond (eqb b (st .session .current)) inBuffer (inFile + start (desc st) b))
+    0
+
+-- "A session slice of another length, or a word 6, 8 or 9 above 1, answers 020007", VIEW too
+unfoldable pub viewed : List ℕ → List ℕ → List ℕ → ℕ → ℕ
+viewed ws f b block = cond (isSession ws) (placeOf (lent (sessionOf ws) f b []) block) (packed 0 wrongSize)
+
+-- the part that such a number names: WPB words of the file, or the buffer; below 2^32 an empty part
+unfoldable pub partAt : State → ℕ → List ℕ
+partAt st x =
+    cond (ltb x inFile) []
+    (cond (eqb x inBuffer) (st .buffer) (part (x - inFile) (desc st .wpb) (st .file)))

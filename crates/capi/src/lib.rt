@@ -1,0 +1,177 @@
+// The calls for programs in other languages. A session is lent as 73 words (module `session`), every slice is a pointer and a length, and
+// a call's answer is one number: its transfers times 2^32, plus its number. A session slice that is none answers 020007 and changes nothing.
+mod place;
+mod session;
+
+use numbers::WRONG_SIZE;
+use place::place_of;
+use session::is_session;
+use session::packed;
+use session::parameters_in;
+use session::session_of;
+use session::told;
+ghost use mathlib.Core.Path.{_≡_};
+ghost use mathlib.Core.List.{[]};
+ghost use Rattle.rules.specs.Close.{close};
+ghost use Rattle.rules.specs.Adv.{adv};
+ghost use Rattle.rules.specs.NsertDone.{nsert};
+ghost use Rattle.rules.specs.Dlete.{dlete};
+ghost use Rattle.rules.specs.XtendDone.{xtend};
+ghost use Rattle.rules.specs.Seek.{seek, updat};
+ghost use Rattle.capi.specs.Calls.{returned, called, creating, marked, calledOpen};
+ghost use Rattle.capi.specs.View.{viewed};
+
+// CREATE with the session's parameters; the session stays as it is.
+#[no_mangle]
+pub extern "C" fn nasturakh_create(session: &[u32], file: &mut [u32]) -> u64
+    ensures { λ r. ⌜ returned r (now (session .entry)) (now (file .exit)) [] [] ≡ called creating (now (session .entry)) (now (file .entry)) [] [] ⌝ }
+{
+    if !is_session(session) {
+        return packed(0, WRONG_SIZE);
+    }
+    let number = searchfile::create(parameters_in(session), file);
+    packed(0, number)
+}
+
+// OPEN, which marks every block.
+#[no_mangle]
+pub extern "C" fn nasturakh_open(
+    session: &mut [u32],
+    file: &[u32],
+    buffer: &[u32],
+    marks: &mut [u8],
+) -> u64
+    ensures { λ r. ⌜ marked (returned r (now (session .exit)) (now (file .entry)) (now (buffer .entry)) []) (now (marks .exit)) ≡ calledOpen (now (session .entry)) (now (file .entry)) (now (buffer .entry)) (now (marks .entry)) ⌝ }
+{
+    if !is_session(session) {
+        return packed(0, WRONG_SIZE);
+    }
+    let answer = session_of(session).open_file(file, buffer, marks);
+    told(session, answer)
+}
+
+// CLOSE.
+#[no_mangle]
+pub extern "C" fn nasturakh_close(session: &mut [u32], file: &mut [u32], buffer: &[u32]) -> u64
+    ensures { λ r. ⌜ returned r (now (session .exit)) (now (file .exit)) (now (buffer .entry)) [] ≡ called close (now (session .entry)) (now (file .entry)) (now (buffer .entry)) [] ⌝ }
+{
+    if !is_session(session) {
+        return packed(0, WRONG_SIZE);
+    }
+    let answer = session_of(session).close(file, buffer);
+    told(session, answer)
+}
+
+// SEEK.
+#[no_mangle]
+pub extern "C" fn nasturakh_seek(
+    session: &mut [u32],
+    file: &mut [u32],
+    buffer: &mut [u32],
+    work: &mut [u32],
+) -> u64
+    ensures { λ r. ⌜ returned r (now (session .exit)) (now (file .exit)) (now (buffer .exit)) (now (work .exit)) ≡ called seek (now (session .entry)) (now (file .entry)) (now (buffer .entry)) (now (work .entry)) ⌝ }
+{
+    if !is_session(session) {
+        return packed(0, WRONG_SIZE);
+    }
+    let answer = session_of(session).seek(file, buffer, work);
+    told(session, answer)
+}
+
+// ADV.
+#[no_mangle]
+pub extern "C" fn nasturakh_adv(
+    session: &mut [u32],
+    file: &mut [u32],
+    buffer: &mut [u32],
+    work: &mut [u32],
+) -> u64
+    ensures { λ r. ⌜ returned r (now (session .exit)) (now (file .exit)) (now (buffer .exit)) (now (work .exit)) ≡ called adv (now (session .entry)) (now (file .entry)) (now (buffer .entry)) (now (work .entry)) ⌝ }
+{
+    if !is_session(session) {
+        return packed(0, WRONG_SIZE);
+    }
+    let answer = session_of(session).adv(file, buffer, work);
+    told(session, answer)
+}
+
+// NSERT.
+#[no_mangle]
+pub extern "C" fn nasturakh_nsert(
+    session: &mut [u32],
+    file: &mut [u32],
+    buffer: &mut [u32],
+    work: &[u32],
+) -> u64
+    ensures { λ r. ⌜ returned r (now (session .exit)) (now (file .exit)) (now (buffer .exit)) (now (work .entry)) ≡ called nsert (now (session .entry)) (now (file .entry)) (now (buffer .entry)) (now (work .entry)) ⌝ }
+{
+    if !is_session(session) {
+        return packed(0, WRONG_SIZE);
+    }
+    let answer = session_of(session).nsert(file, buffer, work);
+    told(session, answer)
+}
+
+// DLETE.
+#[no_mangle]
+pub extern "C" fn nasturakh_dlete(
+    session: &mut [u32],
+    file: &mut [u32],
+    buffer: &mut [u32],
+    work: &[u32],
+) -> u64
+    ensures { λ r. ⌜ returned r (now (session .exit)) (now (file .exit)) (now (buffer .exit)) (now (work .entry)) ≡ called dlete (now (session .entry)) (now (file .entry)) (now (buffer .entry)) (now (work .entry)) ⌝ }
+{
+    if !is_session(session) {
+        return packed(0, WRONG_SIZE);
+    }
+    let answer = session_of(session).dlete(file, buffer, work);
+    told(session, answer)
+}
+
+// UPDAT.
+#[no_mangle]
+pub extern "C" fn nasturakh_updat(
+    session: &mut [u32],
+    file: &mut [u32],
+    buffer: &mut [u32],
+    work: &[u32],
+) -> u64
+    ensures { λ r. ⌜ returned r (now (session .exit)) (now (file .exit)) (now (buffer .exit)) (now (work .entry)) ≡ called updat (now (session .entry)) (now (file .entry)) (now (buffer .entry)) (now (work .entry)) ⌝ }
+{
+    if !is_session(session) {
+        return packed(0, WRONG_SIZE);
+    }
+    let answer = session_of(session).updat(file, buffer, work);
+    told(session, answer)
+}
+
+// XTEND.
+#[no_mangle]
+pub extern "C" fn nasturakh_xtend(
+    session: &mut [u32],
+    file: &mut [u32],
+    buffer: &mut [u32],
+    work: &[u32],
+) -> u64
+    ensures { λ r. ⌜ returned r (now (session .exit)) (now (file .exit)) (now (buffer .exit)) (now (work .entry)) ≡ called xtend (now (session .entry)) (now (file .entry)) (now (buffer .entry)) (now (work .entry)) ⌝ }
+{
+    if !is_session(session) {
+        return packed(0, WRONG_SIZE);
+    }
+    let answer = session_of(session).xtend(file, buffer, work);
+    told(session, answer)
+}
+
+// VIEW: where the current text of the block lies.
+#[no_mangle]
+pub extern "C" fn nasturakh_view(session: &[u32], file: &[u32], buffer: &[u32], block: usize) -> u64
+    ensures { λ r. ⌜ r ≡ viewed (now (session .entry)) (now (file .entry)) (now (buffer .entry)) block ⌝ }
+{
+    if !is_session(session) {
+        return packed(0, WRONG_SIZE);
+    }
+    let s = session_of(session);
+    place_of(s, file, buffer, block)
+}

@@ -1,0 +1,103 @@
+// A session as 73 words, and an answer as one 64-bit number.
+use drum::Description;
+use searchfile::Answer;
+use searchfile::Session;
+ghost use mathlib.Core.Path.{_≡_};
+ghost use Prim.Native.Nat.{_≤_};
+ghost use lib.ListN.{length};
+ghost use Rattle.searchfile.specs.Promise.{held};
+ghost use Rattle.capi.specs.Words.{isSession, parametersIn, sessionOf, wordsOf, mostWord, bit as bitOf, packed as packedNumber};
+ghost use Rattle.capi.specs.Calls.{Tellable};
+
+const SESSION_WORDS: usize = 73;
+
+// Whether the words are a session's.
+pub fn is_session(words: &[u32]) -> bool
+    ensures { λ r. ⌜ r ≡ isSession (now (words .entry)) ⌝ }
+{
+    if words.len() != SESSION_WORDS {
+        return false;
+    }
+    if 1 < words[6] {
+        return false;
+    }
+    if 1 < words[8] {
+        return false;
+    }
+    words[9] <= 1
+}
+
+// The parameters that stand in a session's words.
+pub fn parameters_in(words: &[u32]) -> Description
+    requires { ⌜ length (now words) ≡ 73 ⌝ }
+    ensures { λ r. ⌜ r ≡ parametersIn (now (words .entry)) ⌝ }
+{
+    Description {
+        wpb: words::word_at(words, 0),
+        wpr: words::word_at(words, 1),
+        k: words::word_at(words, 2),
+        space: words::word_at(words, 3),
+        control: words::word_at(words, 4),
+        n: words::word_at(words, 5),
+    }
+}
+
+// The session that the words are.
+pub fn session_of(words: &[u32]) -> Session
+    requires { ⌜ length (now words) ≡ 73 ⌝ }
+    ensures { λ r. ⌜ held r ≡ sessionOf (now (words .entry)) ⌝ }
+{
+    let mut position = [0; 63];
+    words::copy_words(&mut position, 0, words, 10, 63);
+    let desc = parameters_in(words);
+    Session {
+        desc,
+        opened: words[6] == 1,
+        current: words::word_at(words, 7),
+        flag: words[8] == 1,
+        placed: words[9] == 1,
+        position,
+    }
+}
+
+fn bit(x: bool) -> u32
+    ensures { λ r. ⌜ r ≡ bitOf x ⌝ }
+{
+    if x { 1 } else { 0 }
+}
+
+// Writes a session over the words of one with the same parameters.
+fn put_session(words: &mut [u32], s: Session)
+    requires { ⌜ (length (now words) ≡ 73) × (parametersIn (now words) ≡ s .desc) × (s .current ≤ mostWord) ⌝ }
+    ensures { λ _. ⌜ now (words .exit) ≡ wordsOf (held s) ⌝ }
+{
+    let position = s.position;
+    words::copy_words(words, 10, &position, 0, 63);
+    words[6] = bit(s.opened);
+    words[7] = s.current as u32;
+    words[8] = bit(s.flag);
+    words[9] = bit(s.placed);
+}
+
+fn wide(x: u32) -> u64
+    ensures { λ r. ⌜ r ≡ x ⌝ }
+{
+    x as u64
+}
+
+// "transfers times 2^32, plus the number".
+pub fn packed(transfers: usize, number: u32) -> u64
+    requires { ⌜ transfers ≤ 16 ⌝ }
+    ensures { λ r. ⌜ r ≡ packedNumber transfers number ⌝ }
+{
+    (transfers as u64) * 4294967296 + wide(number)
+}
+
+// Tells what a session call answered: its session over the words, its number and transfers as the result.
+pub fn told(words: &mut [u32], a: Answer) -> u64
+    requires { ⌜ Tellable (now words) a ⌝ }
+    ensures { λ r. ⌜ (r ≡ packedNumber (a .transfers) (a .number)) × (now (words .exit) ≡ wordsOf (held (a .session))) ⌝ }
+{
+    put_session(words, a.session);
+    packed(a.transfers, a.number)
+}

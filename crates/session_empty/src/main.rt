@@ -1,0 +1,4 @@
+// No input at all.
+fn main() {
+    terminal::play(0);
+}

@@ -1,0 +1,170 @@
+// The last block, which holds the end record: the way to it, its path, and its current text.
+use drum::Description;
+use lookup::Route;
+use lookup::Test;
+use rules::Way;
+use rules::Which;
+ghost use mathlib.Core.Path.{_≡_};
+ghost use mathlib.Core.Bool.{true};
+ghost use Prim.Native.Nat.{_-_, _≤_};
+ghost use lib.ListN.{length};
+ghost use Rattle.words.specs.Words.{part};
+ghost use Rattle.words.specs.Keys.{keyLt};
+ghost use Rattle.table.specs.Tables.{count, keyAt};
+ghost use Rattle.drum.specs.Params.{D, goodParams, detailShape};
+ghost use Rattle.drum.specs.Blocks.{Fitting, seen};
+ghost use Rattle.rules.specs.Lookup.{textAt};
+ghost use Rattle.rules.specs.Paths.{lastPath};
+ghost use Rattle.rules.specs.Xtend.{endsInOnes, lastOutside, lastWay, lastOf};
+ghost use Rattle.lookup.specs.Answers.{asRoute};
+ghost use Rattle.xtend_plan.specs.Answers.{asLast};
+ghost use Rattle.xtend_plan.specs.Fits.{AtFits};
+
+// The way to the last block.
+pub enum Last {
+    Bad,
+    At(Way),
+}
+
+// Whether the last record of a detail block's text has the key ONES.
+fn ends_in_ones(p: Description, t: &[u32]) -> bool
+    requires { ⌜ (goodParams p ≡ true) × (length (now t) ≡ p .wpb) × (1 ≤ count (now t)) × (count (now t) ≤ D p) ⌝ }
+    ensures { λ r. ⌜ r ≡ endsInOnes p (now (t .entry)) ⌝ }
+{
+    let n = words::word_at(t, 0);
+    words::all_are(t, 1 + (n - 1) * p.wpr, p.k, 262143)
+}
+
+// Whether the key is above the highest ordinary key of a detail block's text, that of the record before the end record.
+pub fn is_above(p: Description, t: &[u32], key: &[u32]) -> bool
+    requires { ⌜ (goodParams p ≡ true) × (length (now t) ≡ p .wpb) × (2 ≤ count (now t)) × (count (now t) ≤ D p) × (p .k ≤ length (now key)) ⌝ }
+    ensures { λ r. ⌜ r ≡ keyLt (keyAt (detailShape p) (now (t .entry)) (count (now (t .entry)) - 2)) (part 0 (p .k) (now (key .entry))) ⌝ }
+{
+    let n = words::word_at(t, 0);
+    words::key_below(t, 1 + (n - 2) * p.wpr, key, 0, p.k)
+}
+
+// The path by the last entries. It asks no key: the buffer's words stand for one.
+fn last_path<'a>(p: Description, current: usize, file: &'a [u32], buffer: &'a [u32]) -> Route
+    requires { ⌜ Fitting p (now file) (now buffer) ⌝ }
+    ensures { λ r. ⌜ asRoute r ≡ lastPath (seen p current (now (file .entry)) (now (buffer .entry))) ⌝ }
+{
+    lookup::path_by(p, current, file, buffer, Which::Last, Which::Last, buffer)
+}
+
+// The way to the last block by way of the master.
+fn last_outside<'a>(
+    p: Description,
+    current: usize,
+    flag: bool,
+    file: &'a [u32],
+    buffer: &'a [u32],
+) -> Last
+    requires { ⌜ Fitting p (now file) (now buffer) ⌝ }
+    ensures { λ r. ⌜ asLast r ≡ lastOutside (seen p current (now (file .entry)) (now (buffer .entry))) flag ⌝ }
+{
+    let route = last_path(p, current, file, buffer);
+    match route {
+        Route::Bad => Last::Bad,
+        Route::To(w) => {
+            let t = drum::text_of(p, current, file, buffer, w.detail);
+            if !ends_in_ones(p, t) {
+                return Last::Bad;
+            }
+            if !lookup::can_flush(p, current, flag) {
+                return Last::Bad;
+            }
+            Last::At(Way::By(w))
+        }
+    }
+}
+
+// The way to the last block: it may be buffered.
+pub fn last_way<'a>(
+    p: Description,
+    current: usize,
+    flag: bool,
+    file: &'a [u32],
+    buffer: &'a [u32],
+) -> Last
+    requires { ⌜ Fitting p (now file) (now buffer) ⌝ }
+    ensures { λ r. ⌜ asLast r ≡ lastWay (seen p current (now (file .entry)) (now (buffer .entry))) flag ⌝ }
+{
+    let held = lookup::on_buffer(p, current, buffer);
+    match held {
+        Test::Bad => Last::Bad,
+        Test::No => last_outside(p, current, flag, file, buffer),
+        Test::Yes => {
+            if ends_in_ones(p, buffer) {
+                return Last::At(Way::Here);
+            }
+            last_outside(p, current, flag, file, buffer)
+        }
+    }
+}
+
+// The path to the buffered block, if the last entries name it.
+fn last_here<'a>(p: Description, current: usize, file: &'a [u32], buffer: &'a [u32]) -> Route
+    requires { ⌜ Fitting p (now file) (now buffer) ⌝ }
+    ensures { λ r. ⌜ asRoute r ≡ lastOf (seen p current (now (file .entry)) (now (buffer .entry))) Way.Here ⌝ }
+{
+    let route = last_path(p, current, file, buffer);
+    match route {
+        Route::Bad => Route::Bad,
+        Route::To(w) => {
+            if w.detail != current {
+                return Route::Bad;
+            }
+            Route::To(w)
+        }
+    }
+}
+
+// The path to the last block, which this way led to.
+pub fn last_of<'a>(
+    p: Description,
+    current: usize,
+    file: &'a [u32],
+    buffer: &'a [u32],
+    way: Way,
+) -> Route
+    requires { ⌜ Fitting p (now file) (now buffer) ⌝ }
+    ensures { λ r. ⌜ asRoute r ≡ lastOf (seen p current (now (file .entry)) (now (buffer .entry))) way ⌝ }
+{
+    match way {
+        Way::Here => last_here(p, current, file, buffer),
+        Way::By(w) => Route::To(w),
+    }
+}
+
+// The current text of the block at the end of the way.
+pub fn text_at<'a>(
+    p: Description,
+    current: usize,
+    file: &'a [u32],
+    buffer: &'a [u32],
+    way: Way,
+) -> &'a [u32]
+    requires { ⌜ Fitting p (now file) (now buffer) × AtFits (seen p current (now file) (now buffer)) way ⌝ }
+    ensures { λ r. ⌜ now r ≡ textAt (seen p current (now (file .entry)) (now (buffer .entry))) way ⌝ }
+{
+    match way {
+        Way::Here => buffer,
+        Way::By(w) => drum::text_of(p, current, file, buffer, w.detail),
+    }
+}
+
+// How many records it holds.
+pub fn count_at<'a>(
+    p: Description,
+    current: usize,
+    file: &'a [u32],
+    buffer: &'a [u32],
+    way: Way,
+) -> usize
+    requires { ⌜ Fitting p (now file) (now buffer) × AtFits (seen p current (now file) (now buffer)) way ⌝ }
+    ensures { λ r. ⌜ r ≡ count (textAt (seen p current (now (file .entry)) (now (buffer .entry))) way) ⌝ }
+{
+    let t = text_at(p, current, file, buffer, way);
+    words::word_at(t, 0)
+}

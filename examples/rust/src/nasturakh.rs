@@ -1,0 +1,254 @@
+//! A safe wrapper of the archive's functions. Copy this file, and link libcapi.a.
+//!
+//! A `Session` is the 73 words that travel with every call. File, buffer, workspace and marks are lent by the caller; Rust's borrows keep
+//! them apart, which is all that the functions ask of a caller. A wrong length is refused by its number.
+
+/// Done.
+pub const DONE: u32 = 0;
+/// No record has the key; NSERT: one has it already.
+pub const NOT_FOUND: u32 = 1;
+/// XTEND: the key is not above all others.
+pub const OUT_OF_ORDER: u32 = 5;
+/// A parameter or a slice's length is wrong.
+pub const WRONG_SIZE: u32 = 0o020007;
+/// OPEN of an open session.
+pub const ALREADY_OPEN: u32 = 0o020006;
+/// Another call on a closed session.
+pub const IS_CLOSED: u32 = 0o020005;
+/// A word of the workspace above 262143, or the reserved key.
+pub const WRONG_KEY: u32 = 0o030001;
+/// ADV: no record is left.
+pub const END: u32 = 0o030002;
+/// Stored; but the record's block is now full and no block is free.
+pub const NOW_FULL: u32 = 0o070001;
+/// Not stored: too few blocks or sections are free.
+pub const NO_ROOM: u32 = 0o070002;
+/// OPEN: not a good file; else a bad number in file or buffer.
+pub const BAD_FILE: u32 = 0o070003;
+
+const WORDS: usize = 73;
+const IN_FILE: u64 = 1 << 32;
+const IN_BUFFER: u64 = 1 << 33;
+
+mod raw {
+    extern "C" {
+        pub fn nasturakh_create(
+            session: *const u32,
+            session_words: usize,
+            file: *mut u32,
+            file_words: usize,
+        ) -> u64;
+        pub fn nasturakh_open(
+            session: *mut u32,
+            session_words: usize,
+            file: *const u32,
+            file_words: usize,
+            buffer: *const u32,
+            buffer_words: usize,
+            marks: *mut u8,
+            marks_bytes: usize,
+        ) -> u64;
+        pub fn nasturakh_close(
+            session: *mut u32,
+            session_words: usize,
+            file: *mut u32,
+            file_words: usize,
+            buffer: *const u32,
+            buffer_words: usize,
+        ) -> u64;
+        pub fn nasturakh_view(
+            session: *const u32,
+            session_words: usize,
+            file: *const u32,
+            file_words: usize,
+            buffer: *const u32,
+            buffer_words: usize,
+            block: usize,
+        ) -> u64;
+    }
+
+    macro_rules! keyed {
+        ($($name:ident: $work:ty),*) => {
+            extern "C" {
+                $(pub fn $name(
+                    session: *mut u32,
+                    session_words: usize,
+                    file: *mut u32,
+                    file_words: usize,
+                    buffer: *mut u32,
+                    buffer_words: usize,
+                    work: $work,
+                    work_words: usize,
+                ) -> u64;)*
+            }
+        };
+    }
+
+    keyed!(
+        nasturakh_seek: *mut u32,
+        nasturakh_adv: *mut u32,
+        nasturakh_nsert: *const u32,
+        nasturakh_dlete: *const u32,
+        nasturakh_updat: *const u32,
+        nasturakh_xtend: *const u32
+    );
+}
+
+/// The parameters of a search file.
+#[derive(Clone, Copy, Debug, PartialEq, Eq)]
+pub struct Parameters {
+    /// Words per block: even, 6..=4096.
+    pub wpb: u32,
+    /// Words per record, K or more.
+    pub wpr: u32,
+    /// Words per key: 1..=63.
+    pub k: u32,
+    /// Places that XTEND leaves free in a block.
+    pub space: u32,
+    /// Most index blocks in use: 1..=4095.
+    pub control: u32,
+    /// Blocks: 2..=262142.
+    pub n: u32,
+}
+
+impl Parameters {
+    /// The words of a file with these parameters.
+    pub fn file_words(&self) -> usize {
+        let master = 3 + self.control as usize * (self.k as usize + 1);
+        master + master % 2 + self.n as usize * self.wpb as usize
+    }
+}
+
+/// What a call answers.
+#[derive(Clone, Copy, Debug, PartialEq, Eq)]
+pub struct Answer {
+    pub number: u32,
+    /// Block transfers made.
+    pub transfers: u32,
+}
+
+impl Answer {
+    fn of(packed: u64) -> Self {
+        Self {
+            number: packed as u32,
+            transfers: (packed >> 32) as u32,
+        }
+    }
+
+    /// Whether the call did what it was asked to do: 0, or 070001, which stored as well.
+    pub fn is_done(self) -> bool {
+        self.number == DONE || self.number == NOW_FULL
+    }
+}
+
+/// A session on one file: hand the same file and buffer to each of its calls.
+#[derive(Clone, Debug, PartialEq, Eq)]
+pub struct Session {
+    words: [u32; WORDS],
+}
+
+macro_rules! calls {
+    ($($(#[$doc:meta])* $name:ident, $raw:ident, $work:ty, $pointer:ident;)*) => {
+        $($(#[$doc])*
+        pub fn $name(&mut self, file: &mut [u32], buffer: &mut [u32], work: $work) -> Answer {
+            // SAFETY: each pointer is that of a live slice with its length, and the borrows keep what is written apart from the rest.
+            Answer::of(unsafe {
+                raw::$raw(
+                    self.words.as_mut_ptr(),
+                    WORDS,
+                    file.as_mut_ptr(),
+                    file.len(),
+                    buffer.as_mut_ptr(),
+                    buffer.len(),
+                    work.$pointer(),
+                    work.len(),
+                )
+            })
+        })*
+    };
+}
+
+impl Session {
+    /// A closed session.
+    pub fn new(p: Parameters) -> Self {
+        let mut words = [0; WORDS];
+        words[..6].copy_from_slice(&[p.wpb, p.wpr, p.k, p.space, p.control, p.n]);
+        Self { words }
+    }
+
+    /// CREATE: writes a new file with no records.
+    pub fn create(&self, file: &mut [u32]) -> Answer {
+        // SAFETY: as for the other calls.
+        Answer::of(unsafe {
+            raw::nasturakh_create(self.words.as_ptr(), WORDS, file.as_mut_ptr(), file.len())
+        })
+    }
+
+    /// OPEN: inspects the file; marks each block 1 in use, 2 on the free chain, 0 never used.
+    pub fn open(&mut self, file: &[u32], buffer: &[u32], marks: &mut [u8]) -> Answer {
+        // SAFETY: as for the other calls; file and buffer are only read.
+        Answer::of(unsafe {
+            raw::nasturakh_open(
+                self.words.as_mut_ptr(),
+                WORDS,
+                file.as_ptr(),
+                file.len(),
+                buffer.as_ptr(),
+                buffer.len(),
+                marks.as_mut_ptr(),
+                marks.len(),
+            )
+        })
+    }
+
+    /// CLOSE: writes the buffer to its block if need be, and closes.
+    pub fn close(&mut self, file: &mut [u32], buffer: &[u32]) -> Answer {
+        // SAFETY: as for the other calls; the buffer is only read.
+        Answer::of(unsafe {
+            raw::nasturakh_close(
+                self.words.as_mut_ptr(),
+                WORDS,
+                file.as_mut_ptr(),
+                file.len(),
+                buffer.as_ptr(),
+                buffer.len(),
+            )
+        })
+    }
+
+    /// VIEW: the current text of a block, or an empty part.
+    pub fn view<'a>(&self, file: &'a [u32], buffer: &'a [u32], block: usize) -> &'a [u32] {
+        // SAFETY: as for the other calls; all are only read.
+        let found = unsafe {
+            raw::nasturakh_view(
+                self.words.as_ptr(),
+                WORDS,
+                file.as_ptr(),
+                file.len(),
+                buffer.as_ptr(),
+                buffer.len(),
+                block,
+            )
+        };
+        match found {
+            ..IN_FILE => &[],
+            IN_BUFFER => buffer,
+            at => &file[(at - IN_FILE) as usize..][..buffer.len()],
+        }
+    }
+
+    calls! {
+        /// SEEK: the record with the workspace's key to the workspace.
+        seek, nasturakh_seek, &mut [u32], as_mut_ptr;
+        /// ADV: the record with the least key above the position, or the first one, to the workspace.
+        adv, nasturakh_adv, &mut [u32], as_mut_ptr;
+        /// NSERT: the workspace's record put in, unless its key is there.
+        nsert, nasturakh_nsert, &[u32], as_ptr;
+        /// DLETE: the record with the workspace's key taken out.
+        dlete, nasturakh_dlete, &[u32], as_ptr;
+        /// UPDAT: the record with the workspace's key replaced by the workspace.
+        updat, nasturakh_updat, &[u32], as_ptr;
+        /// XTEND: the workspace's record put in behind all others.
+        xtend, nasturakh_xtend, &[u32], as_ptr;
+    }
+}

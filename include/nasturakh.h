@@ -1,0 +1,121 @@
+/* Nasturakh: search files of fixed records in order of their keys. The functions of the archive libcapi.a, for C and C++.
+ *
+ * WORDS. A word is a number 0..262143 in a uint32_t. A record is WPR words, its key the first K. Keys compare word by word, the first
+ * word heaviest. The key whose words are all 262143 is reserved: it ends the file.
+ *
+ * SLICES. Each slice travels as a pointer and a length, in words (marks: in bytes). The caller owns all of them; the library keeps no
+ * pointer, allocates nothing and has no state. No two slices of one call may overlap. No pointer may be null, also where a length is 0.
+ *   session    73 words, see below
+ *   file       exactly nasturakh_file_words(..) words
+ *   buffer     exactly WPB words; belongs to the session: hand in what the last call left
+ *   workspace  exactly WPR words: the record, or for SEEK and DLETE the key in its first K words (the others are not read)
+ *   marks      exactly N bytes
+ * A slice whose length is wrong is refused by 020007; so no length reads or writes outside what it says.
+ *
+ * SESSION. 73 words of the caller: set 0..5 to the parameters and 6..72 to 0, then hand in to each call what the last one left.
+ *
+ * THREADS. Any thread may call, and any number at once, as long as no two calls share a slice: one call at a time on one session.
+ *
+ * ANSWERS. Every function but nasturakh_view returns transfers * 2^32 + number. Numbers are octal; the first that applies is given.
+ */
+#ifndef NASTURAKH_H
+#define NASTURAKH_H
+
+#include <stddef.h>
+#include <stdint.h>
+
+#ifdef __cplusplus
+extern "C" {
+#endif
+
+/* The words of a session. */
+enum {
+  NASTURAKH_WPB = 0,      /* words per block: even, 6..4096 */
+  NASTURAKH_WPR = 1,      /* words per record: K or more; a block holds D = (WPB-1)/WPR of them, at least 2 */
+  NASTURAKH_K = 2,        /* words per key: 1..63; an index block holds I = (WPB-1)/(K+1) entries, at least 2 */
+  NASTURAKH_SPACE = 3,    /* places that XTEND leaves free in a block: 0..D-2 and 0..I-2 */
+  NASTURAKH_CONTROL = 4,  /* most index blocks in use: 1..4095 */
+  NASTURAKH_N = 5,        /* blocks: 2..262142 */
+  NASTURAKH_OPEN = 6,     /* 0 closed, 1 open */
+  NASTURAKH_CURRENT = 7,  /* the block in the buffer, 0 none */
+  NASTURAKH_FLAG = 8,     /* 1: the buffer is to be written before another block is read */
+  NASTURAKH_PLACED = 9,   /* 1: there is a position */
+  NASTURAKH_POSITION = 10, /* the position, a key in the first K of 63 words */
+  NASTURAKH_SESSION = 73  /* words in all */
+};
+
+/* The numbers returned. */
+#define NASTURAKH_DONE 000000u         /* done */
+#define NASTURAKH_NOT_FOUND 000001u    /* no record has the key; NSERT: one has it already */
+#define NASTURAKH_OUT_OF_ORDER 000005u /* XTEND: the key is not above all others */
+#define NASTURAKH_WRONG_SIZE 020007u   /* a parameter or a slice's length is wrong, or session word 6, 8 or 9 is above 1; all unchanged */
+#define NASTURAKH_ALREADY_OPEN 020006u /* OPEN of an open session; all unchanged */
+#define NASTURAKH_IS_CLOSED 020005u    /* another call on a closed session; all unchanged */
+#define NASTURAKH_WRONG_KEY 030001u    /* a workspace word above 262143, or the reserved key; all unchanged */
+#define NASTURAKH_END 030002u          /* ADV: no record is left; the end record is in the workspace, the position stays */
+#define NASTURAKH_NOW_FULL 070001u     /* stored; but the record's block is now full and no block is free */
+#define NASTURAKH_NO_ROOM 070002u      /* NSERT, XTEND: not stored, too few blocks or sections are free */
+#define NASTURAKH_BAD_FILE 070003u     /* OPEN: not a good file; else a bad number in file or buffer; all unchanged but OPEN's marks */
+
+/* The two parts of an answer. */
+static inline uint32_t nasturakh_number(uint64_t answer) { return (uint32_t)answer; }
+static inline uint32_t nasturakh_transfers(uint64_t answer) { return (uint32_t)(answer >> 32); }
+
+/* The words of a file with the session's parameters: the master, made even, then N blocks. */
+static inline size_t nasturakh_file_words(const uint32_t *session) {
+  size_t master = 3 + (size_t)session[NASTURAKH_CONTROL] * ((size_t)session[NASTURAKH_K] + 1);
+  return master + master % 2 + (size_t)session[NASTURAKH_N] * session[NASTURAKH_WPB];
+}
+
+/* CREATE: writes a new file with no records, every word of it. Only the parameters of the session are used, and it is left as it is.
+ * 0 or 020007. */
+uint64_t nasturakh_create(const uint32_t *session, size_t session_words, uint32_t *file, size_t file_words);
+
+/* OPEN: inspects the whole file. Answering 0 it leaves the session open with no position, and marks each block: 1 in use, 2 on the
+ * free chain, 0 never used. Answering 070003 it leaves all marks 0. Else 020007 or 020006. */
+uint64_t nasturakh_open(uint32_t *session, size_t session_words, const uint32_t *file, size_t file_words,
+                        const uint32_t *buffer, size_t buffer_words, uint8_t *marks, size_t marks_bytes);
+
+/* CLOSE: writes the buffer to its block if need be, and closes. Without it records that are only in the buffer are lost, never the
+ * file. 0, 020007, 020005 or 070003. */
+uint64_t nasturakh_close(uint32_t *session, size_t session_words, uint32_t *file, size_t file_words,
+                         const uint32_t *buffer, size_t buffer_words);
+
+/* SEEK: the record with the workspace's key is put into the workspace. 0, 1, or a refusal. */
+uint64_t nasturakh_seek(uint32_t *session, size_t session_words, uint32_t *file, size_t file_words, uint32_t *buffer,
+                        size_t buffer_words, uint32_t *workspace, size_t workspace_words);
+
+/* ADV: the record with the least key above the position (the first one, without a position) is put into the workspace. 0, 030002 at
+ * the end, or a refusal. */
+uint64_t nasturakh_adv(uint32_t *session, size_t session_words, uint32_t *file, size_t file_words, uint32_t *buffer,
+                       size_t buffer_words, uint32_t *workspace, size_t workspace_words);
+
+/* NSERT: the workspace's record is put in, unless its key is there. 0, 1, 070001, 070002, or a refusal. */
+uint64_t nasturakh_nsert(uint32_t *session, size_t session_words, uint32_t *file, size_t file_words, uint32_t *buffer,
+                         size_t buffer_words, const uint32_t *workspace, size_t workspace_words);
+
+/* DLETE: the record with the workspace's key is taken out. 0, 1, or a refusal. */
+uint64_t nasturakh_dlete(uint32_t *session, size_t session_words, uint32_t *file, size_t file_words, uint32_t *buffer,
+                         size_t buffer_words, const uint32_t *workspace, size_t workspace_words);
+
+/* UPDAT: the record with the workspace's key is replaced by the workspace. 0, 1, or a refusal. */
+uint64_t nasturakh_updat(uint32_t *session, size_t session_words, uint32_t *file, size_t file_words, uint32_t *buffer,
+                         size_t buffer_words, const uint32_t *workspace, size_t workspace_words);
+
+/* XTEND: the workspace's record is put in behind all others. 0, 5, 070001, 070002, or a refusal. */
+uint64_t nasturakh_xtend(uint32_t *session, size_t session_words, uint32_t *file, size_t file_words, uint32_t *buffer,
+                         size_t buffer_words, const uint32_t *workspace, size_t workspace_words);
+
+/* VIEW: where the current text of a block is, WPB words. Below NASTURAKH_IN_FILE: nowhere (0: a closed session, wrong sizes, a block
+ * outside 1..N; 020007: a session slice of another length, or its word 6, 8 or 9 above 1). NASTURAKH_IN_BUFFER: it is the buffer. Else
+ * NASTURAKH_IN_FILE plus the word offset in the file. */
+#define NASTURAKH_IN_FILE ((uint64_t)1 << 32)
+#define NASTURAKH_IN_BUFFER ((uint64_t)1 << 33)
+uint64_t nasturakh_view(const uint32_t *session, size_t session_words, const uint32_t *file, size_t file_words,
+                        const uint32_t *buffer, size_t buffer_words, size_t block);
+
+#ifdef __cplusplus
+}
+#endif
+
+#endif

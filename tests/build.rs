@@ -1,0 +1,8 @@
+//! Links the archive of the proved functions into `compare`, and into nothing else.
+fn main() {
+    let archive =
+        std::env::var("NASTURAKH_ARCHIVE").unwrap_or_else(|_| concat!(env!("CARGO_MANIFEST_DIR"), "/../target/staticlib/libcapi.a").to_string());
+    println!("cargo:rustc-link-arg-bin=compare={archive}");
+    println!("cargo:rerun-if-env-changed=NASTURAKH_ARCHIVE");
+    println!("cargo:rerun-if-changed={archive}");
+}

@@ -1,0 +1,83 @@
+//! The functions of the archive. A slice travels as a pointer and a length.
+use crate::state::State;
+use nasturakh_tests::rules::Kind;
+
+type Closing = unsafe extern "C" fn(*mut u32, usize, *mut u32, usize, *mut u32, usize) -> u64;
+type OnRecords = unsafe extern "C" fn(*mut u32, usize, *mut u32, usize, *mut u32, usize, *mut u32, usize) -> u64;
+
+#[rustfmt::skip]
+extern "C" {
+    fn nasturakh_create(session: *mut u32, words: usize, file: *mut u32, file_words: usize) -> u64;
+    fn nasturakh_open(session: *mut u32, words: usize, file: *mut u32, file_words: usize, buffer: *mut u32, buffer_words: usize, marks: *mut u8, bytes: usize) -> u64;
+    fn nasturakh_close(session: *mut u32, words: usize, file: *mut u32, file_words: usize, buffer: *mut u32, buffer_words: usize) -> u64;
+    fn nasturakh_seek(session: *mut u32, words: usize, file: *mut u32, file_words: usize, buffer: *mut u32, buffer_words: usize, workspace: *mut u32, record: usize) -> u64;
+    fn nasturakh_adv(session: *mut u32, words: usize, file: *mut u32, file_words: usize, buffer: *mut u32, buffer_words: usize, workspace: *mut u32, record: usize) -> u64;
+    fn nasturakh_nsert(session: *mut u32, words: usize, file: *mut u32, file_words: usize, buffer: *mut u32, buffer_words: usize, workspace: *mut u32, record: usize) -> u64;
+    fn nasturakh_dlete(session: *mut u32, words: usize, file: *mut u32, file_words: usize, buffer: *mut u32, buffer_words: usize, workspace: *mut u32, record: usize) -> u64;
+    fn nasturakh_updat(session: *mut u32, words: usize, file: *mut u32, file_words: usize, buffer: *mut u32, buffer_words: usize, workspace: *mut u32, record: usize) -> u64;
+    fn nasturakh_xtend(session: *mut u32, words: usize, file: *mut u32, file_words: usize, buffer: *mut u32, buffer_words: usize, workspace: *mut u32, record: usize) -> u64;
+    fn nasturakh_view(session: *const u32, words: usize, file: *const u32, file_words: usize, buffer: *const u32, buffer_words: usize, block: usize) -> u64;
+}
+
+fn closing(f: Closing, s: &mut State) -> u64 {
+    let (w, l) = (&mut s.words, &mut s.lent);
+    // SAFETY: each pointer and length is that of a slice lent for the call, and no two overlap.
+    unsafe { f(w.as_mut_ptr(), w.len(), l.file.as_mut_ptr(), l.file.len(), l.buffer.as_mut_ptr(), l.buffer.len()) }
+}
+
+fn on_records(f: OnRecords, s: &mut State) -> u64 {
+    let (w, l) = (&mut s.words, &mut s.lent);
+    // SAFETY: as above.
+    unsafe {
+        f(
+            w.as_mut_ptr(),
+            w.len(),
+            l.file.as_mut_ptr(),
+            l.file.len(),
+            l.buffer.as_mut_ptr(),
+            l.buffer.len(),
+            l.workspace.as_mut_ptr(),
+            l.workspace.len(),
+        )
+    }
+}
+
+/// Performs a call; the answer is the transfers times 2^32, plus the number.
+pub fn call(kind: Kind, s: &mut State) -> u64 {
+    match kind {
+        // SAFETY: as above.
+        Kind::Create => unsafe { nasturakh_create(s.words.as_mut_ptr(), s.words.len(), s.lent.file.as_mut_ptr(), s.lent.file.len()) },
+        Kind::Open => open(s),
+        Kind::Close => closing(nasturakh_close, s),
+        Kind::Seek => on_records(nasturakh_seek, s),
+        Kind::Adv => on_records(nasturakh_adv, s),
+        Kind::Nsert => on_records(nasturakh_nsert, s),
+        Kind::Dlete => on_records(nasturakh_dlete, s),
+        Kind::Updat => on_records(nasturakh_updat, s),
+        Kind::Xtend => on_records(nasturakh_xtend, s),
+    }
+}
+
+fn open(s: &mut State) -> u64 {
+    let (w, l) = (&mut s.words, &mut s.lent);
+    // SAFETY: as above.
+    unsafe {
+        nasturakh_open(
+            w.as_mut_ptr(),
+            w.len(),
+            l.file.as_mut_ptr(),
+            l.file.len(),
+            l.buffer.as_mut_ptr(),
+            l.buffer.len(),
+            l.marks.as_mut_ptr(),
+            l.marks.len(),
+        )
+    }
+}
+
+/// 0 for an empty part, 2^32 plus the part's place in the file, or 2^33 for the buffer.
+pub fn view(s: &State, block: usize) -> u64 {
+    let (w, l) = (&s.words, &s.lent);
+    // SAFETY: as above; VIEW changes nothing.
+    unsafe { nasturakh_view(w.as_ptr(), w.len(), l.file.as_ptr(), l.file.len(), l.buffer.as_ptr(), l.buffer.len(), block) }
+}

@@ -1,0 +1,57 @@
+//! Compares the proved archive with the rendering of document 01, word by word.
+mod archive;
+mod both;
+mod fabricated;
+mod fifteen;
+mod keys;
+mod limits;
+mod loose;
+mod random;
+mod report;
+mod sessions;
+mod spoil;
+mod state;
+
+use both::{Differs, Tally};
+use random::Random;
+
+const ROUNDS: u64 = 2000;
+
+/// One seed: a session, calls on its states spoilt, and calls on words and parameters made up.
+fn round(seed: u64, tally: &mut report::Tallies) -> Result<(), Differs> {
+    let mut r = Random::new(seed);
+    let calls = r.between(50, 600) as usize;
+    let kept = sessions::session(calls, &mut r, &mut tally.sessions)?;
+    for _ in 0..300 {
+        let (keys, state) = &kept[r.below(kept.len())];
+        fabricated::spoilt(keys, state, &mut r, &mut tally.spoilt)?;
+        fabricated::loose(&mut r, &mut tally.loose)?;
+    }
+    for _ in 0..60 {
+        let (_, state) = &kept[r.below(kept.len())];
+        fabricated::reopened(state, &mut r, &mut tally.reopened)?;
+        fabricated::made_up(&mut r, &mut tally.made_up)?;
+    }
+    limits::compare(&mut r, &mut tally.limits)
+}
+
+fn all(rounds: u64) -> Result<report::Tallies, Differs> {
+    let mut tallies = report::Tallies::default();
+    fifteen::compare(&mut Tally::default())?;
+    limits::most_blocks(&mut tallies.limits)?;
+    for seed in 0..rounds {
+        round(seed, &mut tallies).map_err(|differs| format!("seed {seed}: {differs}"))?;
+    }
+    Ok(tallies)
+}
+
+fn main() {
+    let rounds = std::env::args().nth(1).map_or(ROUNDS, |text| text.parse().expect("the argument is the number of rounds"));
+    match all(rounds) {
+        Err(differs) => {
+            println!("DIFFERENT\n{differs}");
+            std::process::exit(1);
+        }
+        Ok(tallies) => report::print(rounds, &tallies),
+    }
+}

@@ -1,0 +1,72 @@
+//! What was tried: how often each number, each kind of split and each part of VIEW occurred.
+use crate::both::Tally;
+use nasturakh_tests::rules::{Event, Kind};
+
+#[derive(Default)]
+pub struct Tallies {
+    pub sessions: Tally,
+    pub spoilt: Tally,
+    pub reopened: Tally,
+    pub loose: Tally,
+    pub made_up: Tally,
+    pub limits: Tally,
+}
+
+const NUMBERS: [u32; 11] = [0, 0o1, 0o5, 0o020005, 0o020006, 0o020007, 0o030001, 0o030002, 0o070001, 0o070002, 0o070003];
+
+const EVENTS: [Event; 9] = [
+    Event::DetailSplit,
+    Event::IndexSplit,
+    Event::BlockStarted,
+    Event::SectionStarted,
+    Event::BlockEmptied,
+    Event::IndexEmptied,
+    Event::NextBlock,
+    Event::NextSection,
+    Event::ChainTaken,
+];
+
+fn of_number(tally: &Tally, number: u32) -> Vec<(Kind, u64)> {
+    tally.numbers.iter().filter(|((n, _), _)| *n == number).map(|((_, kind), count)| (*kind, *count)).collect()
+}
+
+fn show(title: &str, tally: &Tally) {
+    println!("{title}: {} calls", tally.calls);
+    for number in NUMBERS {
+        let kinds: Vec<String> = of_number(tally, number).iter().map(|(kind, count)| format!("{kind:?} {count}")).collect();
+        if !kinds.is_empty() {
+            println!("  {number:06o}  {}", kinds.join(", "));
+        }
+    }
+    let events: Vec<String> = tally.events.iter().map(|(event, count)| format!("{event:?} {count}")).collect();
+    println!("  {}", events.join(", "));
+    println!("  VIEW {:?}", tally.views);
+}
+
+/// What never occurred: whole sessions must show every event and every number but 020007, which states spoilt must show.
+fn missing(tallies: &Tallies) -> Vec<String> {
+    let mut lacking = Vec::new();
+    for number in NUMBERS {
+        let tally = if number == 0o020007 { &tallies.spoilt } else { &tallies.sessions };
+        if of_number(tally, number).is_empty() {
+            lacking.push(format!("{number:06o}"));
+        }
+    }
+    lacking.extend(EVENTS.iter().filter(|e| !tallies.sessions.events.contains_key(e)).map(|e| format!("{e:?}")));
+    lacking
+}
+
+pub fn print(rounds: u64, tallies: &Tallies) {
+    show("sessions from CREATE and OPEN", &tallies.sessions);
+    show("states spoilt", &tallies.spoilt);
+    show("files spoilt and opened", &tallies.reopened);
+    show("words in range, blocks at random", &tallies.loose);
+    show("words made up", &tallies.made_up);
+    show("parameters at their limits", &tallies.limits);
+    let lacking = missing(tallies);
+    if !lacking.is_empty() {
+        println!("NEVER OCCURRED: {}", lacking.join(", "));
+        std::process::exit(1);
+    }
+    println!("{rounds} rounds, no difference");
+}

@@ -1,0 +1,8 @@
+//! Reads standard input and writes what the printed program must write.
+use std::io::{Read, Write};
+
+fn main() -> std::io::Result<()> {
+    let mut input = Vec::new();
+    std::io::stdin().read_to_end(&mut input)?;
+    std::io::stdout().write_all(&nasturakh_tests::printed::printed(&input))
+}

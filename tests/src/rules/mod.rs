@@ -1,0 +1,37 @@
+//! The ten calls of document 01.
+//!
+//! Each call first makes a plan from the words as they stood when it began, and only then stores:
+//! a plan that fails leaves everything as it was.
+mod adv;
+mod answer;
+mod description;
+mod dlete;
+mod free;
+mod keyed;
+mod layout;
+mod lookup;
+mod nsert;
+mod rows;
+mod session;
+mod texts;
+mod xtend;
+
+pub use answer::{Answer, Event, Kind, Lent, Move, Part};
+pub use description::Description;
+pub use layout::inspect;
+pub use session::{create, Session};
+
+/// The largest word, and each word of the key ONES.
+pub const ONES: u32 = 262143;
+
+pub const DONE: u32 = 0;
+pub const NOT_FOUND: u32 = 0o1;
+pub const OUT_OF_SEQUENCE: u32 = 0o5;
+pub const CLOSED: u32 = 0o020005;
+pub const ALREADY_OPEN: u32 = 0o020006;
+pub const WRONG_SIZE: u32 = 0o020007;
+pub const BAD_WORD: u32 = 0o030001;
+pub const END_REACHED: u32 = 0o030002;
+pub const STORED_FULL: u32 = 0o070001;
+pub const NO_ROOM: u32 = 0o070002;
+pub const BAD_FILE: u32 = 0o070003;
