@@ -1,4 +1,4 @@
-// What the calls do once they are planned: blocks reached, the master's free words set, rows changed in a block of the file where it lies.
+// What the calls do once they are planned: blocks reached, the master's free words set, a block of the file laid anew, or a row put in where it lies.
 use drum::Description;
 use rules::Done;
 use rules::Way;
@@ -8,7 +8,7 @@ ghost use mathlib.Core.Bool.{true, false};
 ghost use Prim.Native.Nat.{_+_, _≤_, _<_};
 ghost use lib.ListN.{length};
 ghost use Rattle.words.specs.Words.{part};
-ghost use Rattle.table.specs.Tables.{count, place, row, inserted, removed, replaced, laid};
+ghost use Rattle.table.specs.Tables.{count, place, row, inserted, laid};
 ghost use Rattle.drum.specs.Params.{goodParams, fileSize, detailShape};
 ghost use Rattle.drum.specs.Blocks.{Fitting, Block, blockAt, putBlock, written, seen, textOf};
 ghost use Rattle.rules.specs.Lookup.{flushMoves, reached, stopping};
@@ -237,33 +237,4 @@ pub fn insert_in(
     let start = p.start(b);
     let end = start + p.wpb;
     table::insert_row(h, &mut file[start..end], i, row, from);
-}
-
-// Takes row i of block b out, where it lies in the file.
-pub fn remove_in(p: Description, h: Shape, file: &mut [u32], b: usize, i: usize)
-    requires { ⌜ (goodParams p ≡ true) × (length (now file) ≡ fileSize p) × Block p b × (1 ≤ h .base) × (place h (count (blockAt p (now file) b)) ≤ p .wpb) × (i < count (blockAt p (now file) b)) × (count (blockAt p (now file) b) ≤ 262143) ⌝ }
-    ensures { λ _. ⌜ now (file .exit) ≡ putBlock p (now (file .entry)) b (removed h i (blockAt p (now (file .entry)) b)) ⌝ }
-{
-    let start = p.start(b);
-    let end = start + p.wpb;
-    table::remove_row(h, &mut file[start..end], i);
-}
-
-// Writes n words over row i of block b, where it lies in the file.
-pub fn replace_in(
-    p: Description,
-    h: Shape,
-    file: &mut [u32],
-    b: usize,
-    i: usize,
-    row: &[u32],
-    from: usize,
-    n: usize,
-)
-    requires { ⌜ (goodParams p ≡ true) × (length (now file) ≡ fileSize p) × Block p b × (place h i + n ≤ p .wpb) × (from + n ≤ length (now row)) ⌝ }
-    ensures { λ _. ⌜ now (file .exit) ≡ putBlock p (now (file .entry)) b (replaced h i (part from n (now (row .entry))) (blockAt p (now (file .entry)) b)) ⌝ }
-{
-    let start = p.start(b);
-    let end = start + p.wpb;
-    table::replace_row(h, &mut file[start..end], i, row, from, n);
 }

@@ -5,8 +5,8 @@ use mathlib.Core.Bool.{true}
 use mathlib.Core.List.{List}
 use lib.ListN.{length}
 use Rattle.drum.specs.Params.{goodParams}
-use Rattle.terminal.specs.declared.Place.{Place}
-use Rattle.terminal.specs.declared.Going.{Going}
+use Rattle.terminal.specs.declared.input.Place.{Place}
+use Rattle.terminal.specs.declared.turns.Going.{Going}
 
 -- "reads", "prints": the place stands within so many bytes of the input, with at most so many bytes to be written
 abbrev pub Within : Place → ℕ → ℕ → Type 0

@@ -11,11 +11,11 @@ use Rattle.terminal.proofs.play.Lts as lts
 use Rattle.io.proofs.large_buffer.Reads as large-buffer-reads
 use Rattle.printed.proofs.put_start.Reads as put-start-reads
 use Rattle.printed.proofs.start_of.Reads as start-of-reads
-use Rattle.terminal.proofs.next_line.Reads as next-line-reads
-use Rattle.terminal.proofs.play_good.Reads as play-good-reads
-use Rattle.terminal.proofs.record_words.Reads as record-words-reads
-use Rattle.terminal.proofs.refuse_lines.Reads as refuse-lines-reads
-use Rattle.terminal.proofs.write_filled.Reads as write-filled-reads
+use Rattle.terminal.proofs.input.next_line.Reads as next-line-reads
+use Rattle.terminal.proofs.good.play_good.Reads as play-good-reads
+use Rattle.terminal.proofs.good.record_words.Reads as record-words-reads
+use Rattle.terminal.proofs.refused.refuse_lines.Reads as refuse-lines-reads
+use Rattle.terminal.proofs.input.write_filled.Reads as write-filled-reads
 
 large-buffer-requires : tie.Need-large-buffer-requires
 large-buffer-requires c κs = tt

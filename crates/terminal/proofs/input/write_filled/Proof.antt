@@ -1,11 +1,11 @@
--- `terminal::write_filled` meets its contract: the part that is written is as long as it says. Assumes nothing.
+-- `terminal::input::write_filled` meets its contract: the part that is written is as long as it says. Assumes nothing.
 use native.Mathlib.Omega.{arith}
 use borrow.Author.Needs.{needs}
 use lib.ListN.{length-take}
-use Rattle.terminal.proofs.write_filled.Statement.{statement}
-use Rattle.terminal.proofs.write_filled.Tie as tie
-use Rattle.terminal.proofs.write_filled.Reads as reads
-use Rattle.terminal.proofs.write_filled.Lts as lts
+use Rattle.terminal.proofs.input.write_filled.Statement.{statement}
+use Rattle.terminal.proofs.input.write_filled.Tie as tie
+use Rattle.terminal.proofs.input.write_filled.Reads as reads
+use Rattle.terminal.proofs.input.write_filled.Lts as lts
 use Rattle.io.proofs.write_all.Reads as write-all-reads
 
 slice-aggregate-write-all : tie.Need-slice-aggregate-write-all

@@ -1,4 +1,4 @@
--- `terminal::next_line` meets its contract: between turns the place stays within the input's bytes, and no more is to be written than before.
+-- `terminal::input::next_line` meets its contract: between turns the place stays within the input's bytes, and no more is to be written than before.
 -- The measure is the turns left. Assumes nothing.
 use Prim.Native.Nat.{_≤_}
 use mathlib.Core.Path.{_≡_}
@@ -6,15 +6,15 @@ use native.Mathlib.Omega.{arith}
 use borrow.Author.Needs.{needs}
 use lib.ListN.{length, take, length-take}
 use Rattle.lines.proofs.Kept.{taken-within}
-use Rattle.terminal.proofs.next_line.Statement.{statement}
-use Rattle.terminal.proofs.next_line.Tie as tie
-use Rattle.terminal.proofs.next_line.Reads as reads
-use Rattle.terminal.proofs.next_line.Lts as lts
+use Rattle.terminal.proofs.input.next_line.Statement.{statement}
+use Rattle.terminal.proofs.input.next_line.Tie as tie
+use Rattle.terminal.proofs.input.next_line.Reads as reads
+use Rattle.terminal.proofs.input.next_line.Lts as lts
 use Rattle.lines.proofs.Reading.new.Reads as new-reads
 use Rattle.lines.proofs.take.Reads as take-reads
-use Rattle.terminal.proofs.fetch.Reads as fetch-reads
-use Rattle.terminal.proofs.last_line.Reads as last-line-reads
-use Rattle.terminal.proofs.whole_line.Reads as whole-line-reads
+use Rattle.terminal.proofs.input.fetch.Reads as fetch-reads
+use Rattle.terminal.proofs.input.last_line.Reads as last-line-reads
+use Rattle.terminal.proofs.input.whole_line.Reads as whole-line-reads
 
 abbrev Inv-loop : tie.InvT-loop
 Inv-loop fd input₀ name₀ numbers₀ out reading₀ at₀ end₀ filled₀ turns₀ input name numbers reading at end filled turns =

@@ -1,14 +1,14 @@
--- `terminal::call_read` meets its contract: the lent bytes have room for what a line prints, and the description stays. Assumes nothing.
+-- `terminal::turns::call_read` meets its contract: the lent bytes have room for what a line prints, and the description stays. Assumes nothing.
 use native.Mathlib.Omega.{arith}
 use Rattle.terminal.proofs.Rooms.{rooms}
 use borrow.Author.Needs.{needs}
-use Rattle.terminal.proofs.call_read.Statement.{statement}
-use Rattle.terminal.proofs.call_read.Tie as tie
-use Rattle.terminal.proofs.call_read.Reads as reads
-use Rattle.terminal.proofs.call_read.Lts as lts
+use Rattle.terminal.proofs.turns.call_read.Statement.{statement}
+use Rattle.terminal.proofs.turns.call_read.Tie as tie
+use Rattle.terminal.proofs.turns.call_read.Reads as reads
+use Rattle.terminal.proofs.turns.call_read.Lts as lts
 use Rattle.printed.proofs.call_line.Reads as call-line-reads
-use Rattle.terminal.proofs.left_after.Reads as left-after-reads
-use Rattle.terminal.proofs.with_room.Reads as with-room-reads
+use Rattle.terminal.proofs.input.left_after.Reads as left-after-reads
+use Rattle.terminal.proofs.input.with_room.Reads as with-room-reads
 
 call-line-requires : tie.Need-call-line-requires
 call-line-requires c κs =

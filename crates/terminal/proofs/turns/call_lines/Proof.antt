@@ -1,4 +1,4 @@
--- `terminal::call_lines` meets its contract: between turns the place stays within the lent bytes and the description is the first one.
+-- `terminal::turns::call_lines` meets its contract: between turns the place stays within the lent bytes and the description is the first one.
 -- The measure is the lines left. Assumes nothing.
 use mathlib.Core.Path.{_≡_, refl, sym, ap, _∙_}
 use native.Mathlib.Omega.{arith}
@@ -7,12 +7,12 @@ use lib.ListN.{length}
 use Rattle.drum.specs.declared.Description.{Description}
 use Rattle.drum.specs.Params.{goodParams}
 use Rattle.terminal.specs.Places.{Within, Lent}
-use Rattle.terminal.proofs.call_lines.Statement.{statement}
-use Rattle.terminal.proofs.call_lines.Tie as tie
-use Rattle.terminal.proofs.call_lines.Reads as reads
-use Rattle.terminal.proofs.call_lines.Lts as lts
-use Rattle.terminal.proofs.call_turn.Reads as call-turn-reads
-use Rattle.terminal.proofs.write_filled.Reads as write-filled-reads
+use Rattle.terminal.proofs.turns.call_lines.Statement.{statement}
+use Rattle.terminal.proofs.turns.call_lines.Tie as tie
+use Rattle.terminal.proofs.turns.call_lines.Reads as reads
+use Rattle.terminal.proofs.turns.call_lines.Lts as lts
+use Rattle.terminal.proofs.turns.call_turn.Reads as call-turn-reads
+use Rattle.terminal.proofs.input.write_filled.Reads as write-filled-reads
 
 abbrev Inv-loop : tie.InvT-loop
 Inv-loop fd file₀ buffer₀ work₀ marks₀ input₀ name₀ numbers₀ out₀ going₀ file buffer work marks input name numbers out going =

@@ -1,16 +1,16 @@
--- `terminal::refuse_turn` meets its contract: the lent bytes have room for what a line prints. Assumes nothing.
+-- `terminal::refused::refuse_turn` meets its contract: the lent bytes have room for what a line prints. Assumes nothing.
 use mathlib.Core.Path.{_≡_}
 use native.Mathlib.Omega.{arith}
 use lib.ListN.{length}
 use borrow.Author.Needs.{needs}
-use Rattle.terminal.proofs.refuse_turn.Statement.{statement}
-use Rattle.terminal.proofs.refuse_turn.Tie as tie
-use Rattle.terminal.proofs.refuse_turn.Reads as reads
-use Rattle.terminal.proofs.refuse_turn.Lts as lts
+use Rattle.terminal.proofs.refused.refuse_turn.Statement.{statement}
+use Rattle.terminal.proofs.refused.refuse_turn.Tie as tie
+use Rattle.terminal.proofs.refused.refuse_turn.Reads as reads
+use Rattle.terminal.proofs.refused.refuse_turn.Lts as lts
 use Rattle.printed.proofs.refuse_line.Reads as refuse-line-reads
-use Rattle.terminal.proofs.left_after.Reads as left-after-reads
-use Rattle.terminal.proofs.next_line.Reads as next-line-reads
-use Rattle.terminal.proofs.with_room.Reads as with-room-reads
+use Rattle.terminal.proofs.input.left_after.Reads as left-after-reads
+use Rattle.terminal.proofs.input.next_line.Reads as next-line-reads
+use Rattle.terminal.proofs.input.with_room.Reads as with-room-reads
 
 input-long : (c : tie.After-next-line-arg) → length (c .before .args .input .now) ≡ 65536
 input-long c = search needs

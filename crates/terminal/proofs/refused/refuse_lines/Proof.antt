@@ -1,16 +1,16 @@
--- `terminal::refuse_lines` meets its contract: between turns the place stays within the lent bytes. The measure is the lines left.
+-- `terminal::refused::refuse_lines` meets its contract: between turns the place stays within the lent bytes. The measure is the lines left.
 -- Assumes nothing.
 use mathlib.Core.Path.{_≡_}
 use native.Mathlib.Omega.{arith}
 use borrow.Author.Needs.{needs}
 use lib.ListN.{length}
 use Rattle.terminal.specs.Places.{Within}
-use Rattle.terminal.proofs.refuse_lines.Statement.{statement}
-use Rattle.terminal.proofs.refuse_lines.Tie as tie
-use Rattle.terminal.proofs.refuse_lines.Reads as reads
-use Rattle.terminal.proofs.refuse_lines.Lts as lts
-use Rattle.terminal.proofs.refuse_turn.Reads as refuse-turn-reads
-use Rattle.terminal.proofs.write_filled.Reads as write-filled-reads
+use Rattle.terminal.proofs.refused.refuse_lines.Statement.{statement}
+use Rattle.terminal.proofs.refused.refuse_lines.Tie as tie
+use Rattle.terminal.proofs.refused.refuse_lines.Reads as reads
+use Rattle.terminal.proofs.refused.refuse_lines.Lts as lts
+use Rattle.terminal.proofs.refused.refuse_turn.Reads as refuse-turn-reads
+use Rattle.terminal.proofs.input.write_filled.Reads as write-filled-reads
 
 abbrev Inv-loop : tie.InvT-loop
 Inv-loop fd input₀ name₀ numbers₀ out₀ refusing₀ input name numbers out refusing = Within (refusing .place) 65536 16384

@@ -1,14 +1,14 @@
--- `terminal::call_turn` meets its contract: what was read of a line leaves the place within the lent bytes. Assumes nothing.
+-- `terminal::turns::call_turn` meets its contract: what was read of a line leaves the place within the lent bytes. Assumes nothing.
 use mathlib.Core.Path.{_≡_}
 use native.Mathlib.Omega.{arith}
 use lib.ListN.{length}
 use borrow.Author.Needs.{needs}
-use Rattle.terminal.proofs.call_turn.Statement.{statement}
-use Rattle.terminal.proofs.call_turn.Tie as tie
-use Rattle.terminal.proofs.call_turn.Reads as reads
-use Rattle.terminal.proofs.call_turn.Lts as lts
-use Rattle.terminal.proofs.call_read.Reads as call-read-reads
-use Rattle.terminal.proofs.next_line.Reads as next-line-reads
+use Rattle.terminal.proofs.turns.call_turn.Statement.{statement}
+use Rattle.terminal.proofs.turns.call_turn.Tie as tie
+use Rattle.terminal.proofs.turns.call_turn.Reads as reads
+use Rattle.terminal.proofs.turns.call_turn.Lts as lts
+use Rattle.terminal.proofs.turns.call_read.Reads as call-read-reads
+use Rattle.terminal.proofs.input.next_line.Reads as next-line-reads
 
 next-line-requires : tie.Need-next-line-requires
 next-line-requires c κs = search needs

@@ -1,4 +1,4 @@
--- `terminal::play_good` meets its contract: the words lent have room for a file of at most 8,192 words. Assumes nothing.
+-- `terminal::good::play_good` meets its contract: the words lent have room for a file of at most 8,192 words. Assumes nothing.
 use mathlib.Core.Path.{_≡_, sym, ap, _∙_}
 use native.Mathlib.Omega.{arith}
 use borrow.Author.Needs.{needs}
@@ -7,17 +7,17 @@ use Rattle.drum.specs.declared.Description.{Description}
 use Rattle.drum.specs.Params.{goodParams}
 use Rattle.rules.specs.State.{Session}
 use Rattle.terminal.proofs.Rooms.{rooms, blocks}
-use Rattle.terminal.proofs.play_good.Statement.{statement}
-use Rattle.terminal.proofs.play_good.Tie as tie
-use Rattle.terminal.proofs.play_good.Reads as reads
-use Rattle.terminal.proofs.play_good.Lts as lts
+use Rattle.terminal.proofs.good.play_good.Statement.{statement}
+use Rattle.terminal.proofs.good.play_good.Tie as tie
+use Rattle.terminal.proofs.good.play_good.Reads as reads
+use Rattle.terminal.proofs.good.play_good.Lts as lts
 use Rattle.drum.proofs.Description.file_size.Reads as file-size-reads
 use Rattle.io.proofs.buffer.Reads as buffer-reads
 use Rattle.searchfile.proofs.Session.new.Reads as new-reads
-use Rattle.terminal.proofs.block_words.Reads as block-words-reads
-use Rattle.terminal.proofs.call_lines.Reads as call-lines-reads
-use Rattle.terminal.proofs.file_words.Reads as file-words-reads
-use Rattle.terminal.proofs.record_words.Reads as record-words-reads
+use Rattle.terminal.proofs.good.block_words.Reads as block-words-reads
+use Rattle.terminal.proofs.turns.call_lines.Reads as call-lines-reads
+use Rattle.terminal.proofs.good.file_words.Reads as file-words-reads
+use Rattle.terminal.proofs.good.record_words.Reads as record-words-reads
 
 file-words-requires : tie.Need-file-words-requires
 file-words-requires c κs = tt
