@@ -3,7 +3,7 @@ pub mod Turns
 pub mod Letters
 pub mod Kept
 pub mod Digits
-pub mod Names
+pub mod Naming
 pub mod Fold
 pub mod Words
 pub mod Tally

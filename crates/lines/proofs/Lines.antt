@@ -18,7 +18,7 @@ use Rattle.rules.specs.declared.Call.the-variants.{Create, Open, Close, Seek, A
 use Rattle.lines.specs.Lines.{wordsOf, allNumbers, values, named, carries, noCall, aCall, withNumbers, parsedWords, parse, firstNamed, described, parameters}
 use Rattle.lines.specs.Reading.{Read, unread, resting, readLine, spelledName, callIn, callOf, parsedAs, parametersIn}
 use Rattle.lines.specs.Promise.{read}
-use Rattle.lines.proofs.Names.{named-take, named-none, named-other}
+use Rattle.lines.proofs.Naming.{named-take, named-none, named-other}
 use Rattle.lines.proofs.Fold.{word, wordsRead, start, line-words, start-quiet, Full, words-full, rested-quiet}
 use Rattle.lines.proofs.Letters.{letters}
 use Rattle.lines.proofs.Words.{placed, word-others, word-count, word-other}

@@ -1,15 +1,22 @@
 // Lines of a session, read byte by byte: what a line says is kept in a few numbers and two lent slices, so a line may be of any length.
+mod bytes;
+mod names;
+
+use bytes::is_blank;
+use bytes::is_digit;
+use bytes::long;
+use bytes::wide;
 use drum::Description;
+pub use names::call_named;
+pub use names::call_of;
+pub use names::parameters_of;
 use rules::Call;
 ghost use mathlib.Core.Path.{_≡_};
 ghost use mathlib.Core.List.{List};
 ghost use Prim.Native.Nat.{ℕ, _≤_};
 ghost use lib.ListN.{length, drop};
-ghost use Rattle.words.specs.Words.{part};
-ghost use Rattle.words.specs.Keys.{sameKey};
-ghost use Rattle.lines.specs.Lines.{isBlank, isDigit, named, carries as carried};
-ghost use Rattle.lines.specs.Reading.{unread, wordRead, letter as letterRead, resting as restingAt, counted as wordCounted, another, rested, step, callOf, parametersIn};
-ghost use Rattle.lines.specs.Promise.{took, namedAs, givenAs, read, toLineFeed};
+ghost use Rattle.lines.specs.Reading.{unread, wordRead, letter as letterRead, resting as restingAt, counted as wordCounted, another, rested, step};
+ghost use Rattle.lines.specs.Promise.{took, read, toLineFeed};
 
 // What is kept of the bytes of a line: whether there were any; whether a word is being read; whether it is a number so far, and its value;
 // how many words were no numbers (2 stands for more), how many were, and how many bytes of the first one are kept.
@@ -40,39 +47,6 @@ pub enum Named {
 pub enum Parameters {
     Nothing,
     Given { p: Description },
-}
-
-fn is_blank(b: u8) -> bool
-    ensures { λ r. ⌜ r ≡ isBlank b ⌝ }
-{
-    if b == b' ' {
-        return true;
-    }
-    if b == b'\t' {
-        return true;
-    }
-    if b == b'\r' {
-        return true;
-    }
-    b == 12
-}
-
-fn is_digit(b: u8) -> bool
-    ensures { λ r. ⌜ r ≡ isDigit b ⌝ }
-{
-    b'0' <= b && b <= b'9'
-}
-
-fn long(x: u32) -> u64
-    ensures { λ r. ⌜ r ≡ x ⌝ }
-{
-    x as u64
-}
-
-fn wide(x: u8) -> u64
-    ensures { λ r. ⌜ r ≡ x ⌝ }
-{
-    x as u64
 }
 
 impl Reading {
@@ -221,135 +195,4 @@ pub fn take(r: Reading, bytes: &[u8], from: usize, name: &mut [u8], numbers: &mu
         at,
         ended: false,
     }
-}
-
-// Whether the first n bytes of name are those of text.
-fn is_name(name: &[u8], n: usize, text: &[u8]) -> bool
-    requires { ⌜ n ≤ length (now name) ⌝ }
-    ensures { λ r. ⌜ r ≡ sameKey (part 0 n (now (name .entry))) (now (text .entry)) ⌝ }
-{
-    if n != text.len() {
-        return false;
-    }
-    let mut i = 0;
-    while i < n {
-        if name[i] != text[i] {
-            return false;
-        }
-        i += 1;
-    }
-    true
-}
-
-// The call that the first n bytes of `name` name.
-fn call_spelled(name: &[u8], n: usize) -> Named
-    requires { ⌜ n ≤ length (now name) ⌝ }
-    ensures { λ r. ⌜ namedAs r ≡ named (part 0 n (now (name .entry))) ⌝ }
-{
-    if is_name(name, n, b"CREATE") {
-        return Named::Kind { call: Call::Create };
-    }
-    if is_name(name, n, b"OPEN") {
-        return Named::Kind { call: Call::Open };
-    }
-    if is_name(name, n, b"CLOSE") {
-        return Named::Kind { call: Call::Close };
-    }
-    if is_name(name, n, b"SEEK") {
-        return Named::Kind {
-            call: Call::Seek { at: 0 },
-        };
-    }
-    if is_name(name, n, b"ADV") {
-        return Named::Kind { call: Call::Adv };
-    }
-    if is_name(name, n, b"NSERT") {
-        return Named::Kind {
-            call: Call::Nsert { at: 0 },
-        };
-    }
-    if is_name(name, n, b"DLETE") {
-        return Named::Kind {
-            call: Call::Dlete { at: 0 },
-        };
-    }
-    if is_name(name, n, b"UPDAT") {
-        return Named::Kind {
-            call: Call::Updat { at: 0 },
-        };
-    }
-    if is_name(name, n, b"XTEND") {
-        return Named::Kind {
-            call: Call::Xtend { at: 0 },
-        };
-    }
-    Named::Nothing
-}
-
-// The same, of all bytes of `name` if there are no n.
-pub fn call_named(name: &[u8], n: usize) -> Named
-    ensures { λ r. ⌜ namedAs r ≡ named (part 0 n (now (name .entry))) ⌝ }
-{
-    if name.len() < n {
-        return call_spelled(name, name.len());
-    }
-    call_spelled(name, n)
-}
-
-// How many numbers stand on the line of such a call.
-fn carries(p: Description, call: Call) -> usize
-    ensures { λ r. ⌜ r ≡ carried p call ⌝ }
-{
-    match call {
-        Call::Create => 0,
-        Call::Open => 0,
-        Call::Close => 0,
-        Call::Seek { at: _ } => p.k,
-        Call::Adv => 0,
-        Call::Nsert { at: _ } => p.wpr,
-        Call::Dlete { at: _ } => p.k,
-        Call::Updat { at: _ } => p.wpr,
-        Call::Xtend { at: _ } => p.wpr,
-    }
-}
-
-// The call that a line is, of what was kept of it.
-pub fn call_of(p: Description, r: Reading, name: &[u8]) -> Named
-    ensures { λ c. ⌜ namedAs c ≡ callOf p r (now (name .entry)) ⌝ }
-{
-    let kind = call_named(name, r.spelled);
-    match kind {
-        Named::Nothing => Named::Nothing,
-        Named::Kind { call } => {
-            if r.others != 1 {
-                return Named::Nothing;
-            }
-            if r.numbers != carries(p, call) {
-                return Named::Nothing;
-            }
-            Named::Kind { call }
-        }
-    }
-}
-
-// The parameters that a first line gives, of what was kept of it.
-pub fn parameters_of(r: Reading, numbers: &[u32]) -> Parameters
-    requires { ⌜ 6 ≤ length (now numbers) ⌝ }
-    ensures { λ g. ⌜ givenAs g ≡ parametersIn r (now (numbers .entry)) ⌝ }
-{
-    if r.others != 0 {
-        return Parameters::Nothing;
-    }
-    if r.numbers != 6 {
-        return Parameters::Nothing;
-    }
-    let p = Description {
-        wpb: words::word_at(numbers, 0),
-        wpr: words::word_at(numbers, 1),
-        k: words::word_at(numbers, 2),
-        space: words::word_at(numbers, 3),
-        control: words::word_at(numbers, 4),
-        n: words::word_at(numbers, 5),
-    };
-    Parameters::Given { p }
 }

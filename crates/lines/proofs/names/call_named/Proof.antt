@@ -1,10 +1,10 @@
--- `lines::call_named` meets its contract: where there are no n bytes, the first n are all there are.
+-- `names::call_named` meets its contract: where there are no n bytes, the first n are all there are.
 use mathlib.Core.Path.{ap, _∙_}
 use borrow.Author.Needs.{needs}
 use Rattle.lines.specs.Lines.{named}
 use Rattle.lines.proofs.Turns.{part-over}
-use Rattle.lines.proofs.call_named.Statement.{statement}
-use Rattle.lines.proofs.call_named.Tie as tie
+use Rattle.lines.proofs.names.call_named.Statement.{statement}
+use Rattle.lines.proofs.names.call_named.Tie as tie
 
 call-spelled-requires : tie.Need-call-spelled-requires
 call-spelled-requires c κs = search needs

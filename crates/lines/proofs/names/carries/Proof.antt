@@ -1,8 +1,8 @@
--- `lines::carries` meets its contract: each arm is the clause of its kind.
+-- `names::carries` meets its contract: each arm is the clause of its kind.
 use borrow.Author.Needs.{needs}
 use Rattle.lines.specs.Lines.{carries}
-use Rattle.lines.proofs.carries.Statement.{statement}
-use Rattle.lines.proofs.carries.Tie as tie
+use Rattle.lines.proofs.names.carries.Statement.{statement}
+use Rattle.lines.proofs.names.carries.Tie as tie
 
 enum-told : tie.Need-enum-told
 enum-told c = search needs

@@ -1,10 +1,10 @@
--- `lines::call_of` meets its contract.
+-- `names::call_of` meets its contract.
 use mathlib.Core.Path.{sym, _∙_}
 use native.Mathlib.Omega.{arith}
 use borrow.Author.Needs.{needs}
 use Rattle.lines.proofs.Turns.{call-nothing, call-others, call-numbers, call-whole}
-use Rattle.lines.proofs.call_of.Statement.{statement}
-use Rattle.lines.proofs.call_of.Tie as tie
+use Rattle.lines.proofs.names.call_of.Statement.{statement}
+use Rattle.lines.proofs.names.call_of.Tie as tie
 
 call-named-requires : tie.Need-call-named-requires
 call-named-requires c κs = search needs

@@ -1,8 +1,8 @@
--- `lines::is_digit` meets its contract.
+-- `bytes::is_digit` meets its contract.
 use borrow.Author.Tests.{le-leb, lt-leb}
 use Rattle.lines.specs.Lines.{isDigit}
-use Rattle.lines.proofs.is_digit.Statement.{statement}
-use Rattle.lines.proofs.is_digit.Tie as tie
+use Rattle.lines.proofs.bytes.is_digit.Statement.{statement}
+use Rattle.lines.proofs.bytes.is_digit.Tie as tie
 
 returns : tie.Need-returns
 unfolding isDigit

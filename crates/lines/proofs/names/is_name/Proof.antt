@@ -1,4 +1,4 @@
--- `lines::is_name` meets its contract: what is to be compared from here on comes to what the whole comes to.
+-- `names::is_name` meets its contract: what is to be compared from here on comes to what the whole comes to.
 use Prim.Native.Nat.{_-_, _≤_}
 use mathlib.Core.Path.{_≡_, sym, _∙_}
 use native.Mathlib.Omega.{arith}
@@ -6,8 +6,8 @@ use lib.ListN.{length}
 use Rattle.words.specs.Words.{part}
 use Rattle.words.specs.Keys.{sameKey}
 use Rattle.lines.proofs.Turns.{name-other, name-start, name-stop, name-next, name-done}
-use Rattle.lines.proofs.is_name.Statement.{statement}
-use Rattle.lines.proofs.is_name.Tie as tie
+use Rattle.lines.proofs.names.is_name.Statement.{statement}
+use Rattle.lines.proofs.names.is_name.Tie as tie
 
 abbrev Inv-loop : tie.InvT-loop
 Inv-loop name n text i₀ i =

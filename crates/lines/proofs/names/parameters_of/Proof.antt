@@ -1,10 +1,10 @@
--- `lines::parameters_of` meets its contract.
+-- `names::parameters_of` meets its contract.
 use native.Mathlib.Omega.{arith}
 use borrow.Author.Needs.{needs}
 use Rattle.lines.specs.Lines.{described}
 use Rattle.lines.proofs.Turns.{parameters-others, parameters-numbers, parameters-whole}
-use Rattle.lines.proofs.parameters_of.Statement.{statement}
-use Rattle.lines.proofs.parameters_of.Tie as tie
+use Rattle.lines.proofs.names.parameters_of.Statement.{statement}
+use Rattle.lines.proofs.names.parameters_of.Tie as tie
 
 returns : tie.Need-returns
 returns c = parameters-others (c .before .before .before .args .r) (c .before .before .before .args .numbers .now) (c .if1 .taken)

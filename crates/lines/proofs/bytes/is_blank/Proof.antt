@@ -1,8 +1,8 @@
--- `lines::is_blank` meets its contract.
+-- `bytes::is_blank` meets its contract.
 use borrow.Author.Tests.{eq-eqb, ne-eqb}
 use Rattle.lines.specs.Lines.{isBlank}
-use Rattle.lines.proofs.is_blank.Statement.{statement}
-use Rattle.lines.proofs.is_blank.Tie as tie
+use Rattle.lines.proofs.bytes.is_blank.Statement.{statement}
+use Rattle.lines.proofs.bytes.is_blank.Tie as tie
 
 returns : tie.Need-returns
 unfolding isBlank
