@@ -54,6 +54,7 @@ linesOf input = ended (pieces isLineFeed input)
 unfoldable pub isDigit : ℕ → Bool
 isDigit b = leb 48 b && leb b 57
 
+-- a word of digits: "A number is one or more digits 0-9 .. no sign"; that a word has at least one byte is `filled`'s
 unfoldable pub allDigits : List ℕ → Bool
 allDigits [] = true
 allDigits (b ∷ w) = isDigit b && allDigits w
@@ -71,13 +72,16 @@ valueOf w = valueFrom 0 w
 abbrev pub topNumber : ℕ
 topNumber = 4294967295
 
+-- a good number: digits, and not above the greatest
 unfoldable pub isNumber : List ℕ → Bool
 isNumber w = allDigits w && leb (valueOf w) topNumber
 
+-- every word is a good number
 unfoldable pub allNumbers : List (List ℕ) → Bool
 allNumbers [] = true
 allNumbers (w ∷ ws) = isNumber w && allNumbers ws
 
+-- the numbers that such words are
 unfoldable pub values : List (List ℕ) → List ℕ
 values [] = []
 values (w ∷ ws) = valueOf w ∷ values ws
@@ -117,6 +121,7 @@ unfoldable pub withNumbers : Description → Option Call → List (List ℕ) →
 withNumbers p none ws = noCall
 withNumbers p (some c) ws = cond (allNumbers ws && eqb (length ws) (carries p c)) (aCall c (values ws)) noCall
 
+-- the first word names the call, the others are its numbers; no word at all is no call
 unfoldable pub parsedWords : Description → List (List ℕ) → Parsed
 parsedWords p [] = noCall
 parsedWords p (w ∷ ws) = withNumbers p (named w) ws

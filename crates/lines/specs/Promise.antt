@@ -14,6 +14,7 @@ use Rattle.lines.specs.declared.Parameters.the-variants as parameters
 use Rattle.lines.specs.Lines.{isLineFeed}
 use Rattle.lines.specs.Reading.{Read, rested, step}
 
+-- what the code keeps, with the slices lent for name and numbers
 abbrev pub read : Reading → List ℕ → List ℕ → Read
 read r name numbers = record { reading = r; name = name; numbers = numbers }
 
@@ -29,13 +30,16 @@ toLineFeed s at [] = record { kept = s; at = at; ended = false }
 toLineFeed s at (b ∷ l) =
     cond (isLineFeed b) (record { kept = rested s; at = suc at; ended = true }) (toLineFeed (step s b) (suc at) l)
 
+-- what `take` gives back, with the bytes and numbers it leaves
 abbrev pub took : Taken → List ℕ → List ℕ → Took
 took r name numbers = record { kept = read (r .reading) name numbers; at = r .at; ended = r .ended }
 
+-- the code's answer for a name
 abbrev pub namedAs : code.Named → Option Call
 namedAs Nothing = none
 namedAs (Kind c) = some c
 
+-- the code's answer for a first line
 abbrev pub givenAs : Parameters → Option Description
 givenAs parameters.Nothing = none
 givenAs (parameters.Given p) = some p

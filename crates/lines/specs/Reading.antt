@@ -42,6 +42,7 @@ wordRead r b = record {
 unfoldable pub spells : Reading → List ℕ → Bool
 spells r name = eqb (r .others) 0 && (eqb (r .numbers) 0 && ltb (r .spelled) (length name))
 
+-- one byte more of the first word is kept
 unfoldable pub longer : Reading → Reading
 longer r = record {
   begun = r .begun;
@@ -101,6 +102,7 @@ rested s =
     (counted s)
     (record { reading = resting (s .reading .spelled) (s .reading .others) (s .reading .numbers); name = s .name; numbers = s .numbers })
 
+-- a byte of the line
 unfoldable pub step : Read → ℕ → Read
 step s b = cond (isBlank b) (rested s) (letter s b)
 
@@ -122,6 +124,7 @@ unfoldable pub callIn : Description → Reading → Option Call → Option Call
 callIn p r none = none
 callIn p r (some c) = cond (eqb (r .others) 1 && eqb (r .numbers) (carries p c)) (some c) none
 
+-- the same, of the bytes kept of the first word
 unfoldable pub callOf : Description → Reading → List ℕ → Option Call
 callOf p r name = callIn p r (named (part 0 (r .spelled) name))
 

@@ -1,5 +1,6 @@
 // Cases beyond the printed session for the calls that only look: each refusal among them, and words and sessions that no call would leave.
 use drum::Description;
+use searchfile::Session;
 
 // What to play, four words a line: see crate `play`.
 const LIST: [u32; 228] = [
@@ -244,5 +245,6 @@ fn main() {
     let mut buffer = [0u32; 8];
     let mut work = [0u32; 3];
     let mut marks = [0u8; 4];
-    play::play_all(&LIST, p, &mut file, &mut buffer, &mut work, &mut marks);
+    let s = Session::new(p);
+    play::play_all(&LIST, s, &mut file, &mut buffer, &mut work, &mut marks);
 }

@@ -1,7 +1,6 @@
 // Plays a list of calls and prints what each leaves. A line of the list is four words: what to do, and up to three words for it.
 // 0 CREATE, 1 OPEN, 2 CLOSE, 3 SEEK, 4 ADV, 5 NSERT, 6 DLETE, 7 UPDAT, 8 XTEND, 9 VIEW; then what no call does:
 // 10 a word of the file, 11 a word of the buffer, 12 current block and flag, 13 position given and its first word, 14 a SEEK with a short workspace.
-use drum::Description;
 use searchfile::Answer;
 use searchfile::Session;
 
@@ -233,16 +232,16 @@ fn told(answer: Answer, file: &[u32], buffer: &[u32], work: &[u32]) -> Session {
     s
 }
 
-// All lines of a list, four words each.
+// All lines of a list, four words each; answers the session to go on with.
 pub fn play_all(
     list: &[u32],
-    p: Description,
+    start: Session,
     file: &mut [u32],
     buffer: &mut [u32],
     work: &mut [u32],
     marks: &mut [u8],
-) {
-    let mut s = Session::new(p);
+) -> Session {
+    let mut s = start;
     let mut i = 0;
     while i + 3 < list.len() {
         let next = i + 4;
@@ -255,4 +254,5 @@ pub fn play_all(
         s = play(line, s, file, buffer, work, marks);
         i = next;
     }
+    s
 }

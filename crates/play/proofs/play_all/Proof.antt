@@ -12,9 +12,6 @@ Inv-loop list file₀ buffer₀ work₀ marks₀ s₀ i₀ file buffer work mark
 abbrev μ-loop : tie.MeasureT-loop
 μ-loop list file₀ buffer₀ work₀ marks₀ s₀ i₀ file buffer work marks s i = length list - i
 
-new-requires : tie.Need-new-requires Inv-loop μ-loop
-new-requires c κs = omega arith
-
 loop-holds : tie.Need-loop-holds Inv-loop μ-loop
 loop-holds c = omega arith
 
@@ -87,7 +84,6 @@ play-all-spec =
     (tie.spec
     Inv-loop
     μ-loop
-    new-requires
     loop-holds
     add-loop
     add-next
