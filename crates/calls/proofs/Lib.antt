@@ -1,3 +1,4 @@
 pub mod Performed
 pub mod Printed
 pub mod Described
+pub mod Session

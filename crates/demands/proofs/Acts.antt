@@ -71,7 +71,7 @@ module _ (st : State) (ss : List Section) (f : Free) (h : Sound st ss f) (o : st
     pub act-gives : (ss′ : List Section) (file′ : List ℕ) → file′ ≡ masterText p ss′ f′ ++ behind p (written p (allMoves ms) file₁)
         → Holds p (masterText p ss′ f′) (wrotes (textOf v) ws) ss′ f′ → (new : List (List ℕ)) → contents (leavesOf ss′) ≡ new → Ended p new
         → (d : ℕ) (b : List ℕ) → Left ss′ file′ d b → (n : ℕ) (tr : List Transfer) (most : ℕ) → length tr ≤ most → (brought : Growth) → Grows p ss ss′ brought
-        → Gives st ss (outcome (st .session) (record { number = n; transfers = tr; current = d; flag = false; keyed = true; file = file′; buffer = b; work = st .work })) n most new brought
+        → Gives st ss (outcome (st .session) (record { number = n; transfers = tr; current = d; flag = false; keyed = true; file = file′; buffer = b; work = st .work })) n most new brought ss′ f′
     act-gives ss′ file′ e′ hold new c z d b s n tr most cost brought grew =
         let cover : (x : ℕ) → 1 ≤ x → wrotes (blockAt p (st .file)) (writes (allMoves ms)) x ≡ wrotes (textOf v) ws x
         = λ x l. way-covers v (st .session .flag) ss f (h .kept) way ms (λ w g. rw (A .here-is w, ms-is) old) x l ∙ ap (λ (y : List Cell). wrotes (textOf v) y x) ms-is in
@@ -136,7 +136,7 @@ module _ (st : State) (ss : List Section) (f : Free) (h : Sound st ss f) (o : st
         → (new : List (List ℕ)) → contents (leavesOf (treeWith a (l₁ ∷ (l₂ ∷ [])))) ≡ new → Ended p new
         → (d : ℕ) → Spot (treeWith a (l₁ ∷ (l₂ ∷ []))) d → (n most : ℕ) → length (allMoves ms) ≤ most
         → (brought : Growth) → Grows p ss (treeWith a (l₁ ∷ (l₂ ∷ []))) brought
-        → Gives st ss (outcome (st .session) (landing p n (st .work) (allMoves ms) d (written p (allMoves ms) (withFree (headOr (taken f .chain) 0) (taken f .lowest) (st .file))))) n most new brought
+        → Gives st ss (outcome (st .session) (landing p n (st .work) (allMoves ms) d (written p (allMoves ms) (withFree (headOr (taken f .chain) 0) (taken f .lowest) (st .file))))) n most new brought (treeWith a (l₁ ∷ (l₂ ∷ []))) (taken f)
     unfolding landing times weigh leafCell
     two-gives nx some room ms ws ms-is fit order new c z d s n most cost brought grew =
         let file₁ : List ℕ = withFree (headOr (taken f .chain) 0) (taken f .lowest) (st .file) in
@@ -192,7 +192,7 @@ module _ (st : State) (ss : List Section) (f : Free) (h : Sound st ss f) (o : st
           → (op : List ℕ → List ℕ) → ((rest : List ℕ) → op (masterText p (treeOf a) (taken (taken f)) ++ rest) ≡ masterText p tree₂ (taken (taken f)) ++ rest)
           → (new : List (List ℕ)) → contents (leavesOf tree₂) ≡ new → Ended p new → (d : ℕ) → Spot tree₂ d → (n most : ℕ) → length (allMoves ms) ≤ most
           → (brought : Growth) → Grows p ss tree₂ brought
-          → Gives st ss (outcome (st .session) (landing p n (st .work) (allMoves ms) d (op (written p (allMoves ms) (withFree (headOr (taken (taken f) .chain) 0) (taken (taken f) .lowest) (st .file)))))) n most new brought
+          → Gives st ss (outcome (st .session) (landing p n (st .work) (allMoves ms) d (op (written p (allMoves ms) (withFree (headOr (taken (taken f) .chain) 0) (taken (taken f) .lowest) (st .file)))))) n most new brought tree₂ (taken (taken f))
       unfolding landing times weigh leafCell
       four-gives nx nx₂ two room ms ws ms-is fit order op law new c z d s n most cost brought grew =
           let file₁ : List ℕ = withFree (headOr (taken (taken f) .chain) 0) (taken (taken f) .lowest) (st .file) in

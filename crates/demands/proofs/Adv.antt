@@ -50,10 +50,10 @@ abbrev pub mark : State → ℕ
 mark st = cond (st .session .placed) (suc (val (positionKey (st .session)))) 0
 
 -- the first record above the position is handed out: "for the end record the answer is 030002"
-abbrev pub AdvRight : State → List Section → Type 0
-AdvRight st ss =
+abbrev pub AdvRight : State → List Section → Free → Type 0
+AdvRight st ss f =
     (r : List ℕ) × (cs : List (List ℕ)) × (from (key (desc st .k)) (mark st) (contents (leavesOf ss)) ≡ r ∷ cs)
-    × Gives st ss (adv st) (cond (isOnes (keyIn (desc st) r)) atEnd done) 5 (contents (leavesOf ss)) nothing × (adv st .after .work ≡ r)
+    × Gives st ss (adv st) (cond (isOnes (keyIn (desc st) r)) atEnd done) 5 (contents (leavesOf ss)) nothing ss f × (adv st .after .work ≡ r)
 
 below-zero : (K : List ℕ → ℕ) (xs : List (List ℕ)) → below K 0 xs ≡ []
 unfolding below
@@ -125,7 +125,7 @@ module _ (st : State) (ss : List Section) (f : Free) (h : Sound st ss f) (o : st
 
   pub adv-done : (here : Reached) → length (here .moves) ≤ 5 → (rs : List (List ℕ)) → here .buffer ≡ table (p .wpb) rs → All (RowOk p) rs
       → Kept (leftBy v here) (here .flag) ss f → (r : List ℕ) (cs : List (List ℕ)) → from K (mark st) rs ≡ r ∷ cs → adv st ≡ outcome (st .session) (advGiving v here (length (below K (mark st) rs)))
-      → (rest : List (List ℕ)) → from K (mark st) rows ≡ r ∷ rest → AdvRight st ss
+      → (rest : List (List ℕ)) → from K (mark st) rows ≡ r ∷ rest → AdvRight st ss f
   unfolding advGiving outcome giving part
   adv-done here cost rs b ok kept r cs fr out rest g =
       let bs : List (List ℕ) = below K (mark st) rs in
@@ -141,7 +141,7 @@ module _ (st : State) (ss : List Section) (f : Free) (h : Sound st ss f) (o : st
         r,
         rest,
         g,
-        subst (λ (z : Outcome). Gives st ss z (cond (isOnes (keyIn p r)) atEnd done) 5 rows nothing) (sym out₂)
+        subst (λ (z : Outcome). Gives st ss z (cond (isOnes (keyIn p r)) atEnd done) 5 rows nothing ss f) (sym out₂)
             (give-gives st ss f h o here 5 cost kept (cond (isOnes (keyIn p r)) atEnd done) (length bs) (not (isOnes (keyIn p r))) r row-is
             (λ e. let kl : (length (take (p .k) r) ≡ p .k) × (allWords (take (p .k) r) ≡ true) = key-long p kr r rok in record {
               long = kl .0;
@@ -182,7 +182,7 @@ module _ (st : State) (ss : List Section) (f : Free) (h : Sound st ss f) (o : st
 
     -- it was brought, and has a record above the position
     pub brought : (reads : List Transfer) → writes reads ≡ [] → length reads ≤ 4 → adv st ≡ outcome (st .session) (advGiving v (bringing v flag (a .leaf .block) reads) (length (below K (mark st) (a .leaf .records))))
-        → (r : List ℕ) (rs : List (List ℕ)) → from K (mark st) (a .leaf .records) ≡ r ∷ rs → (rest : List (List ℕ)) → from K (mark st) rows ≡ r ∷ rest → AdvRight st ss
+        → (r : List ℕ) (rs : List (List ℕ)) → from K (mark st) (a .leaf .records) ≡ r ∷ rs → (rest : List (List ℕ)) → from K (mark st) rows ≡ r ∷ rest → AdvRight st ss f
     unfolding bringing
     brought reads quiet cost e r rs fr rest g =
         adv-done (bringing v flag (a .leaf .block) reads) (omega (arith, bring-cost v flag (a .leaf .block) reads)) (a .leaf .records) text-is (lok .rows)

@@ -69,7 +69,7 @@ module _ (st : State) (ss : List Section) (f : Free) (h : Sound st ss f) (o : st
 
     -- the next leaf b: all of its records are above the position
     beyond : (b : Place) → ss ≡ treeOf b → nextPath v (pathOf a) ≡ passed (pathOf b) → lo p b ≡ hi p a → from K (mark st) (a .leaf .records) ≡ []
-        → (tail : List (List ℕ)) → from K (mark st) rows ≡ b .leaf .records ++ tail → AdvRight st ss
+        → (tail : List (List ℕ)) → from K (mark st) rows ≡ b .leaf .records ++ tail → AdvRight st ss f
     unfolding advBeyond advDone
     beyond b zb nx start fr tail g = go (b .leaf .records) refl
       where
@@ -111,7 +111,7 @@ module _ (st : State) (ss : List Section) (f : Free) (h : Sound st ss f) (o : st
             reads true = omega arith
             reads false = omega arith
 
-        go : (rs : List (List ℕ)) → b .leaf .records ≡ rs → AdvRight st ss
+        go : (rs : List (List ℕ)) → b .leaf .records ≡ rs → AdvRight st ss f
         go [] q = absurd (omega (arith, lok st ss f h o wl b zb .some, ap length q))
         go (r ∷ rs) q =
             let gr : from K (mark st) (b .leaf .records) ≡ r ∷ rs = all-above ∙ q in
@@ -125,7 +125,7 @@ module _ (st : State) (ss : List Section) (f : Free) (h : Sound st ss f) (o : st
     tail-is : from K (mark st) (a .leaf .records) ≡ [] → from K (mark st) rows ≡ contents (a .high ++ leavesOf (a .behind))
     tail-is fr = from-rows st ss f h o wl a z l u ∙ ap (λ (y : List (List ℕ)). y ++ contents (a .high ++ leavesOf (a .behind))) fr
 
-    inner : (m : Leaf) (hs : List Leaf) → a .high ≡ m ∷ hs → from K (mark st) (a .leaf .records) ≡ [] → AdvRight st ss
+    inner : (m : Leaf) (hs : List Leaf) → a .high ≡ m ∷ hs → from K (mark st) (a .leaf .records) ≡ [] → AdvRight st ss f
     unfolding nextPath
     inner m hs e fr =
         let b : Place = record { before = a .before; index = a .index; low = a .low ++ (a .leaf ∷ []); leaf = m; high = hs; behind = a .behind } in
@@ -140,7 +140,7 @@ module _ (st : State) (ss : List Section) (f : Free) (h : Sound st ss f) (o : st
         (tail-is fr ∙ ap (λ (y : List Leaf). contents (y ++ leavesOf (a .behind))) e)
 
     -- "or 2 if in the next section"
-    outer : (jb : ℕ) (m : Leaf) (hs : List Leaf) (ds : List Section) → a .high ≡ [] → a .behind ≡ sec jb (m ∷ hs) ∷ ds → from K (mark st) (a .leaf .records) ≡ [] → AdvRight st ss
+    outer : (jb : ℕ) (m : Leaf) (hs : List Leaf) (ds : List Section) → a .high ≡ [] → a .behind ≡ sec jb (m ∷ hs) ∷ ds → from K (mark st) (a .leaf .records) ≡ [] → AdvRight st ss f
     unfolding nextPath
     outer jb m hs ds e g fr =
         let s : Section = sec (a .index) (a .low ++ (a .leaf ∷ [])) in
@@ -163,23 +163,23 @@ module _ (st : State) (ss : List Section) (f : Free) (h : Sound st ss f) (o : st
         from-some K (mark st) (h .kept .ended .front) (endRecord p) (rw (end-key p (good-facts p (h .kept .good) .key)) (mark-le st ss f h o wl))
         (ap (from K (mark st)) (sym (h .kept .ended .is)) ∙ tail-is fr ∙ ap₂ (λ (x : List Leaf) (y : List Section). contents (x ++ leavesOf y)) e g)
 
-    pub arrived : AdvRight st ss
+    pub arrived : AdvRight st ss f
     unfolding advDone reached
     arrived = go (from K (mark st) (a .leaf .records)) refl
       where
-        section : a .high ≡ [] → (s : Section) (ds : List Section) → a .behind ≡ s ∷ ds → (ls : List Leaf) → s .leaves ≡ ls → from K (mark st) (a .leaf .records) ≡ [] → AdvRight st ss
+        section : a .high ≡ [] → (s : Section) (ds : List Section) → a .behind ≡ s ∷ ds → (ls : List Leaf) → s .leaves ≡ ls → from K (mark st) (a .leaf .records) ≡ [] → AdvRight st ss f
         section e s ds g [] q fr = absurd (omega (arith, some, ap length q))
           where
             some : 1 ≤ length (s .leaves)
             some = subst (All (SectionOk p)) g (all-right (SectionOk p) (a .before) _ (here .sized) .1) .0 .some
         section e s ds g (m ∷ hs) q fr = outer (s .block) m hs ds e (g ∙ ap (λ (y : List Leaf). sec (s .block) y ∷ ds) q) fr
 
-        next : (hs : List Leaf) → a .high ≡ hs → (ds : List Section) → a .behind ≡ ds → from K (mark st) (a .leaf .records) ≡ [] → AdvRight st ss
+        next : (hs : List Leaf) → a .high ≡ hs → (ds : List Section) → a .behind ≡ ds → from K (mark st) (a .leaf .records) ≡ [] → AdvRight st ss f
         next (m ∷ hs) e ds g fr = inner m hs e fr
         next [] e (s ∷ ds) g fr = section e s ds g (s .leaves) refl fr
         next [] e [] g fr = absurd (not-last e g fr)
 
-        go : (rs : List (List ℕ)) → from K (mark st) (a .leaf .records) ≡ rs → AdvRight st ss
+        go : (rs : List (List ℕ)) → from K (mark st) (a .leaf .records) ≡ rs → AdvRight st ss f
         go (r ∷ rs) fr =
             brought st ss f h o wl a z (Read (a .index) ∷ (Read (a .leaf .block) ∷ [])) (unfold writes in refl) (omega arith)
             (adv-by st ss f h o wl (step-is.At (By (pathOf a)) (length (below K (mark st) (a .leaf .records)))) _

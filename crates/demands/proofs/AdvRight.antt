@@ -66,17 +66,17 @@ module _ (st : State) (ss : List Section) (f : Free) (h : Sound st ss f) (o : st
 
   -- ---- the buffer has not the next record
 
-  misses : advStep v flag placed at ≡ advOutside v flag placed at → AdvRight st ss
+  misses : advStep v flag placed at ≡ advOutside v flag placed at → AdvRight st ss f
   misses out = go placed refl
     where
       held : Holds p (masterOf p (st .file)) (textOf v) ss f
       held = h .kept .holds
 
-      first : placed ≡ false → (zs : List Section) → ss ≡ zs → AdvRight st ss
+      first : placed ≡ false → (zs : List Section) → ss ≡ zs → AdvRight st ss f
       first e [] z = absurd (omega (arith, held .top, ap (λ (s : List Section). reach (p .k) 0 (leavesOf s)) z))
       first e (s ∷ cs) z = leaf (s .leaves) refl
         where
-          leaf : (ls : List Leaf) → s .leaves ≡ ls → AdvRight st ss
+          leaf : (ls : List Leaf) → s .leaves ≡ ls → AdvRight st ss f
           leaf [] q = absurd (omega (arith, subst (All (SectionOk p)) z (held .sized) .0 .some, ap length q))
           leaf (l ∷ hs) q =
               let a : Place = record { before = []; index = s .block; low = []; leaf = l; high = hs; behind = cs } in
@@ -84,14 +84,14 @@ module _ (st : State) (ss : List Section) (f : Free) (h : Sound st ss f) (o : st
               arrived st ss f h o wl out a z₂ (ap (λ (t : Bool). cond t (pathTo v at) (firstPath v)) e ∙ path-by v a f (hz st ss f h o wl a z₂) which.First which.First [] refl refl)
               (omega arith) (omega (arith, mark-free st ss f h o wl e))
 
-      cover : placed ≡ true → Located (p .k) ss (val at) → AdvRight st ss
+      cover : placed ≡ true → Located (p .k) ss (val at) → AdvRight st ss f
       cover e c =
           let a : Place = record { before = c .before; index = c .index; low = c .low; leaf = c .leaf; high = c .high; behind = c .behind } in
           let kw : Key p at = h .placed e in
           arrived st ss f h o wl out a (c .is) (ap (λ (t : Bool). cond t (pathTo v at) (firstPath v)) e ∙ path-to v a f (hz st ss f h o wl a (c .is)) at (kw .wide) (kw .long) (rw (c .is) at (c .section-place)) (c .leaf-place))
           (omega (arith, mark-placed st ss f h o wl e, c .above)) (omega (arith, mark-placed st ss f h o wl e, c .within))
 
-      go : (t : Bool) → placed ≡ t → AdvRight st ss
+      go : (t : Bool) → placed ≡ t → AdvRight st ss f
       go false e = first e ss refl
       go true e = cover e (locate (p .k) ss (val at) (some-leaves p ss (held .sized)) (rw (held .top) (omega (arith, h .placed e .below))))
 
@@ -127,7 +127,7 @@ module _ (st : State) (ss : List Section) (f : Free) (h : Sound st ss f) (o : st
         ltb-true (val at) (val (take (p .k) y)) (sym (keyLt-val at (take (p .k) y) (kw .wide) (kl .1) (kw .long ∙ sym (kl .0))) ∙ ap (keyLt at) (sym (key-here p kr fr y [] oks)) ∙ e)
 
     stays : keyLe (keyAt (detailShape p) (st .buffer) 0) at ≡ true → keyLt at (keyAt (detailShape p) (st .buffer) (count (st .buffer) - 1)) ≡ true
-        → advStep v flag placed at ≡ passed (step-is.At Here (nextRow v true at (st .buffer))) → AdvRight st ss
+        → advStep v flag placed at ≡ passed (step-is.At Here (nextRow v true at (st .buffer))) → AdvRight st ss f
     unfolding advDone reached
     stays fe le step = go (s .place .leaf .records) refl (from-end (s .place .leaf .records))
       where
@@ -140,7 +140,7 @@ module _ (st : State) (ss : List Section) (f : Free) (h : Sound st ss f) (o : st
         row : nextRow v true at (st .buffer) ≡ length (below K (mark st) (s .place .leaf .records))
         row = ap (λ (t : Bool). nextRow v t at (st .buffer)) (sym pl) ∙ ap (nextRow v placed at) buf ∙ next-row st ss f h o wl (s .place .leaf .records) ok
 
-        end : (r : List ℕ) (cs : List (List ℕ)) → from K (mark st) (s .place .leaf .records) ≡ r ∷ cs → start ≤ mark st → mark st ≤ hi p (s .place) → AdvRight st ss
+        end : (r : List ℕ) (cs : List (List ℕ)) → from K (mark st) (s .place .leaf .records) ≡ r ∷ cs → start ≤ mark st → mark st ≤ hi p (s .place) → AdvRight st ss f
         end r cs fr x y =
             adv-done st ss f h o wl (reached v flag Here) (omega arith) (s .place .leaf .records) buf ok (h .kept) r cs fr
             (adv-by st ss f h o wl (step-is.At Here (nextRow v true at (st .buffer))) _ step refl ∙ ap (λ (n : ℕ). outcome (st .session) (advGiving v (reached v flag Here) n)) row)
@@ -148,11 +148,11 @@ module _ (st : State) (ss : List Section) (f : Free) (h : Sound st ss f) (o : st
             (from-rows st ss f h o wl (s .place) (s .is) x y ∙ ap (λ (u : List (List ℕ)). u ++ contents (s .place .high ++ leavesOf (s .place .behind))) fr)
 
         some : (zs : List (List ℕ)) → from K (mark st) (s .place .leaf .records) ≡ zs → start ≤ mark st → mark st ≤ hi p (s .place) → (fr : List (List ℕ)) (y : List ℕ)
-            → s .place .leaf .records ≡ fr ++ y ∷ [] → mark st ≤ K y → AdvRight st ss
+            → s .place .leaf .records ≡ fr ++ y ∷ [] → mark st ≤ K y → AdvRight st ss f
         some [] z x u fr y g l = absurd (from-some K (mark st) fr y l (ap (from K (mark st)) (sym g) ∙ z))
         some (r ∷ cs) z x u fr y g l = end r cs z x u
 
-        go : (rs : List (List ℕ)) → s .place .leaf .records ≡ rs → (s .place .leaf .records ≡ []) ⊎ ((fr : List (List ℕ)) × (y : List ℕ) × (s .place .leaf .records ≡ fr ++ y ∷ [])) → AdvRight st ss
+        go : (rs : List (List ℕ)) → s .place .leaf .records ≡ rs → (s .place .leaf .records ≡ []) ⊎ ((fr : List (List ℕ)) × (y : List ℕ) × (s .place .leaf .records ≡ fr ++ y ∷ [])) → AdvRight st ss f
         go [] e w = absurd (omega (arith, lok st ss f h o wl (s .place) (s .is) .some, ap length e))
         go (x ∷ rs) e (inl n) = absurd (omega (arith, ap length e, ap length n))
         go (x ∷ rs) e (inr (fr, y, g)) =
@@ -164,7 +164,7 @@ module _ (st : State) (ss : List Section) (f : Free) (h : Sound st ss f) (o : st
             some (from K (mark st) (s .place .leaf .records)) refl (omega (arith, asc₁ .0, first, mark-placed st ss f h o wl pl))
             (omega (arith, last, mark-placed st ss f h o wl pl, asc-right K start fr (y ∷ []) _ asc₂ .1)) fr y g (omega (arith, last, mark-placed st ss f h o wl pl))
 
-    tries : AdvRight st ss
+    tries : AdvRight st ss f
     unfolding nextInBuffer advStep
     tries = go (keyLe (keyAt (detailShape p) (st .buffer) 0) at) (keyLt at (keyAt (detailShape p) (st .buffer) (count (st .buffer) - 1))) refl refl
       where
@@ -175,16 +175,16 @@ module _ (st : State) (ss : List Section) (f : Free) (h : Sound st ss f) (o : st
             ∙ ap (λ (m : Checked Bool). m >>= (λ here. cond here (passed (step-is.At Here (nextRow v true at (st .buffer)))) (advOutside v flag true at)))
             (buffer-some v flag ss f (h .kept) s (keyLe (keyAt (detailShape p) (st .buffer) 0) at && keyLt at (keyAt (detailShape p) (st .buffer) (count (st .buffer) - 1))) ∙ ap passed e)
 
-        go : (t u : Bool) → keyLe (keyAt (detailShape p) (st .buffer) 0) at ≡ t → keyLt at (keyAt (detailShape p) (st .buffer) (count (st .buffer) - 1)) ≡ u → AdvRight st ss
+        go : (t u : Bool) → keyLe (keyAt (detailShape p) (st .buffer) 0) at ≡ t → keyLt at (keyAt (detailShape p) (st .buffer) (count (st .buffer) - 1)) ≡ u → AdvRight st ss f
         go true true e g = stays e g (to true (ap₂ (λ (x y : Bool). x && y) e g))
         go true false e g = misses (to false (ap₂ (λ (x y : Bool). x && y) e g) ∙ ap (λ (b : Bool). advOutside v flag b at) (sym pl))
         go false u e g = misses (to false (ap₂ (λ (x y : Bool). x && y) e g) ∙ ap (λ (b : Bool). advOutside v flag b at) (sym pl))
 
-  pub adv-right : AdvRight st ss
+  pub adv-right : AdvRight st ss f
   unfolding advStep nextInBuffer
   adv-right = go placed refl (ℕ-discrete (st .session .current) 0)
     where
-      go : (t : Bool) → placed ≡ t → Dec (st .session .current ≡ 0) → AdvRight st ss
+      go : (t : Bool) → placed ≡ t → Dec (st .session .current ≡ 0) → AdvRight st ss f
       go false e d = misses (ap (λ (b : Bool). advStep v flag b at) e ∙ ap (λ (b : Bool). advOutside v flag b at) (sym e))
       go true e (no n) = tries e (h .kept .current (omega arith))
       go true e (yes z) =

@@ -67,7 +67,7 @@ module _ (st : State) (ss : List Section) (f : Free) (h : Sound st ss f) where
   ok = rows-of p (leavesOf ss) (rows-ok p ss (h .kept .holds .sized))
 
   -- a keyed call that is not refused
-  readied : (reads : ℕ) (w : List ℕ) → Keyed st reads w → Ready reads (lending w st) ss f
+  pub readied : (reads : ℕ) (w : List ℕ) → Keyed st reads w → Ready reads (lending w st) ss f
   unfolding lending keyOk
   readied reads w a = record { sound = lent-sound w st ss f h; opened = a .0 .0; work-length = a .0 .1; asked = simp (ap₂ (λ (x y : Bool). x && not y) (a .1) (a .2)) }
 
@@ -83,7 +83,7 @@ module _ (st : State) (ss : List Section) (f : Free) (h : Sound st ss f) where
       is : withKey p (keyIn p w) rows ≡ hit K (val (keyIn p w)) rows
       is = with-is (p .k) w a (omega arith) kr
 
-      go : SeekRight (lending w st) ss → Sought w (withKey p (keyIn p w) rows) (answer st (seeking w))
+      go : SeekRight (lending w st) ss f → Sought w (withKey p (keyIn p w) rows) (answer st (seeking w))
       go (inl (e, g, z)) = subst (λ (x : List (List ℕ)). Sought w x (answer st (seeking w))) (sym (is ∙ e)) (g .number-is, z)
       go (inr (y, e, g, z)) = subst (λ (x : List (List ℕ)). Sought w x (answer st (seeking w))) (sym (is ∙ e)) (refl, g .number-is, z)
 
@@ -94,9 +94,9 @@ module _ (st : State) (ss : List Section) (f : Free) (h : Sound st ss f) where
       is : withKey p (keyIn p w) rows ≡ hit K (val (keyIn p w)) rows
       is = with-is (p .wpr) w a kr (omega arith)
 
-      go : UpdatRight (lending w st) ss → Met (withKey p (keyIn p w) rows) (answer st (updating w))
+      go : UpdatRight (lending w st) ss f → Met (withKey p (keyIn p w) rows) (answer st (updating w))
       go (inl (e, g)) = subst (λ (x : List (List ℕ)). Met x (answer st (updating w))) (sym (is ∙ e)) (g .number-is)
-      go (inr (y, e, g)) = subst (λ (x : List (List ℕ)). Met x (answer st (updating w))) (sym (is ∙ e)) (g .number-is)
+      go (inr (y, e, ss′, f′, g)) = subst (λ (x : List (List ℕ)). Met x (answer st (updating w))) (sym (is ∙ e)) (g .number-is)
 
   dlete-answers : (w : List ℕ) → Keyed st (p .k) w → Met (withKey p (keyIn p w) rows) (answer st (deleting w))
   unfolding answer lending
@@ -105,9 +105,9 @@ module _ (st : State) (ss : List Section) (f : Free) (h : Sound st ss f) where
       is : withKey p (keyIn p w) rows ≡ hit K (val (keyIn p w)) rows
       is = with-is (p .k) w a (omega arith) kr
 
-      go : DleteRight (lending w st) ss → Met (withKey p (keyIn p w) rows) (answer st (deleting w))
+      go : DleteRight (lending w st) ss f → Met (withKey p (keyIn p w) rows) (answer st (deleting w))
       go (inl (e, g)) = subst (λ (x : List (List ℕ)). Met x (answer st (deleting w))) (sym (is ∙ e)) (g .number-is)
-      go (inr (y, e, g)) = subst (λ (x : List (List ℕ)). Met x (answer st (deleting w))) (sym (is ∙ e)) (g .number-is)
+      go (inr (y, e, ss′, f′, g)) = subst (λ (x : List (List ℕ)). Met x (answer st (deleting w))) (sym (is ∙ e)) (g .number-is)
 
   nsert-answers : (w : List ℕ) → Keyed st (p .wpr) w → Inserted (withKey p (keyIn p w) rows) (answer st (inserting w))
   unfolding answer lending
@@ -127,8 +127,8 @@ module _ (st : State) (ss : List Section) (f : Free) (h : Sound st ss f) where
       go (duplicate y e g) = subst (λ (x : List (List ℕ)). Inserted x (answer st (inserting w))) (sym (is ∙ e)) (g .number-is)
       go (no-room e a i l m g) = new e (inr (inr (g .number-is)))
       go (room e a i l g) = new e (in-two (answer st (inserting w) .number) (stored-one p (length (a .leaf .records) + 1) f (answer st (inserting w) .number) (g .number-is)))
-      go (split e a i l m s k g) = new e (in-two (answer st (inserting w) .number) (stored-one p (halfCount (D p) k) (taken f) (answer st (inserting w) .number) (g .number-is)))
-      go (both e a i l m s c k g) = new e (in-two (answer st (inserting w) .number) (stored-one p (halfCount (D p) k) (taken (taken f)) (answer st (inserting w) .number) (g .number-is)))
+      go (split e a i l m s k q g) = new e (in-two (answer st (inserting w) .number) (stored-one p (halfCount (D p) k) (taken f) (answer st (inserting w) .number) (g .number-is)))
+      go (both e a i l m s c k q g) = new e (in-two (answer st (inserting w) .number) (stored-one p (halfCount (D p) k) (taken (taken f)) (answer st (inserting w) .number) (g .number-is)))
 
   extend-answers : (w : List ℕ) → Keyed st (p .wpr) w → Extended p (lastBlock (leavesOf ss)) (ordinary p (recordsFrom p (keyIn p w) rows)) (answer st (extending w))
   unfolding answer lending
@@ -147,7 +147,7 @@ module _ (st : State) (ss : List Section) (f : Free) (h : Sound st ss f) where
   unfolding answer lending ordinary
   adv-answers w a = go (adv-right (lending w st) ss f (lent-sound w st ss f h) (a .0) (a .1))
     where
-      go : AdvRight (lending w st) ss → Advanced p (ordinary p (abovePosition (st .session) rows)) (answer st (advancing w))
+      go : AdvRight (lending w st) ss f → Advanced p (ordinary p (abovePosition (st .session) rows)) (answer st (advancing w))
       go (r, cs, e, g, z) = subst (λ (x : List (List ℕ)). Advanced p (ordinary p x) (answer st (advancing w))) (sym (above-position ∙ e)) (by (isOnes (keyIn p r)) refl)
         where
           cut : rows ≡ below K (mark st) rows ++ r ∷ cs

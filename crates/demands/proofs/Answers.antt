@@ -78,29 +78,27 @@ pub open-pass : (st : State) → st .session .opened ≡ true → isOpen st ≡ 
 unfolding isOpen
 open-pass st e = simp e
 
--- ---- the answer, where the tree was ss: the number, how many transfers at most, a sound state of the same file, its contents, and what the
--- call brought
+-- ---- the answer, where the tree was ss and is then ss′ with the free blocks f′: the number, how many transfers at most, a sound state of the
+-- same file, its contents, and what the call brought
 
-pub record Gives (st : State) (ss : List Section) (o : Outcome) (number : ℕ) (most : ℕ) (rows : List (List ℕ)) (brought : Growth) : Type 0 where
+pub record Gives (st : State) (ss : List Section) (o : Outcome) (number : ℕ) (most : ℕ) (rows : List (List ℕ)) (brought : Growth) (ss′ : List Section) (f′ : Free) : Type 0 where
   pub number-is : o .number ≡ number
   pub most-is : length (o .transfers) ≤ most
   pub desc-is : desc (o .after) ≡ desc st
-  pub sections : List Section
-  pub free : Free
-  pub sound : Sound (o .after) sections free
-  pub contents-is : contents (leavesOf sections) ≡ rows
-  pub grows : Grows (desc st) ss sections brought
+  pub sound : Sound (o .after) ss′ f′
+  pub contents-is : contents (leavesOf ss′) ≡ rows
+  pub grows : Grows (desc st) ss ss′ brought
 
-pub gives-more : (st : State) (ss : List Section) (o : Outcome) (n few most : ℕ) (rows : List (List ℕ)) (brought : Growth) → Gives st ss o n few rows brought → few ≤ most
-    → Gives st ss o n most rows brought
-gives-more st ss o n few most rows brought g l =
-    record { number-is = g .number-is; most-is = omega (arith, g .most-is); desc-is = g .desc-is; sections = g .sections; free = g .free; sound = g .sound; contents-is = g .contents-is; grows = g .grows }
+pub gives-more : (st : State) (ss : List Section) (o : Outcome) (n few most : ℕ) (rows : List (List ℕ)) (brought : Growth) (ss′ : List Section) (f′ : Free) → Gives st ss o n few rows brought ss′ f′ → few ≤ most
+    → Gives st ss o n most rows brought ss′ f′
+gives-more st ss o n few most rows brought ss′ f′ g l =
+    record { number-is = g .number-is; most-is = omega (arith, g .most-is); desc-is = g .desc-is; sound = g .sound; contents-is = g .contents-is; grows = g .grows }
 
 module _ (st : State) (ss : List Section) (f : Free) (h : Sound st ss f) (o : st .session .opened ≡ true) (e : Effect) (ss′ : List Section) (f′ : Free)
     (k : Kept (seen (desc st) (e .current) (e .file) (e .buffer)) (e .flag) ss′ f′) (most : ℕ) (cost : length (e .transfers) ≤ most)
     (brought : Growth) (grew : Grows (desc st) ss ss′ brought) where
   -- position kept
-  plain : e .keyed ≡ false → Gives st ss (outcome (st .session) e) (e .number) most (contents (leavesOf ss′)) brought
+  plain : e .keyed ≡ false → Gives st ss (outcome (st .session) e) (e .number) most (contents (leavesOf ss′)) brought ss′ f′
   unfolding outcome holding
   plain q =
       let s : Session = record { desc = desc st; opened = st .session .opened; current = e .current; flag = e .flag; placed = st .session .placed; position = st .session .position } in
@@ -110,15 +108,13 @@ module _ (st : State) (ss : List Section) (f : Free) (h : Sound st ss f) (o : st
         number-is = refl;
         most-is = cost;
         desc-is = ap (λ (x : Session). x .desc) w;
-        sections = ss′;
-        free = f′;
         sound = subst (λ (x : Session). Sound (record { session = x; file = e .file; buffer = e .buffer; work = e .work }) ss′ f′) (sym w) z;
         contents-is = refl;
         grows = grew;
       }
 
   -- "position = key"
-  keyed : e .keyed ≡ true → Key (desc st) (keyIn (desc st) (e .work)) → Gives st ss (outcome (st .session) e) (e .number) most (contents (leavesOf ss′)) brought
+  keyed : e .keyed ≡ true → Key (desc st) (keyIn (desc st) (e .work)) → Gives st ss (outcome (st .session) e) (e .number) most (contents (leavesOf ss′)) brought ss′ f′
   unfolding outcome holding positioned
   keyed q kw =
       let key : List ℕ = keyIn (desc st) (e .work) in
@@ -138,19 +134,17 @@ module _ (st : State) (ss : List Section) (f : Free) (h : Sound st ss f) (o : st
         number-is = refl;
         most-is = cost;
         desc-is = ap (λ (x : Session). x .desc) w;
-        sections = ss′;
-        free = f′;
         sound = subst (λ (x : Session). Sound (record { session = x; file = e .file; buffer = e .buffer; work = e .work }) ss′ f′) (sym w) z;
         contents-is = refl;
         grows = grew;
       }
 
   pub effect-gives : (n : ℕ) (rows : List (List ℕ)) → e .number ≡ n → contents (leavesOf ss′) ≡ rows → (e .keyed ≡ true → Key (desc st) (keyIn (desc st) (e .work)))
-      → Gives st ss (outcome (st .session) e) n most rows brought
+      → Gives st ss (outcome (st .session) e) n most rows brought ss′ f′
   effect-gives n rows en er kw =
-      subst (λ (m : ℕ). Gives st ss (outcome (st .session) e) m most rows brought) en (subst (λ (z : List (List ℕ)). Gives st ss (outcome (st .session) e) (e .number) most z brought) er (go (e .keyed) refl))
+      subst (λ (m : ℕ). Gives st ss (outcome (st .session) e) m most rows brought ss′ f′) en (subst (λ (z : List (List ℕ)). Gives st ss (outcome (st .session) e) (e .number) most z brought ss′ f′) er (go (e .keyed) refl))
     where
-      go : (t : Bool) → e .keyed ≡ t → Gives st ss (outcome (st .session) e) (e .number) most (contents (leavesOf ss′)) brought
+      go : (t : Bool) → e .keyed ≡ t → Gives st ss (outcome (st .session) e) (e .number) most (contents (leavesOf ss′)) brought ss′ f′
       go true q = keyed q (kw q)
       go false q = plain q
 

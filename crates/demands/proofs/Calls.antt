@@ -51,7 +51,7 @@ use Rattle.demands.proofs.Stepped.{Brought, most, numbered, KeyOf, Step
 use Rattle.demands.proofs.Step.{Gate, stopped, ready, gate, opened-sound, lent-sound}
 
 -- a list with a record put in that ascends did not have its key
-ins-fresh : {A : Type 0} (K : A → ℕ) (lo : ℕ) (r : A) (c : List A) (hi : ℕ) → Asc K lo (ins K r c) hi → hit K (K r) c ≡ []
+pub ins-fresh : {A : Type 0} (K : A → ℕ) (lo : ℕ) (r : A) (c : List A) (hi : ℕ) → Asc K lo (ins K r c) hi → hit K (K r) c ≡ []
 unfolding ins hit
 ins-fresh {A} K lo r c hi h =
     let a : Asc K (suc (K r)) (from K (K r) c) hi = asc-right K lo (below K (K r) c) (r ∷ from K (K r) c) hi h .1 in
@@ -157,9 +157,9 @@ module _ (st : State) (ss : List Section) (f : Free) where
     seek-step w (stopped n ne ac nf e) = stays (seeking w) (lending w st) n (lent-sound w st ss f h) refl ac (e (seekSteps (texts (lending w st)) (st .session .flag) w))
     seek-step w (ready r) = go (seek-right (lending w st) ss f r)
       where
-        go : SeekRight (lending w st) ss → Stepped st ss (seeking w)
-        go (inl (e, g, z)) = step-calm st ss (seeking w) (g .sections) (g .free) (g .sound) (g .desc-is) (g .contents-is) (g .grows) (refl, refl) (g .most-is)
-        go (inr (y, e, g, z)) = step-calm st ss (seeking w) (g .sections) (g .free) (g .sound) (g .desc-is) (g .contents-is) (g .grows) (refl, refl) (g .most-is)
+        go : SeekRight (lending w st) ss f → Stepped st ss (seeking w)
+        go (inl (e, g, z)) = step-calm st ss (seeking w) ss f (g .sound) (g .desc-is) (g .contents-is) (g .grows) (refl, refl) (g .most-is)
+        go (inr (y, e, g, z)) = step-calm st ss (seeking w) ss f (g .sound) (g .desc-is) (g .contents-is) (g .grows) (refl, refl) (g .most-is)
 
     adv-step : (w : List ℕ) → Dec (length w ≡ desc st .wpr) → (u : Bool) → st .session .opened ≡ u → Stepped st ss (advancing w)
     unfolding answer lending adv settle workOk isOpen share eventOf
@@ -168,12 +168,12 @@ module _ (st : State) (ss : List Section) (f : Free) where
         stays (advancing w) (lending w st) isClosed (lent-sound w st ss f h) refl refl (simp (sizes-pass (lending w st) ss f (lent-sound w st ss f h), eq-eqb (length w) (desc st .wpr) l, e))
     adv-step w (yes l) true e =
         let a = adv-right (lending w st) ss f (lent-sound w st ss f h) e l in
-        step-calm st ss (advancing w) (a .3 .sections) (a .3 .free) (a .3 .sound) (a .3 .desc-is) (a .3 .contents-is) (a .3 .grows) (refl, refl) (a .3 .most-is)
+        step-calm st ss (advancing w) ss f (a .3 .sound) (a .3 .desc-is) (a .3 .contents-is) (a .3 .grows) (refl, refl) (a .3 .most-is)
 
     close-step : (u : Bool) → st .session .opened ≡ u → Stepped st ss closing
     unfolding answer close closeChecks closeDone isOpen share eventOf
     close-step false e = stays closing st isClosed h refl refl (simp (sizes-pass st ss f h, e))
-    close-step true e = let g = close-right st ss f h e in step-calm st ss closing (g .sections) (g .free) (g .sound) (g .desc-is) (g .contents-is) (g .grows) (refl, refl) (g .most-is)
+    close-step true e = let g = close-right st ss f h e in step-calm st ss closing ss f (g .sound) (g .desc-is) (g .contents-is) (g .grows) (refl, refl) (g .most-is)
 
     -- the key of a call that is ready
     ready-key : (w : List ℕ) (reads : ℕ) → desc st .k ≤ reads → reads ≤ desc st .wpr → Ready reads (lending w st) ss f → Key (desc st) (keyIn (desc st) w)
@@ -184,25 +184,25 @@ module _ (st : State) (ss : List Section) (f : Free) where
     key-fits = good-facts (desc st) (h .kept .good) .key
 
     -- a call that is not accepted
-    none-step : (q : Request) (w : List ℕ) (n m : ℕ) → Gives (lending w st) ss (answer st q) n m (contents (leavesOf ss)) nothing → accepted n ≡ false → m ≤ share q → Stepped st ss q
+    none-step : (q : Request) (w : List ℕ) (n m : ℕ) → Gives (lending w st) ss (answer st q) n m (contents (leavesOf ss)) nothing ss f → accepted n ≡ false → m ≤ share q → Stepped st ss q
     unfolding lending
     none-step q w n m g a l =
-        step-calm st ss q (g .sections) (g .free) (g .sound) (g .desc-is) (g .contents-is) (g .grows) (calm st ss q (ap accepted (g .number-is) ∙ a)) (omega (arith, g .most-is))
+        step-calm st ss q ss f (g .sound) (g .desc-is) (g .contents-is) (g .grows) (calm st ss q (ap accepted (g .number-is) ∙ a)) (omega (arith, g .most-is))
 
     -- NSERT and XTEND put in a record whose key was not there
     put-step : (q : Request) (w : List ℕ) → eventOf (desc st) q (answer st q) ≡ cond (accepted (answer st q .number)) (told.stored w ∷ []) [] → Key (desc st) (keyIn (desc st) w)
-        → (n m : ℕ) (b : Growth) → Gives (lending w st) ss (answer st q) n m (ins (key (desc st .k)) w (contents (leavesOf ss))) b → accepted n ≡ true
+        → (n m : ℕ) (b : Growth) {ss′ : List Section} {f′ : Free} → Gives (lending w st) ss (answer st q) n m (ins (key (desc st .k)) w (contents (leavesOf ss))) b ss′ f′ → accepted n ≡ true
         → (1 ≡ acceptedBy (answer st q) → Brought q (answer st q) b) → m ≤ most q b → Stepped st ss q
     unfolding lending
-    put-step q w e k n m b g a br l =
+    put-step q w e k n m b {ss′} {f′} g a br l =
         let K : List ℕ → ℕ = key (desc st .k) in
         let rows : List (List ℕ) = contents (leavesOf ss) in
-        let end : ℕ = reach (desc st .k) 0 (leavesOf (g .sections)) in
-        let asc : Asc K 0 (contents (leavesOf (g .sections))) end
-        = subst (λ (z : Description). Asc (key (z .k)) 0 (contents (leavesOf (g .sections))) (reach (z .k) 0 (leavesOf (g .sections)))) (g .desc-is) (asc-rows (desc (answer st q .after)) _ _ (g .sections) (g .free) (g .sound .kept .holds)) in
+        let end : ℕ = reach (desc st .k) 0 (leavesOf ss′) in
+        let asc : Asc K 0 (contents (leavesOf ss′)) end
+        = subst (λ (z : Description). Asc (key (z .k)) 0 (contents (leavesOf ss′)) (reach (z .k) 0 (leavesOf ss′))) (g .desc-is) (asc-rows (desc (answer st q .after)) _ _ ss′ f′ (g .sound .kept .holds)) in
         let none : hit K (K w) rows ≡ [] = ins-fresh K 0 w rows end (subst (λ (z : List (List ℕ)). Asc K 0 z end) (g .contents-is) asc) in
         let ok : accepted (answer st q .number) ≡ true = ap accepted (g .number-is) ∙ a in
-        step-stored st ss q (g .sections) (g .free) (g .sound) (g .desc-is) w (e ∙ ap (λ (t : Bool). cond t (told.stored w ∷ []) []) ok)
+        step-stored st ss q ss′ f′ (g .sound) (g .desc-is) w (e ∙ ap (λ (t : Bool). cond t (told.stored w ∷ []) []) ok)
         (g .contents-is ∙ ins-upd K (K w) _ rows (asc-rows (desc st) _ _ ss f (h .kept .holds)) (omega (arith, work-key (desc st) w, k .below, h .kept .holds .top)) w refl none)
         k b (g .grows) (br (accepts (answer st q) true ok)) (omega (arith, g .most-is))
 
@@ -211,10 +211,10 @@ module _ (st : State) (ss : List Section) (f : Free) where
     updat-step w (stopped n ne ac nf e) = stays (updating w) (lending w st) n (lent-sound w st ss f h) refl ac (e (updatSteps (texts (lending w st)) (st .session .flag) w))
     updat-step w (ready r) = go (updat-right (lending w st) ss f r)
       where
-        go : UpdatRight (lending w st) ss → Stepped st ss (updating w)
+        go : UpdatRight (lending w st) ss f → Stepped st ss (updating w)
         go (inl (e, g)) = none-step (updating w) w notFound 3 g refl (omega arith)
-        go (inr (y, e, g)) =
-            step-stored st ss (updating w) (g .sections) (g .free) (g .sound) (g .desc-is) w (ap (λ (m : ℕ). cond (accepted m) (told.stored w ∷ []) []) (g .number-is)) (g .contents-is)
+        go (inr (y, e, ss′, f′, g)) =
+            step-stored st ss (updating w) ss′ f′ (g .sound) (g .desc-is) w (ap (λ (m : ℕ). cond (accepted m) (told.stored w ∷ []) []) (g .number-is)) (g .contents-is)
             (ready-key w (desc st .wpr) key-fits (omega arith) r) nothing (g .grows) refl (g .most-is)
 
     dlete-step : (w : List ℕ) → Gate (lending w st) ss f (lent-sound w st ss f h) (desc st .k) → Stepped st ss (deleting w)
@@ -222,10 +222,10 @@ module _ (st : State) (ss : List Section) (f : Free) where
     dlete-step w (stopped n ne ac nf e) = stays (deleting w) (lending w st) n (lent-sound w st ss f h) refl ac (e (dleteSteps (texts (lending w st)) (st .session .flag) w))
     dlete-step w (ready r) = go (dlete-right (lending w st) ss f r)
       where
-        go : DleteRight (lending w st) ss → Stepped st ss (deleting w)
+        go : DleteRight (lending w st) ss f → Stepped st ss (deleting w)
         go (inl (e, g)) = none-step (deleting w) w notFound 3 g refl (omega arith)
-        go (inr (y, e, g)) =
-            step-removed st ss (deleting w) (g .sections) (g .free) (g .sound) (g .desc-is) (keyIn (desc st) w) (ap (λ (m : ℕ). cond (eqb m done) (told.removed (keyIn (desc st) w) ∷ []) []) (g .number-is)) (g .contents-is)
+        go (inr (y, e, ss′, f′, g)) =
+            step-removed st ss (deleting w) ss′ f′ (g .sound) (g .desc-is) (keyIn (desc st) w) (ap (λ (m : ℕ). cond (eqb m done) (told.removed (keyIn (desc st) w) ∷ []) []) (g .number-is)) (g .contents-is)
             (ready-key w (desc st .k) (omega arith) key-fits r) (g .grows) refl (g .most-is)
 
     nsert-step : (w : List ℕ) → Gate (lending w st) ss f (lent-sound w st ss f h) (desc st .wpr) → Stepped st ss (inserting w)
@@ -240,8 +240,8 @@ module _ (st : State) (ss : List Section) (f : Free) where
         go (duplicate y e g) = none-step (inserting w) w notFound 3 g refl (omega arith)
         go (no-room e a i l m g) = none-step (inserting w) w noRoom 3 g refl (omega arith)
         go (room e a i l g) = put-step (inserting w) w refl kw _ 3 aRecord g (stored-accepted (desc st) _ f) (λ b. (b, refl, refl)) (omega arith)
-        go (split e a i l m s k g) = put-step (inserting w) w refl kw _ 7 aSplit g (stored-accepted (desc st) _ (taken f)) (λ b. (b, refl, refl)) (omega arith)
-        go (both e a i l m s c k g) = put-step (inserting w) w refl kw _ 8 bothSplit g (stored-accepted (desc st) _ (taken (taken f))) (λ b. (b, refl, refl)) (omega arith)
+        go (split e a i l m s k q g) = put-step (inserting w) w refl kw _ 7 aSplit g (stored-accepted (desc st) _ (taken f)) (λ b. (b, refl, refl)) (omega arith)
+        go (both e a i l m s c k q g) = put-step (inserting w) w refl kw _ 8 bothSplit g (stored-accepted (desc st) _ (taken (taken f))) (λ b. (b, refl, refl)) (omega arith)
 
     xtend-step : (w : List ℕ) → Gate (lending w st) ss f (lent-sound w st ss f h) (desc st .wpr) → Stepped st ss (extending w)
     unfolding answer lending xtend share eventOf

@@ -48,7 +48,7 @@ module _ (p : Description) (kr : p .k ≤ p .wpr) (w : List ℕ) (kw : Key p w) 
   unfolding key part
   row-over r ok = let l = key-long p kr r ok in keyLt-val w (keyIn p r) (kw .wide) (l .1) (kw .long ∙ sym (l .0))
 
-  below-is : (lo : ℕ) (rows : List (List ℕ)) (hi : ℕ) → Asc K lo rows hi → All (RowOk p) rows → recordsBelow p w rows ≡ below K (val w) rows
+  pub below-is : (lo : ℕ) (rows : List (List ℕ)) (hi : ℕ) → Asc K lo rows hi → All (RowOk p) rows → recordsBelow p w rows ≡ below K (val w) rows
   unfolding recordsBelow below
   below-is lo [] hi h ok = refl
   below-is lo (r ∷ rows) hi h ok = go (decLt (K r) (val w)) (below-is (suc (K r)) rows hi (h .1) (ok .1))
@@ -82,7 +82,7 @@ module _ (p : Description) (kr : p .k ≤ p .wpr) (rows : List (List ℕ)) (hi :
   unfolding happened changed
   none-is = refl
 
-changed-is : (st : State) (ss : List Section) (f : Free) → Sound st ss f → (q : Request) → All (KeyOf (desc st)) (eventOf (desc st) q (answer st q))
+pub changed-is : (st : State) (ss : List Section) (f : Free) → Sound st ss f → (q : Request) → All (KeyOf (desc st)) (eventOf (desc st) q (answer st q))
     → happened (key (desc st .k)) (map numbered (eventOf (desc st) q (answer st q))) (contents (leavesOf ss)) ≡ changed (desc st) (eventOf (desc st) q (answer st q)) (contents (leavesOf ss))
 unfolding eventOf
 changed-is st ss f h q ks = go q ks

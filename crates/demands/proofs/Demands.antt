@@ -63,7 +63,7 @@ pub opens : (st : State) (marks : List ℕ) → openFile st marks .outcome .numb
 opens st marks e = let o = opening st marks e in open-right st marks (o .sizes-are .good) (o .sizes-are .file-is) (o .sizes-are .buffer-is) (o .marks-are) (o .was-closed) e
 
 -- it keeps the parameters
-opened-desc : (st : State) (marks : List ℕ) → openFile st marks .outcome .number ≡ done → desc (openFile st marks .outcome .after) ≡ desc st
+pub opened-desc : (st : State) (marks : List ℕ) → openFile st marks .outcome .number ≡ done → desc (openFile st marks .outcome .after) ≡ desc st
 unfolding openFile openDone openLayout atRest
 opened-desc st marks e = go (openChecks st marks)
   where

@@ -65,12 +65,12 @@ module _ (st : State) (ss : List Section) (f : Free) (r : Ready (desc st .k) st 
   unfolding dlete dleteSteps
   dlete-by d e ed ee = ready-pass st ss f (p .k) r (dleteSteps v flag (st .work)) e (ap (λ (m : Checked Delete). m >>= (λ x. deleteDone v flag (st .work) x)) ed ∙ ee)
 
-  pub dlete-absent : (a : Place) → At v flag ss f a (By (pathOf a)) → look v flag w ≡ passed (Missing (pathOf a)) → Gives st ss (dlete st) notFound 3 rows nothing
+  pub dlete-absent : (a : Place) → At v flag ss f a (By (pathOf a)) → look v flag w ≡ passed (Missing (pathOf a)) → Gives st ss (dlete st) notFound 3 rows nothing ss f
   unfolding deleteDeed deleteAfter deleteDone
   dlete-absent a A l =
       let here : Reached = reached v flag (By (pathOf a)) in
       let back : Kept (leftBy v here) (here .flag) ss f = subst (λ (z : List Section). Kept (leftBy v here) (here .flag) z f) (sym (A .is)) (A .kept) in
-      subst (λ (z : Outcome). Gives st ss z notFound 3 rows nothing) (sym (dlete-by (Stop (pathOf a)) (stopping notFound (st .work) here) (simp l) refl))
+      subst (λ (z : Outcome). Gives st ss z notFound 3 rows nothing ss f) (sym (dlete-by (Stop (pathOf a)) (stopping notFound (st .work) here) (simp l) refl))
       (stop-gives st ss f (r .sound) (r .opened) here 3 (way-cost v flag (By (pathOf a))) back notFound (st .work))
 
   -- the records with the one of the key taken out
@@ -96,7 +96,7 @@ module _ (st : State) (ss : List Section) (f : Free) (r : Ready (desc st .k) st 
     gone-ended = ended-del p kr rows _ (asc-rows p _ _ ss f (r .sound .kept .holds)) (r .sound .kept .ended) (val w) (kw .below)
 
     -- "found: remove, flag on"
-    pub dlete-some : look v flag w ≡ passed (Found way (length bs)) → 2 ≤ length (a .leaf .records) → Gives st ss (dlete st) done 3 (del K (val w) rows) nothing
+    pub dlete-some : look v flag w ≡ passed (Found way (length bs)) → 2 ≤ length (a .leaf .records) → Gives st ss (dlete st) done 3 (del K (val w) rows) nothing (treeWith a (withRows p (a .leaf) (bs ++ cs) ∷ [])) f
     unfolding deleteDeed deleteAfter deleteDone
     dlete-some l two =
         let here : Reached = reached v flag way in
@@ -108,7 +108,7 @@ module _ (st : State) (ss : List Section) (f : Free) (r : Ready (desc st .k) st 
         let n : length (bs ++ x ∷ cs) ≡ suc (length (bs ++ cs)) = rw (length-append bs cs, length-append bs (x ∷ cs)) (omega arith) in
         let fits : 1 + length (bs ++ x ∷ cs) * p .wpr ≤ p .wpb = rw (← len) (omega (arith, caps p (r .sound .kept .good) .records-fit, mul-le-mul-right (p .wpr) (lk .room))) in
         let words : t ≡ table (p .wpb) (bs ++ cs) = ap (removed (detailShape p) (length bs)) (A .buffer-is ∙ ap (table (p .wpb)) q) ∙ record-remove p kr bs x cs was fits in
-        subst (λ (z : Outcome). Gives st ss z done 3 (del K (val w) rows) nothing) (sym (dlete-by (Remove way (length bs)) (storing done (st .work) here t) deed refl))
+        subst (λ (z : Outcome). Gives st ss z done 3 (del K (val w) rows) nothing (treeWith a (withRows p (a .leaf) (bs ++ cs) ∷ [])) f) (sym (dlete-by (Remove way (length bs)) (storing done (st .work) here t) deed refl))
         (store-gives st ss f (r .sound) (r .opened) here 3 (way-cost v flag way) a (A .kept) (A .current-is) (bs ++ cs) (del K (val w) rows) t done (st .work) words
         (rw (← gone) (asc-del K (lo p a) (val w) (a .leaf .records) (hi p a) asc (C .above) (C .within))) (omega (arith, len, n, two)) (omega (arith, len, n, lk .room))
         (all-append (RowOk p) bs cs (all-left (RowOk p) bs _ was) (all-right (RowOk p) bs _ was .1)) (gone-contents (withRows p (a .leaf) (bs ++ cs) ∷ []) (append-nil (bs ++ cs))) gone-ended kw nothing

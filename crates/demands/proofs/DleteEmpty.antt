@@ -106,7 +106,7 @@ module _ (st : State) (ss : List Section) (f : Free) (r : Ready (desc st .k) st 
   w = keyIn (desc st) (st .work)
 
   abbrev Result : Type 0
-  Result = Gives st ss (dlete st) done 6 (del (key (desc st .k)) (val (keyIn (desc st) (st .work))) (contents (leavesOf ss))) nothing
+  Result = (ss′ : List Section) × (f′ : Free) × Gives st ss (dlete st) done 6 (del (key (desc st .k)) (val (keyIn (desc st) (st .work))) (contents (leavesOf ss))) nothing ss′ f′
 
   abbrev head : ℕ
   head = headOr (f .chain) 0
@@ -162,11 +162,14 @@ module _ (st : State) (ss : List Section) (f : Free) (r : Ready (desc st .k) st 
       let e₁ : file₁ ≡ masterText p (treeOf a) f′ ++ behind p (st .file)
       = ap (λ (z : List ℕ). set z 1 b) (file-is p (st .file) (treeOf a) f (A .held .master-is) (A .held .sized)) ∙ with-head p (treeOf a) f f′ b (behind p (st .file)) eh el in
       let F : List ℕ = written p (reached v flag way .moves ++ ms) file₁ in
-      let F-is : F ≡ masterText p (treeOf a) f′ ++ behind p F = same-file st ss f (r .sound) (r .opened) kw a way A ms ws refl fit old f′ file₁ e₁ (treeOf a) refl in
-      subst (λ (z : Outcome). Gives st ss z done 6 (del (key (p .k)) (val w) (contents (leavesOf ss))) nothing) (sym (dlete-by st ss f r d (emptying p (st .work) (reached v flag way .moves ++ ms) (op F)) ed ee))
-      (act-gives st ss f (r .sound) (r .opened) kw a way A ms ws refl fit old f′ file₁ e₁ ss′ (op F) (ap op F-is ∙ law (behind p F)) hold _ c
-      (gone-ended st ss f r kw a way A C [] x [] q k) 0 (zeros (p .wpb)) (inl (refl, zeros-length (p .wpb))) done (reached v flag way .moves ++ ms) 6
-      (rw (length-append (reached v flag way .moves) ms) (omega (arith, way-cost v flag way))) nothing (grow-from p ss (treeOf a) ss′ nothing (A .is) grew))
+      let F-is : F ≡ masterText p (treeOf a) f′ ++ behind p F = same-file st ss f (r .sound) (r .opened) kw a way A ms ws refl fit old f′ file₁ e₁ (treeOf a) refl in (
+        ss′,
+        f′,
+        subst (λ (z : Outcome). Gives st ss z done 6 (del (key (p .k)) (val w) (contents (leavesOf ss))) nothing ss′ f′) (sym (dlete-by st ss f r d (emptying p (st .work) (reached v flag way .moves ++ ms) (op F)) ed ee))
+            (act-gives st ss f (r .sound) (r .opened) kw a way A ms ws refl fit old f′ file₁ e₁ ss′ (op F) (ap op F-is ∙ law (behind p F)) hold _ c
+            (gone-ended st ss f r kw a way A C [] x [] q k) 0 (zeros (p .wpb)) (inl (refl, zeros-length (p .wpb))) done (reached v flag way .moves ++ ms) 6
+            (rw (length-append (reached v flag way .moves) ms) (omega (arith, way-cost v flag way))) nothing (grow-from p ss (treeOf a) ss′ nothing (A .is) grew)),
+      )
 
   -- another leaf follows in the section
   dlete-inner : (m : Leaf) (hs : List Leaf) → a .high ≡ m ∷ hs → Result

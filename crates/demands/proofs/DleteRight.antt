@@ -27,27 +27,27 @@ use Rattle.demands.proofs.Dlete.{dlete-absent, dlete-some}
 use Rattle.demands.proofs.DleteEmpty.{dlete-emptied}
 use Rattle.demands.proofs.Growth.{nothing}
 
-abbrev pub DleteRight : State → List Section → Type 0
-DleteRight st ss =
-    ((hit (key (desc st .k)) (val (keyIn (desc st) (st .work))) (contents (leavesOf ss)) ≡ []) × Gives st ss (dlete st) notFound 3 (contents (leavesOf ss)) nothing)
+abbrev pub DleteRight : State → List Section → Free → Type 0
+DleteRight st ss f =
+    ((hit (key (desc st .k)) (val (keyIn (desc st) (st .work))) (contents (leavesOf ss)) ≡ []) × Gives st ss (dlete st) notFound 3 (contents (leavesOf ss)) nothing ss f)
     ⊎ ((x : List ℕ) × (hit (key (desc st .k)) (val (keyIn (desc st) (st .work))) (contents (leavesOf ss)) ≡ x ∷ [])
-    × Gives st ss (dlete st) done 6 (del (key (desc st .k)) (val (keyIn (desc st) (st .work))) (contents (leavesOf ss))) nothing)
+    × (ss′ : List Section) × (f′ : Free) × Gives st ss (dlete st) done 6 (del (key (desc st .k)) (val (keyIn (desc st) (st .work))) (contents (leavesOf ss))) nothing ss′ f′)
 
 module _ (st : State) (ss : List Section) (f : Free) (r : Ready (desc st .k) st ss f) (kw : Key (desc st) (keyIn (desc st) (st .work))) where
   abbrev Result : Type 0
-  Result = Gives st ss (dlete st) done 6 (del (key (desc st .k)) (val (keyIn (desc st) (st .work))) (contents (leavesOf ss))) nothing
+  Result = (ss′ : List Section) × (f′ : Free) × Gives st ss (dlete st) done 6 (del (key (desc st .k)) (val (keyIn (desc st) (st .work))) (contents (leavesOf ss))) nothing ss′ f′
 
   take-out : (a : Place) (way : Way) → At (texts st) (st .session .flag) ss f a way → Covers (texts st) (keyIn (desc st) (st .work)) a → (bs : List (List ℕ)) (x : List ℕ) (cs : List (List ℕ))
       → a .leaf .records ≡ bs ++ x ∷ cs → key (desc st .k) x ≡ val (keyIn (desc st) (st .work)) → look (texts st) (st .session .flag) (keyIn (desc st) (st .work)) ≡ passed (Found way (length bs)) → Result
   take-out a way A C [] x [] q k l = dlete-emptied st ss f r kw a way A C x q k l
-  take-out a way A C [] x (c ∷ cs) q k l = gives-more st ss _ _ 3 6 _ nothing (dlete-some st ss f r kw a way A C [] x (c ∷ cs) q k l (omega (arith, ap length q))) (omega arith)
-  take-out a way A C (b ∷ bs) x cs q k l = gives-more st ss _ _ 3 6 _ nothing (dlete-some st ss f r kw a way A C (b ∷ bs) x cs q k l (omega (arith, ap length q, length-append bs (x ∷ cs)))) (omega arith)
+  take-out a way A C [] x (c ∷ cs) q k l = (_, f, gives-more st ss _ _ 3 6 _ nothing _ f (dlete-some st ss f r kw a way A C [] x (c ∷ cs) q k l (omega (arith, ap length q))) (omega arith))
+  take-out a way A C (b ∷ bs) x cs q k l = (_, f, gives-more st ss _ _ 3 6 _ nothing _ f (dlete-some st ss f r kw a way A C (b ∷ bs) x cs q k l (omega (arith, ap length q, length-append bs (x ∷ cs)))) (omega arith))
 
-  at : Looked (texts st) (st .session .flag) (keyIn (desc st) (st .work)) ss f → DleteRight st ss
+  at : Looked (texts st) (st .session .flag) (keyIn (desc st) (st .work)) ss f → DleteRight st ss f
   at (absent a A C e none l) = inl (e, dlete-absent st ss f r a A l)
-  at (there a way A C bs x cs q k one l) = inr (x, one, take-out a way A C bs x cs q k l)
+  at (there a way A C bs x cs q k one l) = let t = take-out a way A C bs x cs q k l in inr (x, one, t .0, t .1, t .2)
 
-pub dlete-right : (st : State) (ss : List Section) (f : Free) → Ready (desc st .k) st ss f → DleteRight st ss
+pub dlete-right : (st : State) (ss : List Section) (f : Free) → Ready (desc st .k) st ss f → DleteRight st ss f
 dlete-right st ss f r =
     let kw : Key (desc st) (keyIn (desc st) (st .work)) = key-of (desc st .k) st ss f r (omega arith) (good-facts (desc st) (r .sound .kept .good) .key) in
     at st ss f r kw (looks (texts st) (st .session .flag) ss f (r .sound .kept) (keyIn (desc st) (st .work)) kw)

@@ -67,3 +67,16 @@ pub mod Contents
 pub mod Ordinary
 pub mod Extends
 pub mod Answered
+pub mod Durable
+pub mod Views
+pub mod Whole
+pub mod Mission
+pub mod Storing
+pub mod Routines
+pub mod Reached
+pub mod Made
+pub mod Growing
+pub mod Story
+pub mod Lines
+pub mod Sought
+pub mod Stuck

@@ -70,16 +70,16 @@ module _ (st : State) (ss : List Section) (f : Free) (r : Ready (desc st .wpr) s
   nsert-by d e ed ee = ready-pass st ss f (p .wpr) r (nsertSteps v flag (st .work)) e (ap (λ (m : Checked Insert). m >>= (λ x. insertDone v flag (st .work) x)) ed ∙ ee)
 
   -- "lookup done; workspace, position kept"
-  pub stop-nsert : (a : Place) (way : Way) → At v flag ss f a way → (n : ℕ) → insertDeed v flag w ≡ passed (Stop way n) → Gives st ss (nsert st) n 3 rows nothing
+  pub stop-nsert : (a : Place) (way : Way) → At v flag ss f a way → (n : ℕ) → insertDeed v flag w ≡ passed (Stop way n) → Gives st ss (nsert st) n 3 rows nothing ss f
   unfolding insertDone
   stop-nsert a way A n e =
       let here : Reached = reached v flag way in
       let back : Kept (leftBy v here) (here .flag) ss f = subst (λ (z : List Section). Kept (leftBy v here) (here .flag) z f) (sym (A .is)) (A .kept) in
-      subst (λ (z : Outcome). Gives st ss z n 3 rows nothing) (sym (nsert-by (Stop way n) (stopping n (st .work) here) e refl))
+      subst (λ (z : Outcome). Gives st ss z n 3 rows nothing ss f) (sym (nsert-by (Stop way n) (stopping n (st .work) here) e refl))
       (stop-gives st ss f (r .sound) (r .opened) here 3 (way-cost v flag way) back n (st .work))
 
   -- NSERT of a key that stands there
-  pub nsert-duplicate : (a : Place) (way : Way) → At v flag ss f a way → (i : ℕ) → look v flag w ≡ passed (Found way i) → Gives st ss (nsert st) notFound 3 rows nothing
+  pub nsert-duplicate : (a : Place) (way : Way) → At v flag ss f a way → (i : ℕ) → look v flag w ≡ passed (Found way i) → Gives st ss (nsert st) notFound 3 rows nothing ss f
   unfolding insertDeed insertAfter
   nsert-duplicate a way A i l = stop-nsert a way A notFound (simp l)
 
@@ -135,7 +135,7 @@ module _ (st : State) (ss : List Section) (f : Free) (r : Ready (desc st .wpr) s
 
     -- ---- "if the block has room, insert"
 
-    pub nsert-room : length (a .leaf .records) < D p → Gives st ss (nsert st) (storedWith p (length (a .leaf .records) + 1) f) 3 (ins K (st .work) rows) aRecord
+    pub nsert-room : length (a .leaf .records) < D p → Gives st ss (nsert st) (storedWith p (length (a .leaf .records) + 1) f) 3 (ins K (st .work) rows) aRecord (treeWith a (withRows p (a .leaf) (ins K (st .work) (a .leaf .records)) ∷ [])) f
     unfolding insertAt roomDeed insertDone
     nsert-room less =
         let n : ℕ = storedWith p (length (a .leaf .records) + 1) f in
@@ -149,7 +149,7 @@ module _ (st : State) (ss : List Section) (f : Free) (r : Ready (desc st .wpr) s
         let words : t ≡ table (p .wpb) (ins K (st .work) rs)
         = ap (λ (x : List ℕ). inserted (detailShape p) place x (here .buffer)) (work-is st ss f r) ∙ ap (inserted (detailShape p) place (st .work)) (A .buffer-is)
         ∙ record-ins p kr rs (st .work) (lk .rows) (r .work-length) fits in
-        subst (λ (z : Outcome). Gives st ss z n 3 (ins K (st .work) rows) aRecord) (sym (nsert-by (Room (pathOf a) place n) (storing n (st .work) here t) deed refl))
+        subst (λ (z : Outcome). Gives st ss z n 3 (ins K (st .work) rows) aRecord (treeWith a (withRows p (a .leaf) (ins K (st .work) (a .leaf .records)) ∷ [])) f) (sym (nsert-by (Room (pathOf a) place n) (storing n (st .work) here t) deed refl))
         (store-gives st ss f (r .sound) (r .opened) here 3 (way-cost v flag (By (pathOf a))) a (A .kept) (A .current-is) (ins K (st .work) rs) (ins K (st .work) rows) t n (st .work) words asc-ins-here
         (omega (arith, len)) (omega (arith, len)) (all-ins K (RowOk p) (st .work) rs (work-ok st ss f r) (lk .rows))
         (ins-contents (withRows p (a .leaf) (ins K (st .work) rs) ∷ []) (append-nil (ins K (st .work) rs))) ins-ended kw aRecord

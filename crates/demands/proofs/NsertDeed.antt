@@ -94,7 +94,7 @@ module _ (st : State) (ss : List Section) (f : Free) (r : Ready (desc st .wpr) s
     to-split : insertDeed v flag (keyIn p (st .work)) ≡ splitDeed v flag (pathOf a) i
     to-split = deed-at st ss f r kw a A C none l ∙ not-room ∙ simp (lt-ltb (length (olds a)) (I p) less)
 
-    pub nsert-none : freeCount f ≡ 0 → Gives st ss (nsert st) noRoom 3 rows nothing
+    pub nsert-none : freeCount f ≡ 0 → Gives st ss (nsert st) noRoom 3 rows nothing ss f
     unfolding splitDeed splitWith
     nsert-none z = stop-nsert st ss f r a (By (pathOf a)) A noRoom (to-split ∙ simp (heads, lows, grant-none v f fr z))
 
@@ -118,18 +118,18 @@ module _ (st : State) (ss : List Section) (f : Free) (r : Ready (desc st .wpr) s
     secs : sections (st .file) ≡ length ss
     secs = sections-is p (st .file) ss f (hd .master-is) (hd .sized)
 
-    pub nsert-none-both : freeCount f ≡ 0 → Gives st ss (nsert st) noRoom 3 rows nothing
+    pub nsert-none-both : freeCount f ≡ 0 → Gives st ss (nsert st) noRoom 3 rows nothing ss f
     unfolding bothDeed bothAfter bothWith
     nsert-none-both z = stop-nsert st ss f r a (By (pathOf a)) A noRoom (to-both ∙ simp (heads, lows, grant-none v f fr z))
 
-    pub nsert-few : freeCount f ≡ 1 → Gives st ss (nsert st) noRoom 3 rows nothing
+    pub nsert-few : freeCount f ≡ 1 → Gives st ss (nsert st) noRoom 3 rows nothing ss f
     unfolding bothDeed bothAfter bothWith
     nsert-few z =
         let some : 1 ≤ freeCount f = omega arith in
         stop-nsert st ss f r a (By (pathOf a)) A noRoom
         (to-both ∙ simp (heads, lows, grant-some v f fr some, grant-none v (taken f) (free-taken v f fr some) (omega (arith, z, taken-count f some)), ne-eqb (next f) 0 (λ e. omega (arith, e, next-in p _ _ ss f hd some))))
 
-    pub nsert-sections : 2 ≤ freeCount f → p .control ≤ length ss → Gives st ss (nsert st) noRoom 3 rows nothing
+    pub nsert-sections : 2 ≤ freeCount f → p .control ≤ length ss → Gives st ss (nsert st) noRoom 3 rows nothing ss f
     unfolding bothDeed bothAfter bothWith
     nsert-sections two c =
         let some : 1 ≤ freeCount f = omega arith in

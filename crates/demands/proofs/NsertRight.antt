@@ -1,7 +1,7 @@
 -- NSERT on a sound open state, all its ways together.
 use Prim.Native.Nat.{ℕ, suc, _+_, _-_, _≤_, _<_}
 use mathlib.Core.Logic.{_⊎_, inl, inr}
-use mathlib.Core.Path.{_≡_, ap, _∙_}
+use mathlib.Core.Path.{_≡_, refl, ap, _∙_}
 use mathlib.Core.List.{List, [], _∷_, _++_}
 use native.Mathlib.Omega.{arith}
 use native.Mathlib.Decide.{decLt, ℕ-discrete}
@@ -20,12 +20,12 @@ use Rattle.rules.specs.State.{State, desc, texts, keyIn}
 use Rattle.rules.specs.Lookup.{look}
 use Rattle.rules.specs.Nsert.{halfCount}
 use Rattle.rules.specs.NsertDone.{nsert}
-use Rattle.demands.proofs.Order.{hit, ins}
+use Rattle.demands.proofs.Order.{below, hit, ins}
 use Rattle.layout.specs.Tree.{Leaf, Section}
 use Rattle.demands.proofs.Trees.{leavesOf, contents, key}
 use Rattle.demands.proofs.Holds.{Free}
-use Rattle.demands.proofs.Steps.{lower, upper}
-use Rattle.demands.proofs.Places.{Place, treeOf, olds, leaf-ok, sec-ok}
+use Rattle.demands.proofs.Steps.{lower, upper, sec, withRows}
+use Rattle.demands.proofs.Places.{Place, treeOf, olds, leaf-ok, sec-ok, treeWith}
 use Rattle.demands.proofs.Texts.{half}
 use Rattle.demands.proofs.Paths.{pathOf}
 use Rattle.demands.proofs.Records.{length-ins}
@@ -40,19 +40,44 @@ use Rattle.demands.proofs.NsertDeed.{nsert-none, nsert-none-both, nsert
 use Rattle.demands.proofs.NsertSplit.{nsert-split, nsert-both}
 use Rattle.demands.proofs.Growth.{nothing, aRecord, aSplit, bothSplit}
 
--- what NSERT comes to, with the number it answers; a is the place of the block that the record belongs in
+-- a is the place of the block that the record belongs in
+pub record Belongs (st : State) (ss : List Section) (a : Place) : Type 0 where
+  pub is : ss ≡ treeOf a
+  pub covers : Covers (texts st) (keyIn (desc st) (st .work)) a
+
+-- how many records of that block stand before it
+abbrev pub before : State → Place → ℕ
+before st a = length (below (key (desc st .k)) (key (desc st .k) (st .work)) (a .leaf .records))
+
+-- its records with the new one; the two blocks that they make where it was full; the tree where its index block was full too
+abbrev pub rowsWith : State → Place → List (List ℕ)
+rowsWith st a = ins (key (desc st .k)) (st .work) (a .leaf .records)
+
+abbrev pub halves : State → Free → Place → List Leaf
+halves st f a =
+    let rs = rowsWith st a in
+    let j = lowCount (D (desc st)) - 1 in
+    lower (desc st) (a .leaf) (take j rs) (getD rs j []) ∷ (upper (desc st) (a .leaf) (next f) (drop (suc j) rs) ∷ [])
+
+abbrev pub twoSections : State → Free → Place → List Section
+twoSections st f a =
+    let ns = a .low ++ (halves st f a ++ a .high) in
+    let i = lowCount (I (desc st)) - 1 in
+    a .before ++ (sec (a .index) (take i ns ++ (getD ns i (a .leaf) ∷ [])) ∷ (sec (next (taken f)) (drop (suc i) ns) ∷ a .behind))
+
+-- what NSERT comes to, with the number it answers, and the tree then
 pub data Nserted (st : State) (ss : List Section) (f : Free) : Type 0 where
-  duplicate : (x : List ℕ) → hit (key (desc st .k)) (val (keyIn (desc st) (st .work))) (contents (leavesOf ss)) ≡ x ∷ [] → Gives st ss (nsert st) notFound 3 (contents (leavesOf ss)) nothing → Nserted st ss f
-  room : hit (key (desc st .k)) (val (keyIn (desc st) (st .work))) (contents (leavesOf ss)) ≡ [] → (a : Place) → ss ≡ treeOf a → length (a .leaf .records) < D (desc st)
-      → Gives st ss (nsert st) (storedWith (desc st) (length (a .leaf .records) + 1) f) 3 (ins (key (desc st .k)) (st .work) (contents (leavesOf ss))) aRecord → Nserted st ss f
-  split : hit (key (desc st .k)) (val (keyIn (desc st) (st .work))) (contents (leavesOf ss)) ≡ [] → (a : Place) → ss ≡ treeOf a → length (a .leaf .records) ≡ D (desc st) → length (olds a) < I (desc st)
-      → 1 ≤ freeCount f → (i : ℕ) → Gives st ss (nsert st) (storedWith (desc st) (halfCount (D (desc st)) i) (taken f)) 7 (ins (key (desc st .k)) (st .work) (contents (leavesOf ss))) aSplit → Nserted st ss f
-  both : hit (key (desc st .k)) (val (keyIn (desc st) (st .work))) (contents (leavesOf ss)) ≡ [] → (a : Place) → ss ≡ treeOf a → length (a .leaf .records) ≡ D (desc st) → length (olds a) ≡ I (desc st)
-      → 2 ≤ freeCount f → length ss < desc st .control → (i : ℕ)
-      → Gives st ss (nsert st) (storedWith (desc st) (halfCount (D (desc st)) i) (taken (taken f))) 8 (ins (key (desc st .k)) (st .work) (contents (leavesOf ss))) bothSplit → Nserted st ss f
-  no-room : hit (key (desc st .k)) (val (keyIn (desc st) (st .work))) (contents (leavesOf ss)) ≡ [] → (a : Place) → ss ≡ treeOf a → length (a .leaf .records) ≡ D (desc st)
+  duplicate : (x : List ℕ) → hit (key (desc st .k)) (val (keyIn (desc st) (st .work))) (contents (leavesOf ss)) ≡ x ∷ [] → Gives st ss (nsert st) notFound 3 (contents (leavesOf ss)) nothing ss f → Nserted st ss f
+  room : hit (key (desc st .k)) (val (keyIn (desc st) (st .work))) (contents (leavesOf ss)) ≡ [] → (a : Place) → Belongs st ss a → length (a .leaf .records) < D (desc st)
+      → Gives st ss (nsert st) (storedWith (desc st) (length (a .leaf .records) + 1) f) 3 (ins (key (desc st .k)) (st .work) (contents (leavesOf ss))) aRecord (treeWith a (withRows (desc st) (a .leaf) (rowsWith st a) ∷ [])) f → Nserted st ss f
+  split : hit (key (desc st .k)) (val (keyIn (desc st) (st .work))) (contents (leavesOf ss)) ≡ [] → (a : Place) → Belongs st ss a → length (a .leaf .records) ≡ D (desc st) → length (olds a) < I (desc st)
+      → 1 ≤ freeCount f → (i : ℕ) → i ≡ before st a → Gives st ss (nsert st) (storedWith (desc st) (halfCount (D (desc st)) i) (taken f)) 7 (ins (key (desc st .k)) (st .work) (contents (leavesOf ss))) aSplit (treeWith a (halves st f a)) (taken f) → Nserted st ss f
+  both : hit (key (desc st .k)) (val (keyIn (desc st) (st .work))) (contents (leavesOf ss)) ≡ [] → (a : Place) → Belongs st ss a → length (a .leaf .records) ≡ D (desc st) → length (olds a) ≡ I (desc st)
+      → 2 ≤ freeCount f → length ss < desc st .control → (i : ℕ) → i ≡ before st a
+      → Gives st ss (nsert st) (storedWith (desc st) (halfCount (D (desc st)) i) (taken (taken f))) 8 (ins (key (desc st .k)) (st .work) (contents (leavesOf ss))) bothSplit (twoSections st f a) (taken (taken f)) → Nserted st ss f
+  no-room : hit (key (desc st .k)) (val (keyIn (desc st) (st .work))) (contents (leavesOf ss)) ≡ [] → (a : Place) → Belongs st ss a → length (a .leaf .records) ≡ D (desc st)
       → (freeCount f ≡ 0) ⊎ ((length (olds a) ≡ I (desc st)) × ((freeCount f ≡ 1) ⊎ (desc st .control ≤ length ss)))
-      → Gives st ss (nsert st) noRoom 3 (contents (leavesOf ss)) nothing → Nserted st ss f
+      → Gives st ss (nsert st) noRoom 3 (contents (leavesOf ss)) nothing ss f → Nserted st ss f
 
 module _ (st : State) (ss : List Section) (f : Free) (r : Ready (desc st .wpr) st ss f) (kw : Key (desc st) (keyIn (desc st) (st .work))) where
   abbrev p : Description
@@ -64,6 +89,9 @@ module _ (st : State) (ss : List Section) (f : Free) (r : Ready (desc st .wpr) s
   module _ (e : hit (key (desc st .k)) (val (keyIn (desc st) (st .work))) (contents (leavesOf ss)) ≡ []) (a : Place) (A : At (texts st) (st .session .flag) ss f a (By (pathOf a)))
       (C : Covers (texts st) (keyIn (desc st) (st .work)) a) (none : hit (key (desc st .k)) (val (keyIn (desc st) (st .work))) (a .leaf .records) ≡ [])
       (l : look (texts st) (st .session .flag) (keyIn (desc st) (st .work)) ≡ passed (Missing (pathOf a))) where
+    here : Belongs st ss a
+    here = record { is = A .is; covers = C }
+
     sec-room : length (olds a) ≤ I p
     sec-room = sec-ok p a f _ _ (A .held) .room
 
@@ -93,19 +121,19 @@ module _ (st : State) (ss : List Section) (f : Free) (r : Ready (desc st .wpr) s
         lx = ap suc (length-take-le j rs (omega (arith, jl .0))) ∙ jl .1
 
         go : Dec (length (olds a) < I p) → Dec (freeCount f ≡ 0) → Dec (freeCount f ≡ 1) → Dec (length ss < p .control) → Nserted st ss f
-        go (yes less) (yes z) d₁ d₂ = no-room e a (A .is) full (inl z) (nsert-none st ss f r kw a A C none l full less z)
-        go (yes less) (no z) d₁ d₂ = split e a (A .is) full less (omega arith) _ (nsert-split st ss f r kw a A C none l full (take j rs) (getD rs j []) (drop (suc j) rs) cut lx less (omega arith))
-        go (no m) (yes z) d₁ d₂ = no-room e a (A .is) full (inl z) (nsert-none-both st ss f r kw a A C none l full (omega (arith, sec-room)) z)
+        go (yes less) (yes z) d₁ d₂ = no-room e a here full (inl z) (nsert-none st ss f r kw a A C none l full less z)
+        go (yes less) (no z) d₁ d₂ = split e a here full less (omega arith) (before st a) refl (nsert-split st ss f r kw a A C none l full (take j rs) (getD rs j []) (drop (suc j) rs) cut lx less (omega arith))
+        go (no m) (yes z) d₁ d₂ = no-room e a here full (inl z) (nsert-none-both st ss f r kw a A C none l full (omega (arith, sec-room)) z)
         go (no m) (no z) (yes o) d₂ =
             let most : length (olds a) ≡ I p = omega (arith, sec-room) in
-            no-room e a (A .is) full (inr (most, inl o)) (nsert-few st ss f r kw a A C none l full most o)
+            no-room e a here full (inr (most, inl o)) (nsert-few st ss f r kw a A C none l full most o)
         go (no m) (no z) (no o) (no c) =
             let most : length (olds a) ≡ I p = omega (arith, sec-room) in
             let top : p .control ≤ length ss = omega arith in
-            no-room e a (A .is) full (inr (most, inr top)) (nsert-sections st ss f r kw a A C none l full most (omega arith) top)
+            no-room e a here full (inr (most, inr top)) (nsert-sections st ss f r kw a A C none l full most (omega arith) top)
         go (no m) (no z) (no o) (yes c) =
             let most : length (olds a) ≡ I p = omega (arith, sec-room) in
-            both e a (A .is) full most (omega arith) c _
+            both e a here full most (omega arith) c (before st a) refl
             (nsert-both st ss f r kw a A C none l full (take j rs) (getD rs j []) (drop (suc j) rs) cut lx most (take i ns) (getD ns i (a .leaf)) (drop (suc i) ns) (split-at ns i (a .leaf) il) li (omega arith) c)
           where
             ns : List Leaf
@@ -124,7 +152,7 @@ module _ (st : State) (ss : List Section) (f : Free) (r : Ready (desc st .wpr) s
     new-key = go (decLt (length (a .leaf .records)) (D p))
       where
         go : Dec (length (a .leaf .records) < D p) → Nserted st ss f
-        go (yes less) = room e a (A .is) less (nsert-room st ss f r kw a A C none l less)
+        go (yes less) = room e a here less (nsert-room st ss f r kw a A C none l less)
         go (no n) = full-ways (omega (arith, leaf-ok p a f _ _ (A .held) .room))
 
   at : Looked (texts st) (st .session .flag) (keyIn (desc st) (st .work)) ss f → Nserted st ss f

@@ -114,7 +114,7 @@ module _ (st : State) (ss : List Section) (f : Free) (r : Ready (desc st .wpr) s
     high-length = omega (arith, size v a f (A .held) good (st .work) (work-ok st ss f r) full xs y ys cut lx nb, lx)
 
     -- the leaf becomes two
-    pub nsert-split : length (olds a) < I p → 1 ≤ freeCount f → Gives st ss (nsert st) (storedWith p (halfCount (D p) i) (taken f)) 7 (ins K (st .work) rows) aSplit
+    pub nsert-split : length (olds a) < I p → 1 ≤ freeCount f → Gives st ss (nsert st) (storedWith p (halfCount (D p) i) (taken f)) 7 (ins K (st .work) rows) aSplit (treeWith a (leaf₁ ∷ (leaf₂ ∷ []))) (taken f)
     unfolding insertDone splitFile splitMoves writes leafCell
     nsert-split less some =
         let n : ℕ = storedWith p (halfCount (D p) i) (taken f) in
@@ -144,7 +144,7 @@ module _ (st : State) (ss : List Section) (f : Free) (r : Ready (desc st .wpr) s
             ),
           ),
         ) in
-        subst (λ (z : Outcome). Gives st ss z n 7 (ins K (st .work) rows) aSplit) (sym (nsert-by st ss f r (Split (pathOf a) i (takenOf f) n) e (split-deed st ss f r kw a A C none l full less some) done))
+        subst (λ (z : Outcome). Gives st ss z n 7 (ins K (st .work) rows) aSplit (treeWith a (leaf₁ ∷ (leaf₂ ∷ []))) (taken f)) (sym (nsert-by st ss f r (Split (pathOf a) i (takenOf f) n) e (split-deed st ss f r kw a A C none l full less some) done))
         (two-gives st ss f (r .sound) (r .opened) kw a way A xs y ys nb asc ok₁ ok₂ refl some less ms ws ms-is fit (λ w. refl) (ins K (st .work) rows) now (ins-ended st ss f r kw a A C none l)
         (cond inLow (a .leaf .block) nb) (two-spot st ss f (r .sound) (r .opened) kw a way A xs y ys nb asc ok₁ ok₂ inLow) n 7 (cost ms 4 refl) aSplit
         (grow-from p ss (treeOf a) _ aSplit (A .is) (grow-split p good a leaf₁ leaf₂ full low-length high-length)))
@@ -185,7 +185,7 @@ module _ (st : State) (ss : List Section) (f : Free) (r : Ready (desc st .wpr) s
       all-ok : All (LeafOk p) (us ++ zs)
       all-ok = rw joined (news-ok v a f (A .held) good (st .work) (work-ok st ss f r) full xs y ys cut lx nb)
 
-      pub nsert-both : 2 ≤ freeCount f → length ss < p .control → Gives st ss (nsert st) (storedWith p (halfCount (D p) i) (taken (taken f))) 8 (ins K (st .work) rows) bothSplit
+      pub nsert-both : 2 ≤ freeCount f → length ss < p .control → Gives st ss (nsert st) (storedWith p (halfCount (D p) i) (taken (taken f))) 8 (ins K (st .work) rows) bothSplit (a .before ++ (sec (a .index) us ∷ (sec nib zs ∷ a .behind))) (taken (taken f))
       unfolding insertDone bothFile bothMoves writes leafCell
       nsert-both two c =
           let n : ℕ = storedWith p (halfCount (D p) i) (taken (taken f)) in
@@ -228,7 +228,7 @@ module _ (st : State) (ss : List Section) (f : Free) (r : Ready (desc st .wpr) s
           ∙ master-entered p good (a .before) (sec (a .index) (olds a)) (a .behind) (A .held .sized) f₂ rest (sec (a .index) us) (sec nib zs)
           (record { some = a₁; room = a₂; leaves = all-left (LeafOk p) us _ all-ok })
           (last-cut st ss f (r .sound) (r .opened) kw a way A xs y ys nb asc ok₁ ok₂ nib us zs joined a₁ a₂ b₁ b₂) (rw (← A .is) c) in
-          subst (λ (z : Outcome). Gives st ss z n 8 (ins K (st .work) rows) bothSplit) (sym (nsert-by st ss f r (Both (pathOf a) i nb (takenOf (taken f)) n) e (both-deed st ss f r kw a A C none l full most two c) done))
+          subst (λ (z : Outcome). Gives st ss z n 8 (ins K (st .work) rows) bothSplit (a .before ++ (sec (a .index) us ∷ (sec nib zs ∷ a .behind))) (taken (taken f))) (sym (nsert-by st ss f r (Both (pathOf a) i nb (takenOf (taken f)) n) e (both-deed st ss f r kw a A C none l full most two c) done))
           (four-gives st ss f (r .sound) (r .opened) kw a way A xs y ys nb asc ok₁ ok₂ nib us zs joined a₁ a₂ b₁ b₂ refl refl two (rw (← A .is) c) ms ws ms-is fit (λ w. refl) op law
           (ins K (st .work) rows) (ap contents (leaves-cut st ss f (r .sound) (r .opened) kw a way A xs y ys nb asc ok₁ ok₂ nib us zs joined a₁ a₂ b₁ b₂) ∙ now) (ins-ended st ss f r kw a A C none l)
           d (half-spot st ss f (r .sound) (r .opened) kw a way A xs y ys nb asc ok₁ ok₂ nib us zs joined a₁ a₂ b₁ b₂ inLow) n 8 (cost ms 5 refl) bothSplit

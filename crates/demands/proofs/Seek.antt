@@ -24,7 +24,7 @@ use Rattle.layout.specs.Tree.{Section}
 use Rattle.demands.proofs.Trees.{leavesOf, contents, key, table}
 use Rattle.demands.proofs.Holds.{Free, LeafOk, RowOk}
 use Rattle.demands.proofs.Steps.{withRows}
-use Rattle.demands.proofs.Places.{lo, hi, leaf-ok, asc-leaf, upd-here, treeOf}
+use Rattle.demands.proofs.Places.{lo, hi, leaf-ok, asc-leaf, upd-here, treeOf, treeWith}
 use Rattle.demands.proofs.Blocks.{writes}
 use Rattle.demands.proofs.Paths.{pathOf}
 use Rattle.demands.proofs.Records.{row-here, record-replace, upd-at, ended-upd}
@@ -38,18 +38,16 @@ use Rattle.demands.proofs.Changes.{grow-less}
 
 -- ---- CLOSE
 
-pub close-right : (st : State) (ss : List Section) (f : Free) → Sound st ss f → st .session .opened ≡ true → Gives st ss (close st) done 1 (contents (leavesOf ss)) nothing
+pub close-right : (st : State) (ss : List Section) (f : Free) → Sound st ss f → st .session .opened ≡ true → Gives st ss (close st) done 1 (contents (leavesOf ss)) nothing ss f
 unfolding close closeDone closeChecks atRest writes
 close-right st ss f h o =
     let moves : List Transfer = flushMoves (texts st) (st .session .flag) in
     let out : close st ≡ record { number = done; transfers = moves; after = record { session = atRest false (st .session); file = written (desc st) moves (st .file); buffer = st .buffer; work = st .work } }
     = simp (sizes-pass st ss f h, open-pass st o, flush-pass (texts st) (st .session .flag) ss f (h .kept)) in
-    subst (λ (z : Outcome). Gives st ss z done 1 (contents (leavesOf ss)) nothing) (sym out) (record {
+    subst (λ (z : Outcome). Gives st ss z done 1 (contents (leavesOf ss)) nothing ss f) (sym out) (record {
       number-is = refl;
       most-is = flush-cost (texts st) (st .session .flag);
       desc-is = refl;
-      sections = ss;
-      free = f;
       sound = record {
         kept = subst (λ (m : List Transfer). Kept (record { desc = desc st; current = 0; file = written (desc st) m (st .file); buffer = st .buffer }) false ss f) (append-nil moves)
             (bring (texts st) (st .session .flag) ss f (h .kept) [] refl 0 (st .buffer) (inl (refl, h .kept .buffer-length)));
@@ -63,13 +61,13 @@ close-right st ss f h o =
 
 -- ---- SEEK: not found exactly where the key is not there; else the record is handed out
 
-abbrev pub SeekRight : State → List Section → Type 0
-SeekRight st ss =
-    ((hit (key (desc st .k)) (val (keyIn (desc st) (st .work))) (contents (leavesOf ss)) ≡ []) × Gives st ss (seek st) notFound 3 (contents (leavesOf ss)) nothing × (seek st .after .work ≡ st .work))
-    ⊎ ((x : List ℕ) × (hit (key (desc st .k)) (val (keyIn (desc st) (st .work))) (contents (leavesOf ss)) ≡ x ∷ []) × Gives st ss (seek st) done 3 (contents (leavesOf ss)) nothing × (seek st .after .work ≡ x))
+abbrev pub SeekRight : State → List Section → Free → Type 0
+SeekRight st ss f =
+    ((hit (key (desc st .k)) (val (keyIn (desc st) (st .work))) (contents (leavesOf ss)) ≡ []) × Gives st ss (seek st) notFound 3 (contents (leavesOf ss)) nothing ss f × (seek st .after .work ≡ st .work))
+    ⊎ ((x : List ℕ) × (hit (key (desc st .k)) (val (keyIn (desc st) (st .work))) (contents (leavesOf ss)) ≡ x ∷ []) × Gives st ss (seek st) done 3 (contents (leavesOf ss)) nothing ss f × (seek st .after .work ≡ x))
 
 module _ (st : State) (ss : List Section) (f : Free) (r : Ready (desc st .k) st ss f) where
-  seek-at : Looked (texts st) (st .session .flag) (keyIn (desc st) (st .work)) ss f → SeekRight st ss
+  seek-at : Looked (texts st) (st .session .flag) (keyIn (desc st) (st .work)) ss f → SeekRight st ss f
   unfolding seek seekSteps seekDone stopping outcome giving
   seek-at (absent a A C none gone l) =
       let v : Texts = texts st in
@@ -77,7 +75,7 @@ module _ (st : State) (ss : List Section) (f : Free) (r : Ready (desc st .k) st 
       let out : seek st ≡ outcome (st .session) (stopping notFound (st .work) here)
       = ready-pass st ss f (desc st .k) r (seekSteps v (st .session .flag) (st .work)) (stopping notFound (st .work) here) (simp l) in
       let back : Kept (leftBy v here) (here .flag) ss f = subst (λ (z : List Section). Kept (leftBy v here) (here .flag) z f) (sym (A .is)) (A .kept) in
-      inl (none, subst (λ (z : Outcome). Gives st ss z notFound 3 (contents (leavesOf ss)) nothing) (sym out) (stop-gives st ss f (r .sound) (r .opened) here 3 (way-cost v (st .session .flag) (By (pathOf a))) back notFound (st .work)), ap (λ (z : Outcome). z .after .work) out)
+      inl (none, subst (λ (z : Outcome). Gives st ss z notFound 3 (contents (leavesOf ss)) nothing ss f) (sym out) (stop-gives st ss f (r .sound) (r .opened) here 3 (way-cost v (st .session .flag) (By (pathOf a))) back notFound (st .work)), ap (λ (z : Outcome). z .after .work) out)
   seek-at (there a way A C bs x cs q k one l) =
       let v : Texts = texts st in
       let p : Description = desc st in
@@ -93,26 +91,26 @@ module _ (st : State) (ss : List Section) (f : Free) (r : Ready (desc st .k) st 
       inr (
         x,
         one,
-        subst (λ (z : Outcome). Gives st ss z done 3 (contents (leavesOf ss)) nothing) (sym out) (give-gives st ss f (r .sound) (r .opened) here 3 (way-cost v (st .session .flag) way) back done (length bs) true x at
+        subst (λ (z : Outcome). Gives st ss z done 3 (contents (leavesOf ss)) nothing ss f) (sym out) (give-gives st ss f (r .sound) (r .opened) here 3 (way-cost v (st .session .flag) way) back done (length bs) true x at
             (λ e. row-key p kr x (all-right (RowOk p) bs _ ok .0) (rw k (kw .below)))),
         ap (λ (z : Outcome). z .after .work) out ∙ at,
       )
 
-  pub seek-right : SeekRight st ss
+  pub seek-right : SeekRight st ss f
   seek-right =
       let kr : desc st .k ≤ desc st .wpr = good-facts (desc st) (r .sound .kept .good) .key in
       seek-at (looks (texts st) (st .session .flag) ss f (r .sound .kept) (keyIn (desc st) (st .work)) (key-of (desc st .k) st ss f r (omega arith) kr))
 
 -- ---- UPDAT: the record replaced
 
-abbrev pub UpdatRight : State → List Section → Type 0
-UpdatRight st ss =
-    ((hit (key (desc st .k)) (val (keyIn (desc st) (st .work))) (contents (leavesOf ss)) ≡ []) × Gives st ss (updat st) notFound 3 (contents (leavesOf ss)) nothing)
+abbrev pub UpdatRight : State → List Section → Free → Type 0
+UpdatRight st ss f =
+    ((hit (key (desc st .k)) (val (keyIn (desc st) (st .work))) (contents (leavesOf ss)) ≡ []) × Gives st ss (updat st) notFound 3 (contents (leavesOf ss)) nothing ss f)
     ⊎ ((x : List ℕ) × (hit (key (desc st .k)) (val (keyIn (desc st) (st .work))) (contents (leavesOf ss)) ≡ x ∷ [])
-    × Gives st ss (updat st) done 3 (upd (key (desc st .k)) (st .work) (contents (leavesOf ss))) nothing)
+    × (ss′ : List Section) × (f′ : Free) × Gives st ss (updat st) done 3 (upd (key (desc st .k)) (st .work) (contents (leavesOf ss))) nothing ss′ f′)
 
 module _ (st : State) (ss : List Section) (f : Free) (r : Ready (desc st .wpr) st ss f) (kw : Key (desc st) (keyIn (desc st) (st .work))) where
-  updat-at : Looked (texts st) (st .session .flag) (keyIn (desc st) (st .work)) ss f → UpdatRight st ss
+  updat-at : Looked (texts st) (st .session .flag) (keyIn (desc st) (st .work)) ss f → UpdatRight st ss f
   unfolding updat updatSteps updatDone
   updat-at (absent a A C none gone l) =
       let v : Texts = texts st in
@@ -120,7 +118,7 @@ module _ (st : State) (ss : List Section) (f : Free) (r : Ready (desc st .wpr) s
       let out : updat st ≡ outcome (st .session) (stopping notFound (st .work) here)
       = ready-pass st ss f (desc st .wpr) r (updatSteps v (st .session .flag) (st .work)) (stopping notFound (st .work) here) (simp l) in
       let back : Kept (leftBy v here) (here .flag) ss f = subst (λ (z : List Section). Kept (leftBy v here) (here .flag) z f) (sym (A .is)) (A .kept) in
-      inl (none, subst (λ (z : Outcome). Gives st ss z notFound 3 (contents (leavesOf ss)) nothing) (sym out) (stop-gives st ss f (r .sound) (r .opened) here 3 (way-cost v (st .session .flag) (By (pathOf a))) back notFound (st .work)))
+      inl (none, subst (λ (z : Outcome). Gives st ss z notFound 3 (contents (leavesOf ss)) nothing ss f) (sym out) (stop-gives st ss f (r .sound) (r .opened) here 3 (way-cost v (st .session .flag) (By (pathOf a))) back notFound (st .work)))
   updat-at (there a way A C bs x cs q k one l) =
       let v : Texts = texts st in
       let p : Description = desc st in
@@ -144,7 +142,9 @@ module _ (st : State) (ss : List Section) (f : Free) (r : Ready (desc st .wpr) s
       inr (
         x,
         one,
-        subst (λ (z : Outcome). Gives st ss z done 3 (upd K (st .work) (contents (leavesOf ss))) nothing) (sym out)
+        treeWith a (withRows p (a .leaf) (bs ++ st .work ∷ cs) ∷ []),
+        f,
+        subst (λ (z : Outcome). Gives st ss z done 3 (upd K (st .work) (contents (leavesOf ss))) nothing (treeWith a (withRows p (a .leaf) (bs ++ st .work ∷ cs) ∷ [])) f) (sym out)
             (store-gives st ss f (r .sound) (r .opened) here 3 (way-cost v (st .session .flag) way) a (A .kept) (A .current-is) (bs ++ st .work ∷ cs) (upd K (st .work) (contents (leavesOf ss))) t done (st .work) text
             (rw (← same) (asc-upd K (lo p a) (st .work) (a .leaf .records) (hi p a) asc (rw key-is (C .above)) (rw key-is (C .within))))
             (rw len (lk .some)) (rw len (lk .room))
@@ -155,7 +155,7 @@ module _ (st : State) (ss : List Section) (f : Free) (r : Ready (desc st .wpr) s
             (grow-from p ss (treeOf a) _ nothing (A .is) (grow-less p (r .sound .kept .good) a (withRows p (a .leaf) (bs ++ st .work ∷ cs)) (omega (arith, len))))),
       )
 
-pub updat-right : (st : State) (ss : List Section) (f : Free) → Ready (desc st .wpr) st ss f → UpdatRight st ss
+pub updat-right : (st : State) (ss : List Section) (f : Free) → Ready (desc st .wpr) st ss f → UpdatRight st ss f
 updat-right st ss f r =
     let kw : Key (desc st) (keyIn (desc st) (st .work)) = key-of (desc st .wpr) st ss f r (good-facts (desc st) (r .sound .kept .good) .key) (omega arith) in
     updat-at st ss f r kw (looks (texts st) (st .session .flag) ss f (r .sound .kept) (keyIn (desc st) (st .work)) kw)

@@ -105,7 +105,7 @@ module _ (v : Texts) (flag : Bool) (ss : List Section) (f : Free) (h : Kept v fl
   pub buffer-leaf : (s : Spot ss (v .current)) → v .buffer ≡ table (p .wpb) (s .place .leaf .records)
   buffer-leaf s = sym (text-current v) ∙ spot-text p _ (textOf v) ss f (v .current) (h .holds) s
 
-  clean-text : (c : ℕ) → 1 ≤ c → (flag ≡ true → c ≢ v .current) → blockAt p (v .file) c ≡ textOf v c
+  pub clean-text : (c : ℕ) → 1 ≤ c → (flag ≡ true → c ≢ v .current) → blockAt p (v .file) c ≡ textOf v c
   clean-text c l g = go (ℕ-discrete c (v .current)) flag refl
     where
       go : Dec (c ≡ v .current) → (t : Bool) → flag ≡ t → blockAt p (v .file) c ≡ textOf v c

@@ -71,7 +71,7 @@ module _ (p : Description) (kr : p .k ≤ p .wpr) (w : List ℕ) (kw : Key p w) 
 
   -- ---- what stands under a key, by words and by numbers
 
-  standing-same : (es : List told.Event) (d : List (List ℕ)) → All (KeyOf p) es → told.standing p w es d ≡ standing K (val w) (map numbered es) d
+  pub standing-same : (es : List told.Event) (d : List (List ℕ)) → All (KeyOf p) es → told.standing p w es d ≡ standing K (val w) (map numbered es) d
   unfolding told.standing standing numbered
   standing-same [] d h = refl
   standing-same (told.stored r ∷ es) d h =
@@ -79,7 +79,7 @@ module _ (p : Description) (kr : p .k ≤ p .wpr) (w : List ℕ) (kw : Key p w) 
       ∙ standing-same es _ (h .1)
   standing-same (told.removed y ∷ es) d h = ap (λ (t : Bool). told.standing p w es (cond t [] d)) (same-is y (h .0 .long) (h .0 .wide)) ∙ standing-same es _ (h .1)
 
-  events-keyed : (top : ℕ) → val (ones (p .k)) ≤ top → (es : List told.Event) → All (KeyOf p) es → Keyed K top (map numbered es)
+  pub events-keyed : (top : ℕ) → val (ones (p .k)) ≤ top → (es : List told.Event) → All (KeyOf p) es → Keyed K top (map numbered es)
   unfolding numbered
   events-keyed top l [] h = tt
   events-keyed top l (told.stored r ∷ es) h = (omega (arith, h .0 .below, work-key p r), events-keyed top l es (h .1))
@@ -136,7 +136,7 @@ rows-ok p [] h = tt
 rows-ok p (s ∷ ss) h = all-append (LeafOk p) (s .leaves) (leavesOf ss) (h .0 .leaves) (rows-ok p ss (h .1))
 
 -- a SEEK that is not refused hands out the record with its key, if there is one
-seek-hands : (st : State) (ss : List Section) (f : Free) (h : Sound st ss f) (w : List ℕ) → (answer st (seeking w) .number ≡ done) ⊎ (answer st (seeking w) .number ≡ notFound)
+pub seek-hands : (st : State) (ss : List Section) (f : Free) (h : Sound st ss f) (w : List ℕ) → (answer st (seeking w) .number ≡ done) ⊎ (answer st (seeking w) .number ≡ notFound)
     → Gate (lending w st) ss f (lent-sound w st ss f h) (desc st .k) → Key (desc st) (keyIn (desc st) w) × (handed (answer st (seeking w)) ≡ hit (key (desc st .k)) (val (keyIn (desc st) w)) (contents (leavesOf ss)))
 unfolding answer lending seek handed
 seek-hands st ss f h w u (stopped n ne ac nf e) = absurd (refuse u)
@@ -149,7 +149,7 @@ seek-hands st ss f h w u (stopped n ne ac nf e) = absurd (refuse u)
     refuse (inr d) = nf (sym is ∙ d)
 seek-hands st ss f h w u (ready r) = (key-of (desc st .k) (lending w st) ss f r (omega arith) (good-facts (desc st) (h .kept .good) .key), go (seek-right (lending w st) ss f r))
   where
-    go : SeekRight (lending w st) ss → handed (answer st (seeking w)) ≡ hit (key (desc st .k)) (val (keyIn (desc st) w)) (contents (leavesOf ss))
+    go : SeekRight (lending w st) ss f → handed (answer st (seeking w)) ≡ hit (key (desc st .k)) (val (keyIn (desc st) w)) (contents (leavesOf ss))
     go (inl (e, g, z)) = ap (λ (m : ℕ). cond (eqb m done) (answer st (seeking w) .after .work ∷ []) []) (g .number-is) ∙ sym e
     go (inr (y, e, g, z)) = ap (λ (m : ℕ). cond (eqb m done) (answer st (seeking w) .after .work ∷ []) []) (g .number-is) ∙ ap (λ (m : List ℕ). m ∷ []) z ∙ sym e
 

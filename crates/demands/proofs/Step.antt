@@ -52,8 +52,8 @@ pub record Leaves (p : Description) (o : Outcome) : Type 0 where
 abbrev pub Fine : Description → Outcome → Type 0
 Fine p o = (o .number ≡ badFile → ⊥) × Leaves p o
 
-fine : (st : State) (ss : List Section) (o : Outcome) (n most : ℕ) (rows : List (List ℕ)) (brought : Growth) → Gives st ss o n most rows brought → (n ≡ badFile → ⊥) → Fine (desc st) o
-fine st ss o n most rows brought g ne = (λ e. ne (sym (g .number-is) ∙ e), record { desc-is = g .desc-is; sections = g .sections; free = g .free; sound = g .sound })
+fine : (st : State) (ss : List Section) (o : Outcome) (n most : ℕ) (rows : List (List ℕ)) (brought : Growth) {ss′ : List Section} {f′ : Free} → Gives st ss o n most rows brought ss′ f′ → (n ≡ badFile → ⊥) → Fine (desc st) o
+fine st ss o n most rows brought {ss′} {f′} g ne = (λ e. ne (sym (g .number-is) ∙ e), record { desc-is = g .desc-is; sections = ss′; free = f′; sound = g .sound })
 
 stored-fine : (q : Bool) → cond q noneFree done ≡ badFile → ⊥
 stored-fine true e = omega arith
@@ -97,12 +97,12 @@ module _ (st : State) (ss : List Section) (f : Free) (h : Sound st ss f) where
   updat-step : Gate (desc st .wpr) → Fine (desc st) (updat st)
   unfolding updat
   updat-step (stopped n ne ac nf e) = stays (updat st) n ne (e (updatSteps (texts st) (st .session .flag) (st .work)))
-  updat-step (ready r) = either (updat-right st ss f r) (λ q. fine st ss (updat st) notFound 3 _ _ (q .1) (λ z. omega arith)) (λ q. fine st ss (updat st) done 3 _ _ (q .2) (λ z. omega arith))
+  updat-step (ready r) = either (updat-right st ss f r) (λ q. fine st ss (updat st) notFound 3 _ _ (q .1) (λ z. omega arith)) (λ q. fine st ss (updat st) done 3 _ _ (q .4) (λ z. omega arith))
 
   dlete-step : Gate (desc st .k) → Fine (desc st) (dlete st)
   unfolding dlete
   dlete-step (stopped n ne ac nf e) = stays (dlete st) n ne (e (dleteSteps (texts st) (st .session .flag) (st .work)))
-  dlete-step (ready r) = either (dlete-right st ss f r) (λ q. fine st ss (dlete st) notFound 3 _ _ (q .1) (λ z. omega arith)) (λ q. fine st ss (dlete st) done 6 _ _ (q .2) (λ z. omega arith))
+  dlete-step (ready r) = either (dlete-right st ss f r) (λ q. fine st ss (dlete st) notFound 3 _ _ (q .1) (λ z. omega arith)) (λ q. fine st ss (dlete st) done 6 _ _ (q .4) (λ z. omega arith))
 
   nsert-step : Gate (desc st .wpr) → Fine (desc st) (nsert st)
   unfolding nsert
@@ -112,8 +112,8 @@ module _ (st : State) (ss : List Section) (f : Free) (h : Sound st ss f) where
       go : Nserted st ss f → Fine (desc st) (nsert st)
       go (duplicate y e g) = fine st ss (nsert st) notFound 3 _ _ g (λ z. omega arith)
       go (room e a i l g) = fine st ss (nsert st) _ 3 _ _ g (stored-with (desc st) (length (a .leaf .records) + 1) f)
-      go (split e a i l m s k g) = fine st ss (nsert st) _ 7 _ _ g (stored-with (desc st) (halfCount (D (desc st)) k) (taken f))
-      go (both e a i l m s c k g) = fine st ss (nsert st) _ 8 _ _ g (stored-with (desc st) (halfCount (D (desc st)) k) (taken (taken f)))
+      go (split e a i l m s k q g) = fine st ss (nsert st) _ 7 _ _ g (stored-with (desc st) (halfCount (D (desc st)) k) (taken f))
+      go (both e a i l m s c k q g) = fine st ss (nsert st) _ 8 _ _ g (stored-with (desc st) (halfCount (D (desc st)) k) (taken (taken f)))
       go (no-room e a i l w g) = fine st ss (nsert st) noRoom 3 _ _ g (λ z. omega arith)
 
   xtend-step : Gate (desc st .wpr) → Fine (desc st) (xtend st)

@@ -39,13 +39,13 @@ module _ (st : State) (ss : List Section) (f : Free) (h : Sound st ss f) (o : st
   p = desc st
 
   -- "lookup done; workspace, position kept"
-  pub stop-gives : Kept (leftBy (texts st) r) (r .flag) ss f → (n : ℕ) (work : List ℕ) → Gives st ss (outcome (st .session) (stopping n work r)) n most (contents (leavesOf ss)) nothing
+  pub stop-gives : Kept (leftBy (texts st) r) (r .flag) ss f → (n : ℕ) (work : List ℕ) → Gives st ss (outcome (st .session) (stopping n work r)) n most (contents (leavesOf ss)) nothing ss f
   unfolding stopping
   stop-gives k n work = effect-gives st ss f h o (stopping n work r) ss f k most cost nothing (grow-none p ss) n (contents (leavesOf ss)) refl refl (λ e. absurd (let z : _≡_ {A = ℕ} 0 1 = cc in omega arith))
 
   -- "record to workspace, position = key"
   pub give-gives : Kept (leftBy (texts st) r) (r .flag) ss f → (n i : ℕ) (t : Bool) (x : List ℕ) → row (detailShape p) (r .buffer) i ≡ x → (t ≡ true → Key p (keyIn p x))
-      → Gives st ss (outcome (st .session) (giving (texts st) r n i t)) n most (contents (leavesOf ss)) nothing
+      → Gives st ss (outcome (st .session) (giving (texts st) r n i t)) n most (contents (leavesOf ss)) nothing ss f
   unfolding giving
   give-gives k n i t x e kw = effect-gives st ss f h o (giving (texts st) r n i t) ss f k most cost nothing (grow-none p ss) n (contents (leavesOf ss)) refl refl (λ q. subst (λ (z : List ℕ). Key p (keyIn p z)) (sym e) (kw q))
 
@@ -53,7 +53,7 @@ module _ (st : State) (ss : List Section) (f : Free) (h : Sound st ss f) (o : st
   pub store-gives : (a : Place) → Kept (leftBy (texts st) r) (r .flag) (treeOf a) f → r .current ≡ a .leaf .block → (rs new : List (List ℕ)) (t : List ℕ) (n : ℕ) (work : List ℕ)
       → t ≡ table (p .wpb) rs → Asc (key (p .k)) (lo p a) rs (hi p a) → 1 ≤ length rs → length rs ≤ D p → All (RowOk p) rs
       → contents (leavesOf (treeWith a (withRows p (a .leaf) rs ∷ []))) ≡ new → Ended p new → Key p (keyIn p work) → (brought : Growth) → Grows p ss (treeWith a (withRows p (a .leaf) rs ∷ [])) brought
-      → Gives st ss (outcome (st .session) (storing n work r t)) n most new brought
+      → Gives st ss (outcome (st .session) (storing n work r t)) n most new brought (treeWith a (withRows p (a .leaf) rs ∷ [])) f
   unfolding storing
   store-gives a k e rs new t n work et asc some room oks c z kw brought grew =
       let ok : LeafOk p (a .leaf) = leaf-ok p a f _ _ (k .holds) in

@@ -149,12 +149,12 @@ module _ (st : State) (ss : List Section) (f : Free) (r : Ready (desc st .wpr) s
       one false = omega arith
 
   -- 000005 and 070002: "last block reached; position kept"
-  pub stop-xtend : (x n : ℕ) → extendAt v flag w (L .way) ≡ passed (Stop (L .way) x n) → Gives st ss (xtend st) n 4 rows nothing
+  pub stop-xtend : (x n : ℕ) → extendAt v flag w (L .way) ≡ passed (Stop (L .way) x n) → Gives st ss (xtend st) n 4 rows nothing ss f
   unfolding extendDone reading
   stop-xtend x n e =
       let here : Reached = reached v flag (L .way) in
       let back : Kept (leftBy v here) (here .flag) ss f = subst (λ (z : List Section). Kept (leftBy v here) (here .flag) z f) (sym (L .at .is)) (L .at .kept) in
-      subst (λ (z : Outcome). Gives st ss z n 4 rows nothing) (sym (xtend-by (Stop (L .way) x n) (stopping n (st .work) (reading x here)) e refl))
+      subst (λ (z : Outcome). Gives st ss z n 4 rows nothing ss f) (sym (xtend-by (Stop (L .way) x n) (stopping n (st .work) (reading x here)) e refl))
       (stop-gives st ss f (r .sound) (r .opened) (reading x here) 4 (read-cost x) back n (st .work))
 
   -- ---- the record goes before the end record: its key is above all others there
@@ -186,7 +186,7 @@ module _ (st : State) (ss : List Section) (f : Free) (r : Ready (desc st .wpr) s
     grown-ended = ended-ins p kr rows _ (asc-rows p _ _ ss f held) (r .sound .kept .ended) (st .work) (rw key-is (kw .below))
 
     -- "Fewer than FD records: insert before the end record, flag on."
-    pub room-gives : size < FD p → (x : ℕ) → extendAt v flag w (L .way) ≡ roomDeed v (L .way) x → Gives st ss (xtend st) (storedWith p (size + 1) f) 4 (ins K (st .work) rows) aRecord
+    pub room-gives : size < FD p → (x : ℕ) → extendAt v flag w (L .way) ≡ roomDeed v (L .way) x → Gives st ss (xtend st) (storedWith p (size + 1) f) 4 (ins K (st .work) rows) aRecord (treeWith a (withRows p (L .leaf) (L .front ++ st .work ∷ (endRecord p ∷ [])) ∷ [])) f
     unfolding roomDeed extendDone reading FD
     room-gives less x e =
         let n : ℕ = storedWith p (size + 1) f in
@@ -201,7 +201,7 @@ module _ (st : State) (ss : List Section) (f : Free) (r : Ready (desc st .wpr) s
         let words : t ≡ table (p .wpb) rs
         = ap (λ (m : ℕ). inserted (detailShape p) m (recordIn p (st .work)) (here .buffer)) i ∙ ap (λ (y : List ℕ). inserted (detailShape p) (length (L .front)) y (here .buffer)) (work-is st ss f r)
         ∙ ap (inserted (detailShape p) (length (L .front)) (st .work)) buf ∙ record-insert p kr (L .front) (st .work) (endRecord p ∷ []) oks (r .work-length) fits in
-        subst (λ (z : Outcome). Gives st ss z n 4 (ins K (st .work) rows) aRecord) (sym (xtend-by (Room (L .way) x n) (storing n (st .work) (reading x here) t) deed refl))
+        subst (λ (z : Outcome). Gives st ss z n 4 (ins K (st .work) rows) aRecord (treeWith a (withRows p (L .leaf) (L .front ++ st .work ∷ (endRecord p ∷ [])) ∷ [])) f) (sym (xtend-by (Room (L .way) x n) (storing n (st .work) (reading x here) t) deed refl))
         (store-gives st ss f (r .sound) (r .opened) (reading x here) 4 (read-cost x) a (L .at .kept) (L .at .current-is) rs (ins K (st .work) rows) t n (st .work) words grown
         (omega (arith, len)) (omega (arith, len, full less)) (all-append (RowOk p) (L .front) _ (all-left (RowOk p) (L .front) _ oks) (work-ok st ss f r, all-right (RowOk p) (L .front) _ oks))
         (grown-contents (withRows p (L .leaf) rs ∷ []) (append-nil rs)) grown-ended kw aRecord
@@ -233,7 +233,7 @@ module _ (st : State) (ss : List Section) (f : Free) (r : Ready (desc st .wpr) s
         ∙ ap₂ (λ (t u : Bool). cond t (aloneDeed v w (L .way)) (cond (not u) (passed (Stop (L .way) 0 outOfSequence)) (cond (ltb size (FD p)) (roomDeed v (L .way) 0) (newDeed v flag (L .way)))))
         (ne-eqb size 1 (λ q. omega (arith, q, more))) high-key
 
-    pub xtend-five : val w ≤ K y → Gives st ss (xtend st) outOfSequence 4 rows nothing
+    pub xtend-five : val w ≤ K y → Gives st ss (xtend st) outOfSequence 4 rows nothing ss f
     xtend-five h = stop-xtend 0 outOfSequence (ordinary ∙ simp (le-ltb (K y) (val w) h))
 
     pub in-sequence : K y < val w → Asc K (lo p a) (L .front) (val w)
@@ -241,7 +241,7 @@ module _ (st : State) (ss : List Section) (f : Free) (r : Ready (desc st .wpr) s
         let b : Asc K (lo p a) (fr ++ y ∷ []) (K (endRecord p)) = subst (λ (u : List (List ℕ)). Asc K (lo p a) u (K (endRecord p))) e (cut-front K (lo p a) (L .front) (endRecord p) [] _ asc) in
         subst (λ (u : List (List ℕ)). Asc K (lo p a) u (val w)) (sym e) (asc-append K (lo p a) fr (K y) (y ∷ []) (val w) (cut-front K (lo p a) fr y [] _ b) (omega arith, h))
 
-    pub xtend-room : K y < val w → size < FD p → Gives st ss (xtend st) (storedWith p (size + 1) f) 4 (ins K (st .work) rows) aRecord
+    pub xtend-room : K y < val w → size < FD p → Gives st ss (xtend st) (storedWith p (size + 1) f) 4 (ins K (st .work) rows) aRecord (treeWith a (withRows p (L .leaf) (L .front ++ st .work ∷ (endRecord p ∷ [])) ∷ [])) f
     xtend-room h less = room-gives (in-sequence h) less 0 (ordinary ∙ simp (lt-ltb (K y) (val w) h, lt-ltb size (FD p) less))
 
     pub to-new : K y < val w → FD p ≤ size → extendAt v flag w (L .way) ≡ newDeed v flag (L .way)

@@ -25,14 +25,15 @@ use Rattle.rules.specs.State.{State, desc, texts, keyIn}
 use Rattle.rules.specs.Lookup.{textAt}
 use Rattle.rules.specs.Xtend.{roomDeed, notAboveBefore, aloneDeed, newDeed, extendAt}
 use Rattle.rules.specs.XtendDone.{xtend}
+use Rattle.layout.specs.Create.{endRecord}
 use Rattle.demands.proofs.Lists.{All, all-right, from-end}
 use Rattle.demands.proofs.Order.{Asc, ins}
 use Rattle.layout.specs.Tree.{Leaf, Section}
 use Rattle.demands.proofs.Trees.{leavesOf, leaves-append, contents, key, bd, reach, reach-append, indexText}
 use Rattle.demands.proofs.Holds.{Free, Holds, LeafOk, SectionOk, lastBound}
-use Rattle.demands.proofs.Steps.{sec}
+use Rattle.demands.proofs.Steps.{sec, withRows}
 use Rattle.demands.proofs.Locate.{reach-last}
-use Rattle.demands.proofs.Places.{Place, treeOf, lo, index-text, sec-ok}
+use Rattle.demands.proofs.Places.{Place, treeOf, lo, index-text, sec-ok, treeWith}
 use Rattle.demands.proofs.Find.{not-ltb}
 use Rattle.demands.proofs.Blocks.{masterOf}
 use Rattle.demands.proofs.Entries.{index-key, master-key, last-bounded}
@@ -130,12 +131,12 @@ module _ (st : State) (ss : List Section) (f : Free) (r : Ready (desc st .wpr) s
         ∙ ap (λ (m : Checked Path). m >>= (λ x. cond (notAboveBefore v w x) (passed (Stop (L .way) (x .index) outOfSequence)) (roomDeed v (L .way) (x .index)))) (path-of st ss f r kw L)
         ∙ ap (λ (t : Bool). cond t (passed (Stop (L .way) (L .index) outOfSequence)) (roomDeed v (L .way) (L .index))) before-test
 
-    pub alone-five : val w < lo p a → Gives st ss (xtend st) outOfSequence 4 rows nothing
+    pub alone-five : val w < lo p a → Gives st ss (xtend st) outOfSequence 4 rows nothing ss f
     alone-five h = stop-xtend st ss f r kw L (L .index) outOfSequence (to-alone ∙ simp (lt-ltb (val w) (lo p a) h))
 
     pub few : size < FD p
     few = omega (arith, one, caps p (good st ss f r kw L) .fd-least)
 
-    pub alone-room : lo p a ≤ val w → Gives st ss (xtend st) (storedWith p (size + 1) f) 4 (ins K (st .work) rows) aRecord
+    pub alone-room : lo p a ≤ val w → Gives st ss (xtend st) (storedWith p (size + 1) f) 4 (ins K (st .work) rows) aRecord (treeWith a (withRows p (L .leaf) (L .front ++ st .work ∷ (endRecord p ∷ [])) ∷ [])) f
     alone-room h =
         room-gives st ss f r kw L (subst (λ (z : List (List ℕ)). Asc K (lo p a) z (val w)) (sym alone) h) few (L .index) (to-alone ∙ simp (le-ltb (val w) (lo p a) h))

@@ -101,7 +101,7 @@ module _ (st : State) (ss : List Section) (f : Free) (r : Ready (desc st .wpr) s
   ls = lows st ss f r kw L
 
   module _ (room : length (L .low ++ (L .leaf ∷ [])) < FI (desc st)) where
-    pub new-none : freeCount f ≡ 0 → Gives st ss (xtend st) noRoom 4 rows nothing
+    pub new-none : freeCount f ≡ 0 → Gives st ss (xtend st) noRoom 4 rows nothing ss f
     unfolding newAt newWith
     new-none z = stop-xtend st ss f r kw L 0 noRoom (to-at ∙ simp (hs, ls, grant-none v f fo z, cnt, lt-ltb (length (L .low ++ (L .leaf ∷ []))) (FI p) room))
 
@@ -120,11 +120,11 @@ module _ (st : State) (ss : List Section) (f : Free) (r : Ready (desc st .wpr) s
         )
 
   module _ (most : FI (desc st) ≤ length (L .low ++ (L .leaf ∷ []))) where
-    pub both-none : freeCount f ≡ 0 → Gives st ss (xtend st) noRoom 4 rows nothing
+    pub both-none : freeCount f ≡ 0 → Gives st ss (xtend st) noRoom 4 rows nothing ss f
     unfolding newAt bothAfter bothWith
     both-none z = stop-xtend st ss f r kw L 0 noRoom (to-at ∙ simp (hs, ls, grant-none v f fo z, cnt, le-ltb (length (L .low ++ (L .leaf ∷ []))) (FI p) most))
 
-    pub both-few : freeCount f ≡ 1 → Gives st ss (xtend st) noRoom 4 rows nothing
+    pub both-few : freeCount f ≡ 1 → Gives st ss (xtend st) noRoom 4 rows nothing ss f
     unfolding newAt bothAfter bothWith
     both-few z =
         let some : 1 ≤ freeCount f = omega arith in
@@ -139,7 +139,7 @@ module _ (st : State) (ss : List Section) (f : Free) (r : Ready (desc st .wpr) s
           ne-eqb (next f) 0 (λ q. omega (arith, q, next-in p _ _ ss f hd some)),
         ))
 
-    pub both-sections : 2 ≤ freeCount f → p .control ≤ length ss → Gives st ss (xtend st) noRoom 4 rows nothing
+    pub both-sections : 2 ≤ freeCount f → p .control ≤ length ss → Gives st ss (xtend st) noRoom 4 rows nothing ss f
     unfolding newAt bothAfter bothWith
     both-sections two c =
         let some : 1 ≤ freeCount f = omega arith in

@@ -155,7 +155,7 @@ module _ (st : State) (ss : List Section) (f : Free) (r : Ready (desc st .wpr) s
   old-length = rw (length-append (L .front) (st .work ∷ [])) (omega (arith, size-is st ss f r kw L))
 
   -- the leaf becomes two
-  pub xtend-new : length (L .low ++ (L .leaf ∷ [])) < FI p → 1 ≤ freeCount f → Gives st ss (xtend st) (storedWith p n₀ (taken f)) 7 (ins K (st .work) rows) aStart
+  pub xtend-new : length (L .low ++ (L .leaf ∷ [])) < FI p → 1 ≤ freeCount f → Gives st ss (xtend st) (storedWith p n₀ (taken f)) 7 (ins K (st .work) rows) aStart (treeWith end (l₁ ∷ (l₂ ∷ []))) (taken f)
   unfolding extendDone newFile newMoves writes leafCell FI
   xtend-new room some =
       let n : ℕ = storedWith p n₀ (taken f) in
@@ -177,14 +177,14 @@ module _ (st : State) (ss : List Section) (f : Free) (r : Ready (desc st .wpr) s
           (high-fits st ss f (r .sound) (r .opened) kw end (L .way) (L .at) (L .front) (st .work) (endRecord p ∷ []) nb asc ok₁ ok₂ (next-in p _ _ ss f hd some), tt),
         ),
       ) in
-      subst (λ (z : Outcome). Gives st ss z n 7 (ins K (st .work) rows) aStart) (sym (xtend-by st ss f r kw L (New (L .way) (pathOf end) (takenOf f) n) (landing p n (st .work) moves nb file′) (new-deed st ss f r kw L fr y e higher full room some) refl))
+      subst (λ (z : Outcome). Gives st ss z n 7 (ins K (st .work) rows) aStart (treeWith end (l₁ ∷ (l₂ ∷ []))) (taken f)) (sym (xtend-by st ss f r kw L (New (L .way) (pathOf end) (takenOf f) n) (landing p n (st .work) moves nb file′) (new-deed st ss f r kw L fr y e higher full room some) refl))
       (two-gives st ss f (r .sound) (r .opened) kw end (L .way) (L .at) (L .front) (st .work) (endRecord p ∷ []) nb asc ok₁ ok₂ refl some room-index ms ws ms-is fit
       (λ x. simp (weigh-cons, weigh-nil) (omega arith)) (ins K (st .work) rows) now (grown-ended st ss f r kw L seq)
       nb (two-spot st ss f (r .sound) (r .opened) kw end (L .way) (L .at) (L .front) (st .work) (endRecord p ∷ []) nb asc ok₁ ok₂ false) n 7 (cost ms 4 refl) aStart
       (grow-from p ss (treeOf end) _ aStart (L .at .is) (grow-start p g end l₁ l₂ refl refl full old-length refl)))
 
   -- and a section begins
-  pub xtend-both : FI p ≤ length (L .low ++ (L .leaf ∷ [])) → 2 ≤ freeCount f → length ss < p .control → Gives st ss (xtend st) (storedWith p n₀ (taken (taken f))) 8 (ins K (st .work) rows) bothStart
+  pub xtend-both : FI p ≤ length (L .low ++ (L .leaf ∷ [])) → 2 ≤ freeCount f → length ss < p .control → Gives st ss (xtend st) (storedWith p n₀ (taken (taken f))) 8 (ins K (st .work) rows) bothStart (L .before ++ (sec (L .index) (L .low ++ (l₁ ∷ [])) ∷ (sec (next (taken f)) (l₂ ∷ []) ∷ []))) (taken (taken f))
   unfolding extendDone bothFile bothMoves writes leafCell
   xtend-both most two c =
       let n : ℕ = storedWith p n₀ (taken (taken f)) in
@@ -224,7 +224,7 @@ module _ (st : State) (ss : List Section) (f : Free) (r : Ready (desc st .wpr) s
       = λ rest. master-extended p g w (kw .long) (L .before) (sec (L .index) (L .low ++ (L .leaf ∷ []))) (L .at .held .sized) f₂ rest (sec (L .index) us) (sec nib zs)
       (lastBound-append [] (L .low) (l₁ ∷ []) ∙ bound-key) refl (bound-ones st ss f r kw L) (rw (← L .at .is) c) in
       let file′ : List ℕ = op (written p moves (withFree (headOr (f₂ .chain) 0) (f₂ .lowest) (st .file))) in
-      subst (λ (z : Outcome). Gives st ss z n 8 (ins K (st .work) rows) bothStart) (sym (xtend-by st ss f r kw L (Both (L .way) (pathOf end) nb (takenOf (taken f)) n) (landing p n (st .work) moves nb file′) (both-deed st ss f r kw L fr y e higher full most two c) refl))
+      subst (λ (z : Outcome). Gives st ss z n 8 (ins K (st .work) rows) bothStart (L .before ++ (sec (L .index) (L .low ++ (l₁ ∷ [])) ∷ (sec (next (taken f)) (l₂ ∷ []) ∷ []))) (taken (taken f))) (sym (xtend-by st ss f r kw L (Both (L .way) (pathOf end) nb (takenOf (taken f)) n) (landing p n (st .work) moves nb file′) (both-deed st ss f r kw L fr y e higher full most two c) refl))
       (four-gives st ss f (r .sound) (r .opened) kw end (L .way) (L .at) (L .front) (st .work) (endRecord p ∷ []) nb asc ok₁ ok₂ nib us zs joined a₁ a₂ b₁ b₂ refl refl two (rw (← L .at .is) c) ms ws ms-is fit
       (λ x. simp (weigh-cons, weigh-nil) (omega arith)) op law (ins K (st .work) rows)
       (ap contents (leaves-cut st ss f (r .sound) (r .opened) kw end (L .way) (L .at) (L .front) (st .work) (endRecord p ∷ []) nb asc ok₁ ok₂ nib us zs joined a₁ a₂ b₁ b₂) ∙ now) (grown-ended st ss f r kw L seq)

@@ -4,3 +4,14 @@ pub mod Promises
 pub mod Planned
 pub mod Contents
 pub mod Answers
+pub mod Durable
+pub mod Views
+pub mod Whole
+pub mod Mission
+pub mod Storing
+pub mod Routines
+pub mod Made
+pub mod Growing
+pub mod Story
+pub mod Lines
+pub mod Stuck

@@ -153,7 +153,7 @@ module _ (v : Texts) (flag : Bool) (key : List ℕ) where
   look-passed = search (chain, here-facts, outside-facts) depth 12
 
 -- ADV
-next-passed : (v : Texts) (w : Path) → Passed (PathFits v) (nextPath v w)
+pub next-passed : (v : Texts) (w : Path) → Passed (PathFits v) (nextPath v w)
 unfolding nextPath
 next-passed v w = search (chain, path-passed)
 
@@ -186,7 +186,7 @@ module _ (v : Texts) (flag : Bool) (at : List ℕ) where
       → require (ltb i (count (textOf v (x .detail)))) badFile ≡ passed z → StepFits v flag (step-is.Beyond w x i)
   step-beyond w x y z i e f l = (next-passed v w .holds x e, flush-due v flag y f, ltb-true _ _ (required _ badFile z l))
 
-  covering-fits : (placed : Bool) (w : Path) → cond placed (pathTo v at) (firstPath v) ≡ passed w → PathFits v w
+  pub covering-fits : (placed : Bool) (w : Path) → cond placed (pathTo v at) (firstPath v) ≡ passed w → PathFits v w
   covering-fits true w e = path-fits v _ _ at w e
   covering-fits false w e = path-fits v _ _ [] w e
 

@@ -3,6 +3,7 @@ pub mod BadFile
 pub mod Ends
 pub mod Refusals
 pub mod Fits
+pub mod Unbuffered
 pub mod Rooms
 pub mod Kept
 pub mod DleteKept
@@ -12,3 +13,7 @@ pub mod Lengths
 pub mod New
 pub mod OneResult
 pub mod Printed
+pub mod When
+pub mod Position
+pub mod Answering
+pub mod Occurs

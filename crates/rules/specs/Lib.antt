@@ -16,7 +16,11 @@ pub mod XtendDone
 pub mod Fits
 pub mod Told
 pub mod Requests
+pub mod Unbuffered
 pub mod Refusals
 pub mod Lengths
 pub mod Run
 pub mod Computing
+pub mod When
+pub mod Position
+pub mod Answering
