@@ -10,44 +10,48 @@ use Rattle.table.specs.Tables.{laid}
 use Rattle.drum.specs.declared.Description.{Description}
 use Rattle.drum.specs.Params.{start, fileSize, goodParams}
 
--- the words of block b in the file, and the file with the words t in block b
+-- the words of block b in the file, and the file with the words t in block b [P11]
 unfoldable pub blockAt : Description → List ℕ → ℕ → List ℕ
 blockAt p f b = part (start p b) (p .wpb) f
 
+-- the file with the words t in block b [P11]
 unfoldable pub putBlock : Description → List ℕ → ℕ → List ℕ → List ℕ
 putBlock p f b t = put f (start p b) t
 
--- "A transfer is one block read or written.": a block is read, or written with these words
+-- "A transfer is one block read or written.": a block is read, or written with these words [T1]
 pub data Transfer : Type 0 where
   Read : ℕ → Transfer
   Write : ℕ → List ℕ → Transfer
 
--- the file after a list of transfers
+-- the file after a list of transfers [T1]
 unfoldable pub written : Description → List Transfer → List ℕ → List ℕ
 written p [] f = f
 written p (Read b ∷ moves) f = written p moves f
 written p (Write b t ∷ moves) f = written p moves (putBlock p f b t)
 
--- whether a list of transfers writes block b: "no block of the file changes unless that list writes it"
+-- whether a list of transfers writes block b: "no block of the file changes unless that list writes it" [T4]
 unfoldable pub writes : List Transfer → ℕ → Bool
 writes [] b = false
 writes (Read c ∷ moves) b = writes moves b
 writes (Write c t ∷ moves) b = eqb b c || writes moves b
 
--- "word 0 sections in use, word 1 head of the free chain (0 none), word 2 lowest block never used (N+1 when none)"
+-- "word 0 sections in use, word 1 head of the free chain (0 none), word 2 lowest block never used (N+1 when none)" [L1]
 abbrev pub sections : List ℕ → ℕ
 sections f = getD f 0 0
 
+-- "word 1 head of the free chain (0 none)" [L2]
 abbrev pub chainHead : List ℕ → ℕ
 chainHead f = getD f 1 0
 
+-- "word 2 lowest block never used (N+1 when none)" [L3]
 abbrev pub lowestUnused : List ℕ → ℕ
 lowestUnused f = getD f 2 0
 
--- "Free block: word 0 the next free block or 0. All other words are 0": its text with that link, and the link in a text
+-- "Free block: word 0 the next free block or 0. All other words are 0": its text with that link, and the link in a text [L7, L8]
 unfoldable pub freeText : Description → ℕ → List ℕ
 freeText p link = laid (p .wpb) link []
 
+-- the link in the text of a free block [L7]
 abbrev pub linkIn : List ℕ → ℕ
 linkIn t = getD t 0 0
 
@@ -58,19 +62,20 @@ pub record Texts : Type 0 where
   pub file : List ℕ
   pub buffer : List ℕ
 
+-- the same, of the four things that it is made of
 abbrev pub seen : Description → ℕ → List ℕ → List ℕ → Texts
 seen p cur f b = record { desc = p; current = cur; file = f; buffer = b }
 
--- "Current text of a block: the buffer if it is the current block, else the file."
+-- "Current text of a block: the buffer if it is the current block, else the file." [S4, T5]
 unfoldable pub textOf : Texts → ℕ → List ℕ
 textOf v b = cond (eqb b (v .current)) (v .buffer) (blockAt (v .desc) (v .file) b)
 
--- what 020007 leaves to rely on: good parameters, and a file and a buffer of the right lengths
+-- what 020007 leaves to rely on: good parameters, and a file and a buffer of the right lengths [N1]
 pub record Fitting (p : Description) (f b : List ℕ) : Type 0 where
   pub good : goodParams p ≡ true
   pub file-is : length f ≡ fileSize p
   pub buffer-is : length b ≡ p .wpb
 
--- the number of a block: 1..N
+-- the number of a block: 1..N [P8]
 abbrev pub Block : Description → ℕ → Type 0
 Block p b = (1 ≤ b) × (b ≤ p .n)

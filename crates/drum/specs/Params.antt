@@ -6,30 +6,31 @@ use lib.Dec.{leb, eqb}
 use Rattle.table.specs.declared.Shape.{Shape}
 use Rattle.drum.specs.declared.Description.{Description}
 
--- "D = (WPB−1)/WPR", rounded down: records that a detail block holds
+-- "D = (WPB−1)/WPR", rounded down: records that a detail block holds [P4]
 unfoldable pub D : Description → ℕ
 D p = (p .wpb - 1) / p .wpr
 
--- "I = (WPB−1)/(K+1)", rounded down: entries that an index block holds
+-- "I = (WPB−1)/(K+1)", rounded down: entries that an index block holds [P5]
 unfoldable pub I : Description → ℕ
 I p = (p .wpb - 1) / (p .k + 1)
 
--- "FD = D−SPACE, FI = I−SPACE"
+-- "FD = D−SPACE, FI = I−SPACE" [P9]
 unfoldable pub FD : Description → ℕ
 FD p = D p - p .space
 
+-- "FI = I−SPACE" [P9]
 unfoldable pub FI : Description → ℕ
 FI p = I p - p .space
 
--- "the master, 3+CONTROL·(K+1) words made even"
+-- "the master, 3+CONTROL·(K+1) words made even" [P10]
 unfoldable pub masterSize : Description → ℕ
 masterSize p = let w = 3 + p .control * (p .k + 1) in w + w % 2
 
--- "The file is exactly the master .. then N blocks"
+-- "The file is exactly the master .. then N blocks" [P10]
 unfoldable pub fileSize : Description → ℕ
 fileSize p = masterSize p + p .n * p .wpb
 
--- "block b starts (b−1)·WPB words after the master"
+-- "block b starts (b−1)·WPB words after the master" [P11]
 unfoldable pub start : Description → ℕ → ℕ
 start p b = masterSize p + (b - 1) * p .wpb
 
@@ -38,11 +39,11 @@ unfoldable pub every : List Bool → Bool
 every [] = true
 every (t ∷ ts) = t && every ts
 
--- "Parameters", the most sections that CONTROL may allow
+-- "Parameters", the most sections that CONTROL may allow [P7]
 abbrev pub mostSections : ℕ
 mostSections = 4095
 
--- the table of ranges, a line each, with "D .. and I .., each at least 2"
+-- the table of ranges, a line each, with "D .. and I .., each at least 2" [P1, P2, P3, P4, P5, P6, P7, P8]
 unfoldable pub goodParams : Description → Bool
 goodParams p =
     every
@@ -55,18 +56,18 @@ goodParams p =
     ∷ leb 2 (p .n) ∷ leb (p .n) 262142
     ∷ [])
 
--- 020007 for file and buffer: "The file is exactly ..", "Buffer: exactly WPB words"
+-- 020007 for file and buffer: "The file is exactly ..", "Buffer: exactly WPB words" [P10, P12, N1]
 unfoldable pub sized : Description → ℕ → ℕ → Bool
 sized p file buffer = every (goodParams p ∷ eqb file (fileSize p) ∷ eqb buffer (p .wpb) ∷ [])
 
--- "Layout": "Master: .. Then entries: key and index block", from word 3 on
+-- "Layout": "Master: .. Then entries: key and index block", from word 3 on [L4]
 unfoldable pub masterShape : Description → Shape
 masterShape p = record { base = 3; stride = p .k + 1; width = p .k }
 
--- "Index block: word 0 count, then entries: key and detail block"
+-- "Index block: word 0 count, then entries: key and detail block" [L5]
 unfoldable pub indexShape : Description → Shape
 indexShape p = record { base = 1; stride = p .k + 1; width = p .k }
 
--- "Detail block: word 0 count, then records"
+-- "Detail block: word 0 count, then records" [L6, P3]
 unfoldable pub detailShape : Description → Shape
 detailShape p = record { base = 1; stride = p .wpr; width = p .k }

@@ -7,11 +7,11 @@ use Rattle.table.specs.Tables.{laid}
 use Rattle.drum.specs.declared.Description.{Description}
 use Rattle.drum.specs.Params.{masterSize}
 
--- "The last record of the file is the end record: key ONES, data 0."
+-- "The last record of the file is the end record: key ONES, data 0." [L14]
 unfoldable pub endRecord : Description → List ℕ
 endRecord p = ones (p .k) ++ zeros (p .wpr - p .k)
 
--- "CREATE writes master 1, 0, 3, ONES, 1; block 1: 1, ONES, 2; block 2: 1 and the end record; 0 elsewhere."
+-- "CREATE writes master 1, 0, 3, ONES, 1; block 1: 1, ONES, 2; block 2: 1 and the end record; 0 elsewhere." [L17]
 unfoldable pub created : Description → List ℕ
 created p =
     (1 ∷ 0 ∷ 3 ∷ (ones (p .k) ++ (1 ∷ zeros (masterSize p - 4 - p .k))))

@@ -23,36 +23,37 @@ All P (x ∷ xs) = P x × All P xs
 abbrev pub OneTo : ℕ → ℕ → Type 0
 OneTo most n = (1 ≤ n) × (n ≤ most)
 
--- "Index block: .. entries: key and detail block": the words of the entries
+-- "Index block: .. entries: key and detail block": the words of the entries [L5]
 unfoldable pub indexEntries : List Leaf → List ℕ
 indexEntries [] = []
 indexEntries (l ∷ ls) = l .bound ++ (l .block ∷ indexEntries ls)
 
--- "Master: .. entries: key and index block", and "An index block's last bound equals its master entry's.": the words of the entries
+-- "Master: .. entries: key and index block", and "An index block's last bound equals its master entry's.": the words of the entries [L4, L11]
 unfoldable pub masterEntries : List Section → List ℕ
 masterEntries [] = []
 masterEntries (s ∷ ss) = boundOf (s .leaves) ++ (s .block ∷ masterEntries ss)
 
 -- "word 0 sections in use, word 1 head of the free chain (0 none), word 2 lowest block never used .. Then entries .. All other words are 0"
+-- [L1, L2, L3, L4, L8]
 unfoldable pub masterText : Description → Tree → List ℕ
 masterText p t =
     let es = masterEntries (t .sections) in
     length (t .sections) ∷ headOf (t .chain) ∷ t .lowest ∷ (es ++ zeros (masterSize p - 3 - length es))
 
--- "Index block: word 0 count, then entries .. All other words are 0"
+-- "Index block: word 0 count, then entries .. All other words are 0" [L5, L8]
 abbrev pub IndexIn : Description → List ℕ → Section → Type 0
 IndexIn p f s = blockAt p f (s .block) ≡ laid (p .wpb) (length (s .leaves)) (indexEntries (s .leaves))
 
--- "Detail block: word 0 count, then records .. All other words are 0"
+-- "Detail block: word 0 count, then records .. All other words are 0" [L6, L8]
 abbrev pub DetailIn : Description → List ℕ → Leaf → Type 0
 DetailIn p f l = blockAt p f (l .block) ≡ laid (p .wpb) (length (l .records)) (flatten (l .records))
 
--- "Free block: word 0 the next free block or 0. All other words are 0": each block of a chain
+-- "Free block: word 0 the next free block or 0. All other words are 0": each block of a chain [L7, L8]
 unfoldable pub ChainIn : Description → List ℕ → List ℕ → Type 0
 ChainIn p f [] = Unit {0}
 ChainIn p f (b ∷ bs) = (blockAt p f b ≡ freeText p (headOf bs)) × ChainIn p f bs
 
--- "all are strictly ascending": each key is below the next
+-- "all are strictly ascending": each key is below the next [L13]
 unfoldable pub ascending : List (List ℕ) → Bool
 ascending [] = true
 ascending (a ∷ []) = true
@@ -62,7 +63,7 @@ ascending (a ∷ b ∷ ks) = keyLt a b && ascending (b ∷ ks)
 abbrev pub keysOf : Description → List (List ℕ) → List (List ℕ)
 keysOf p rs = map (take (p .k)) rs
 
--- one detail block under its bound; `before` has the bound before it, if there is one
+-- one detail block under its bound; `before` has the bound before it, if there is one [L6, L10, L13, L15]
 pub record LeafOk (p : Description) (before : List (List ℕ)) (l : Leaf) : Type 0 where
   -- "No block in use is empty.", and a block has room for D records
   pub counted : OneTo (D p) (length (l .records))
@@ -75,12 +76,12 @@ pub record LeafOk (p : Description) (before : List (List ℕ)) (l : Leaf) : Type
   -- "An entry's key is a bound: its block's keys are at most that"
   pub bounded : All (λ key. keyLe key (l .bound) ≡ true) (keysOf p (l .records))
 
--- "the bound before it": detail blocks in order, the bound of each before the next
+-- "the bound before it": detail blocks in order, the bound of each before the next [L10]
 unfoldable pub LeavesOk : Description → List (List ℕ) → List Leaf → Type 0
 LeavesOk p before [] = Unit {0}
 LeavesOk p before (l ∷ ls) = LeafOk p before l × LeavesOk p (l .bound ∷ []) ls
 
--- "Such a file opens.": what it is that opens
+-- "Such a file opens.": what it is that opens [L1, L9, L12, L14, L15, L16]
 pub record Holds (p : Description) (f : List ℕ) (t : Tree) : Type 0 where
   -- "The file is exactly the master, .. then N blocks"
   pub size : length f ≡ fileSize p
@@ -116,6 +117,6 @@ pub record Holds (p : Description) (f : List ℕ) (t : Tree) : Type 0 where
   -- "word 2 lowest block never used (N+1 when none)"
   pub lowest : OneTo (suc (p .n)) (t .lowest)
 
--- "Such a file opens.": the file is as under Layout
+-- "Such a file opens.": the file is as under Layout [L16]
 unfoldable pub WellFormed : Description → List ℕ → Type 0
 WellFormed p f = (t : Tree) × Holds p f t

@@ -30,43 +30,43 @@ lastRow a stride n = a + (n - 1) * stride
 unfoldable pub above : Description → List ℕ → ℕ → ℕ → Bool
 above p f low a = eqb low 0 || keyLt (keyIn p f low) (keyIn p f a)
 
--- "all are strictly ascending": the keys of the n rows from place a on, the first above the one at `low`
+-- "all are strictly ascending": the keys of the n rows from place a on, the first above the one at `low` [L13]
 unfoldable pub ascends : Description → List ℕ → ℕ → ℕ → ℕ → ℕ → Bool
 ascends p f stride low a zero = true
 ascends p f stride low a (suc n) = above p f low a && ascends p f stride a (a + stride) n
 
--- "The last record of the file is the end record: key ONES, data 0": under the bound ONES, which only the last bound can be, the last record is that
+-- "The last record of the file is the end record: key ONES, data 0": under the bound ONES, which only the last bound can be, the last record is that [L14]
 unfoldable pub endOk : Description → List ℕ → ℕ → ℕ → Bool
 endOk p f e r = not (isOnes (keyIn p f e)) || (isOnes (keyIn p f r) && allAre 0 (part (r + p .k) (p .wpr - p .k) f))
 
--- "its block's keys are at most that [bound], and above the bound before it": the n records from place a on, under the entry at e
+-- "its block's keys are at most that [bound], and above the bound before it": the n records from place a on, under the entry at e [L10]
 unfoldable pub recordsOk : Description → List ℕ → ℕ → ℕ → ℕ → ℕ → Bool
 recordsOk p f low e a n =
     let r = lastRow a (p .wpr) n in
     ascends p f (p .wpr) low a n && (keyLe (keyIn p f r) (keyIn p f e) && endOk p f e r)
 
--- "word 0 count", "No block in use is empty", "All other words are 0": the count of the rows in the block that starts at s
+-- "word 0 count", "No block in use is empty", "All other words are 0": the count of the rows in the block that starts at s [L8, L15]
 unfoldable pub rowsIn : Description → List ℕ → ℕ → ℕ → ℕ → Checked ℕ
 rowsIn p f most stride s = do
   n ← within 1 most (getD f s 0)
   require (allAre 0 (part (s + (1 + n * stride)) (p .wpb - (1 + n * stride)) f)) badFile
   passed n
 
--- the marks with m for block b, which had none: "reached once from the master, or on the chain once .. and only one of these"
+-- the marks with m for block b, which had none: "reached once from the master, or on the chain once .. and only one of these" [L16, S6]
 unfoldable pub marked : ℕ → ℕ → List ℕ → Checked (List ℕ)
 marked m b marks = do
   within 1 (length marks) b
   require (eqb (getD marks (b - 1) 0) 0) badFile
   passed (set marks (b - 1) m)
 
--- the n entries from place e on, one by one: each is above the one before, and its place is the next one's `low`
+-- the n entries from place e on, one by one: each is above the one before, and its place is the next one's `low` [L13]
 unfoldable pub through : (ℕ → ℕ → List ℕ → Checked (List ℕ)) → ℕ → ℕ → ℕ → ℕ → List ℕ → Checked (List ℕ)
 through step stride low e zero marks = passed marks
 through step stride low e (suc n) marks = do
   ms ← step low e marks
   through step stride e (e + stride) n ms
 
--- the detail block under the entry at place e
+-- the detail block under the entry at place e [L6]
 unfoldable pub detailHeld : Description → List ℕ → ℕ → ℕ → List ℕ → Checked (List ℕ)
 detailHeld p f low e marks = do
   ms ← marked 1 (named p f e) marks
@@ -75,7 +75,7 @@ detailHeld p f low e marks = do
   require (recordsOk p f low e (s + 1) n) badFile
   passed ms
 
--- the index block under the master's entry at place e: "An index block's last bound equals its master entry's."
+-- the index block under the master's entry at place e: "An index block's last bound equals its master entry's." [L5, L11]
 unfoldable pub indexHeld : Description → List ℕ → ℕ → ℕ → List ℕ → Checked (List ℕ)
 indexHeld p f low e marks = do
   ms ← marked 1 (named p f e) marks
@@ -84,7 +84,7 @@ indexHeld p f low e marks = do
   require (sameKey (keyIn p f (lastRow (s + 1) (p .k + 1) n)) (keyIn p f e)) badFile
   through (detailHeld p f) (p .k + 1) low (s + 1) n ms
 
--- the chain from block b on: "Free block: word 0 the next free block or 0. All other words are 0". It has at most `fuel` blocks
+-- the chain from block b on: "Free block: word 0 the next free block or 0. All other words are 0". It has at most `fuel` blocks [L7, L8]
 unfoldable pub chainHeld : Description → List ℕ → ℕ → ℕ → List ℕ → Checked (List ℕ)
 chainHeld p f zero b marks = elim (eqb b 0) [ true ↦ passed marks | false ↦ refused badFile ]
 chainHeld p f (suc fuel) b marks = elim (eqb b 0) [
@@ -95,12 +95,12 @@ chainHeld p f (suc fuel) b marks = elim (eqb b 0) [
     chainHeld p f fuel (getD f (start p b) 0) ms
 ]
 
--- "Every block 1..N is reached .., or on the chain .., or at or above word 2, and only one of these"; those never used are 0
+-- "Every block 1..N is reached .., or on the chain .., or at or above word 2, and only one of these"; those never used are 0 [L16, L8]
 unfoldable pub restOk : Description → List ℕ → ℕ → List ℕ → Bool
 restOk p f lowest marks =
     noneIs 0 (take (lowest - 1) marks) && (allAre 0 (drop (lowest - 1) marks) && allAre 0 (drop (start p lowest) f))
 
--- the master's words behind its n entries are 0, and "The last bound is ONES."
+-- the master's words behind its n entries are 0, and "The last bound is ONES." [L4, L8, L12]
 unfoldable pub masterOk : Description → List ℕ → ℕ → Bool
 masterOk p f n =
     let behind = 3 + n * (p .k + 1) in
@@ -115,7 +115,7 @@ walked p f = do
   require (restOk p f (lowestUnused f) marks) badFile
   passed marks
 
--- the marks of a file that is as under Layout: 1 reached, 2 chained, 0 never used
+-- the marks of a file that is as under Layout: 1 reached, 2 chained, 0 never used [N5, S6, L9]
 unfoldable pub layoutMarks : Description → List ℕ → Checked (List ℕ)
 layoutMarks p f = do
   require (allWords f) badFile  -- "none is above 262143"

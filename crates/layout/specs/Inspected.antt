@@ -25,7 +25,7 @@ pub record Fit (p : Description) (f : List ℕ) : Type 0 where
   pub good : goodParams p ≡ true
   pub size : length f ≡ fileSize p
 
--- the marks that the inspector leaves: "answering 070003 it leaves all 0"
+-- the marks that the inspector leaves: "answering 070003 it leaves all 0" [S6]
 unfoldable pub leftMarks : ℕ → Checked (List ℕ) → List ℕ
 leftMarks n (refused m) = zeros n
 leftMarks n (passed ms) = ms

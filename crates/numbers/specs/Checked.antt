@@ -6,7 +6,7 @@ use lib.Dec.{leb}
 use Rattle.numbers.specs.Numbers.{badFile}
 
 infixl 20 _>>=_ _>>_
--- a step's answer: refused with a number, or passed with a value
+-- a step's answer: refused with a number, or passed with a value [N5]
 pub data Checked (A : Type 0) : Type 0 where
   refused : ℕ → Checked A
   passed : A → Checked A
@@ -16,6 +16,7 @@ abbrev pub _>>=_ : {A B : Type 0} → Checked A → (A → Checked B) → Checke
 refused n >>= rest = refused n
 passed a >>= rest = rest a
 
+-- a step, and then the rest, where the step's value is not wanted
 abbrev pub _>>_ : {A B : Type 0} → Checked A → Checked B → Checked B
 refused n >> rest = refused n
 passed a >> rest = rest
@@ -29,10 +30,10 @@ require false n = refused n
 abbrev pub between : ℕ → ℕ → ℕ → Bool
 between lo hi x = leb lo x && leb x hi
 
--- the number x if it is one of lo..hi, else it is a bad number
+-- the number x if it is one of lo..hi, else it is a bad number [B1, B2]
 abbrev pub within : ℕ → ℕ → ℕ → Checked ℕ
 within lo hi x = require (between lo hi x) badFile >> passed x
 
--- the number x if it is one of 0..hi, else it is a bad number
+-- the number x if it is one of 0..hi, else it is a bad number [B2]
 abbrev pub upTo : ℕ → ℕ → Checked ℕ
 upTo hi x = require (leb x hi) badFile >> passed x

@@ -10,17 +10,18 @@ use Rattle.words.specs.Keys.{isOnes}
 use Rattle.drum.specs.Params.{sized}
 use Rattle.rules.specs.State.{State, desc, keyIn}
 
--- 020007: "parameter or slice length wrong", of file and buffer; "Workspace: WPR"
+-- 020007: "parameter or slice length wrong", of file and buffer; "Workspace: WPR" [N1, P10, P12]
 unfoldable pub sizesOk : State → Checked Bool
 sizesOk st = require (sized (desc st) (length (st .file)) (length (st .buffer))) wrongSize
 
+-- 020007: "Workspace: WPR" [N1, P12]
 unfoldable pub workOk : State → Checked Bool
 workOk st = require (eqb (length (st .work)) (desc st .wpr)) wrongSize
 
--- 020005: "other call, closed"
+-- 020005: "other call, closed" [N3]
 unfoldable pub isOpen : State → Checked Bool
 isOpen st = require (st .session .opened) isClosed
 
--- 030001: "workspace word it reads above 262143, or key ONES (SEEK, DLETE read the key only)"
+-- 030001: "workspace word it reads above 262143, or key ONES (SEEK, DLETE read the key only)" [N4]
 unfoldable pub keyOk : ℕ → State → Checked Bool
 keyOk reads st = require (allWords (part 0 reads (st .work)) && not (isOnes (keyIn (desc st) (st .work)))) wrongKey

@@ -12,7 +12,7 @@ use Rattle.drum.specs.Blocks.{Texts, textOf, linkIn}
 use Rattle.rules.specs.declared.Path.{Path}
 use Rattle.rules.specs.declared.Taken.{Taken}
 
--- whether no block is free, with these words 1 and 2: the chain is empty and word 2 is N+1 ("word 2 may be N+1, a chain link 0")
+-- whether no block is free, with these words 1 and 2: the chain is empty and word 2 is N+1 ("word 2 may be N+1, a chain link 0") [B9, N9]
 unfoldable pub noneLeft : Description → ℕ → ℕ → Checked Bool
 noneLeft p head lowest = do
   upTo (p .n) head
@@ -21,7 +21,7 @@ noneLeft p head lowest = do
     passed (ltb (p .n) lowest))
       (passed false)
 
--- one new block (0: none is free), and words 1 and 2 then: the chain's head, whose link becomes the head; else the lowest never used
+-- one new block (0: none is free), and words 1 and 2 then: the chain's head, whose link becomes the head; else the lowest never used [C32, B9]
 unfoldable pub granted : Texts → ℕ → ℕ → Checked Taken
 granted v head lowest = do
   none ← noneLeft (v .desc) head lowest
@@ -31,11 +31,11 @@ granted v head lowest = do
         passed (record { block = head; head = link; lowest = lowest })))
 
 -- "a new block equal to any other block in the call's list of transfers" is bad: those are the index block and the detail block of the way,
--- and the current block if it is written
+-- and the current block if it is written [B5]
 abbrev pub isNew : ℕ → Bool → Path → ℕ → Bool
 isNew cur flag w b = not (eqb b (w .index)) && (not (eqb b (w .detail)) && not (flag && eqb b cur))
 
--- "stored; the record's block now holds D and no block is free": 070001, else 0
+-- "stored; the record's block now holds D and no block is free": 070001, else 0 [N9, B9]
 unfoldable pub storedNumber : Description → ℕ → ℕ → ℕ → Checked ℕ
 storedNumber p n head lowest =
     cond (eqb n (D p)) (do
@@ -43,6 +43,6 @@ storedNumber p n head lowest =
       passed (cond none noneFree done))
     (passed done)
 
--- the file with these words 1 and 2
+-- the file with these words 1 and 2 [L2, L3]
 unfoldable pub withFree : ℕ → ℕ → List ℕ → List ℕ
 withFree head lowest f = set (set f 1 head) 2 lowest

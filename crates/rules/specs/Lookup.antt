@@ -18,7 +18,7 @@ use Rattle.rules.specs.State.{Effect}
 use Rattle.rules.specs.Paths.{pathTo}
 
 -- "While current is 0 no block is buffered, and every test of the buffer's keys below fails, whatever its words": else the test, made on a
--- block whose number and count are checked
+-- block whose number and count are checked [S3, B2]
 unfoldable pub onBuffer : Texts → Bool → Checked Bool
 onBuffer v test =
     cond (eqb (v .current) 0) (passed false) (do
@@ -26,34 +26,35 @@ onBuffer v test =
       within 1 (D (v .desc)) (count (v .buffer))
       passed test)
 
--- the block that a flagged buffer is written to has a good number
+-- the block that a flagged buffer is written to has a good number [B2]
 abbrev pub flushOk : Texts → Bool → Bool
 flushOk v flag = not flag || between 1 (v .desc .n) (v .current)
 
--- "Key in the buffered block: 0."
+-- "Key in the buffered block: 0." [C1]
 unfoldable pub inBuffer : Texts → List ℕ → Checked Bool
 inBuffer v key = onBuffer v (ltb (rowWith (detailShape (v .desc)) key (v .buffer)) (count (v .buffer)))
 
--- where the key is in the block at the end of the way w
+-- where the key is in the block at the end of the way w [C2]
 abbrev pub lookAt : Texts → List ℕ → Path → Look
 lookAt v key w =
     let t = textOf v (w .detail) in
     let i = rowWith (detailShape (v .desc)) key t in
     cond (ltb i (count t)) (Found (By w) i) (Missing w)
 
--- "Else write the buffer if flagged (1) ..; read the index block .. (1); read the detail block .. (1)."
+-- "Else write the buffer if flagged (1) ..; read the index block .. (1); read the detail block .. (1)." [C2]
 unfoldable pub lookOutside : Texts → Bool → List ℕ → Checked Look
 lookOutside v flag key = do
   w ← pathTo v key
   require (flushOk v flag) badFile
   passed (lookAt v key w)
 
+-- the lookup: in the buffered block, or else outside [C1, C2]
 unfoldable pub look : Texts → Bool → List ℕ → Checked Look
 look v flag key = do
   here ← inBuffer v key
   cond here (passed (Found Here (rowWith (detailShape (v .desc)) key (v .buffer)))) (lookOutside v flag key)
 
--- "write the buffer if flagged (1)"
+-- "write the buffer if flagged (1)" [T6]
 unfoldable pub flushMoves : Texts → Bool → List Transfer
 flushMoves v flag = cond flag (Write (v .current) (v .buffer) ∷ []) []
 
@@ -65,7 +66,7 @@ pub record Reached : Type 0 where
   pub buffer : List ℕ
   pub moves : List Transfer
 
--- "write the buffer if flagged (1) and clear the flag", then some blocks are read, b the last: its current text is in the buffer
+-- "write the buffer if flagged (1) and clear the flag", then some blocks are read, b the last: its current text is in the buffer [T5, T6]
 unfoldable pub bringing : Texts → Bool → ℕ → List Transfer → Reached
 bringing v flag b reads = record {
   file = written (v .desc) (flushMoves v flag ++ reads) (v .file);
@@ -75,7 +76,7 @@ bringing v flag b reads = record {
   moves = flushMoves v flag ++ reads;
 }
 
--- a block reached on its way: nothing moves, or "write the buffer if flagged ..; read the index block ..; read the detail block .."
+-- a block reached on its way: nothing moves, or "write the buffer if flagged ..; read the index block ..; read the detail block .." [C2, T3]
 unfoldable pub reached : Texts → Bool → Way → Reached
 reached v flag Here = record { file = v .file; current = v .current; flag = flag; buffer = v .buffer; moves = [] }
 reached v flag (By w) = bringing v flag (w .detail) (Read (w .index) ∷ Read (w .detail) ∷ [])
@@ -85,7 +86,7 @@ abbrev pub textAt : Texts → Way → List ℕ
 textAt v Here = v .buffer
 textAt v (By w) = textOf v (w .detail)
 
--- the call ends as the steps left things: "lookup done; workspace, position kept"
+-- the call ends as the steps left things: "lookup done; workspace, position kept" [N6, N7, N8]
 unfoldable pub stopping : ℕ → List ℕ → Reached → Effect
 stopping number work r = record {
   number = number;
@@ -98,7 +99,7 @@ stopping number work r = record {
   work = work;
 }
 
--- the call stores in the buffered block, which is then t: "flag on, position = key"
+-- the call stores in the buffered block, which is then t: "flag on, position = key" [C4, C11, C17, C26, C33]
 unfoldable pub storing : ℕ → List ℕ → Reached → List ℕ → Effect
 storing number work r t = record {
   number = number;
@@ -111,7 +112,7 @@ storing number work r t = record {
   work = work;
 }
 
--- the call has written blocks anew, and then holds block b of the file f: "The buffer then holds .., flag off.", position = key
+-- the call has written blocks anew, and then holds block b of the file f: "The buffer then holds .., flag off.", position = key [C16, C30, C33]
 unfoldable pub landing : Description → ℕ → List ℕ → List Transfer → ℕ → List ℕ → Effect
 landing p number work moves b f = record {
   number = number;

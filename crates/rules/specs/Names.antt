@@ -11,7 +11,7 @@ abbrev pub blockOf : Transfer → ℕ
 blockOf (Read b) = b
 blockOf (Write b t) = b
 
--- whether a transfer of the list is of block b
+-- whether a transfer of the list is of block b [B5]
 unfoldable pub names : List Transfer → ℕ → Bool
 names [] b = false
 names (m ∷ l) b = eqb b (blockOf m) || names l b

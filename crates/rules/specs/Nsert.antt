@@ -20,17 +20,17 @@ use Rattle.rules.specs.declared.Insert.the-variants.{Stop, Room, Split, 
 use Rattle.rules.specs.Lookup.{look}
 use Rattle.rules.specs.Free.{granted, isNew, storedNumber}
 
--- how many records the half has in which the one put in at place i of n falls
+-- how many records the half has in which the one put in at place i of n falls [C12]
 abbrev pub halfCount : ℕ → ℕ → ℕ
 halfCount n i = cond (ltb i (lowCount n)) (lowCount n) (n + 1 - lowCount n)
 
--- "if the block has room, insert": at place i
+-- "if the block has room, insert": at place i [C11]
 unfoldable pub roomDeed : Texts → Path → ℕ → Checked Insert
 roomDeed v w i = do
   number ← storedNumber (v .desc) (count (textOf v (w .detail)) + 1) (chainHead (v .file)) (lowestUnused (v .file))
   passed (Room w i number)
 
--- "Full": one new block is needed, and is d
+-- "Full": one new block is needed, and is d [C12, N8, B5, B10]
 unfoldable pub splitWith : Description → ℕ → Bool → Path → ℕ → Taken → Checked Insert
 splitWith p cur flag w i d =
     cond (eqb (d .block) 0) (passed (Stop (By w) noRoom)) (do
@@ -38,18 +38,19 @@ splitWith p cur flag w i d =
       number ← storedNumber p (halfCount (D p) i) (d .head) (d .lowest)
       passed (Split w i d number))
 
+-- "Full": the new block is taken [C12, C32]
 unfoldable pub splitDeed : Texts → Bool → Path → ℕ → Checked Insert
 splitDeed v flag w i = do
   d ← granted v (chainHead (v .file)) (lowestUnused (v .file))
   splitWith (v .desc) (v .current) flag w i d
 
--- "A full index splits likewise": two new blocks, d and x, and a section
+-- "A full index splits likewise": two new blocks, d and x, and a section [C15, N9]
 unfoldable pub bothStored : Description → Path → ℕ → Taken → Taken → Checked Insert
 bothStored p w i d x = do
   number ← storedNumber p (halfCount (D p) i) (x .head) (x .lowest)
   passed (Both w i (d .block) x number)
 
--- "new blocks are needed and too few are free, or a section is needed and CONTROL are in use"
+-- "new blocks are needed and too few are free, or a section is needed and CONTROL are in use" [N8, B5, B10]
 unfoldable pub bothWith : Description → ℕ → Bool → ℕ → Path → ℕ → Taken → Taken → Checked Insert
 bothWith p cur flag used w i d x =
     cond (eqb (d .block) 0 || (eqb (x .block) 0 || leb (p .control) used)) (passed (Stop (By w) noRoom)) (do
@@ -58,29 +59,32 @@ bothWith p cur flag used w i d x =
       require (not (eqb (x .block) (d .block))) badFile
       bothStored p w i d x)
 
+-- the second new block is taken after the first: "detail before index" [C15, C32]
 unfoldable pub bothAfter : Texts → Bool → Path → ℕ → Taken → Checked Insert
 bothAfter v flag w i d = do
   x ← granted v (d .head) (d .lowest)
   bothWith (v .desc) (v .current) flag (sections (v .file)) w i d x
 
+-- "A full index splits likewise": the first new block is taken [C15, C32]
 unfoldable pub bothDeed : Texts → Bool → Path → ℕ → Checked Insert
 bothDeed v flag w i = do
   d ← granted v (chainHead (v .file)) (lowestUnused (v .file))
   bothAfter v flag w i d
 
--- "not found": the record goes to place i of the block at the end of the way w
+-- "not found": the record goes to place i of the block at the end of the way w [C11, C12, C15]
 unfoldable pub insertAt : Texts → Bool → Path → ℕ → Checked Insert
 insertAt v flag w i =
     cond (ltb (count (textOf v (w .detail))) (D (v .desc))) (roomDeed v w i)
     (cond (ltb (count (textOf v (w .index))) (I (v .desc))) (splitDeed v flag w i) (bothDeed v flag w i))
 
--- "NSERT duplicate"; else before the first record above the key
+-- "NSERT duplicate"; else before the first record above the key [C10, N6]
 unfoldable pub insertAfter : Texts → Bool → List ℕ → Look → Checked Insert
 insertAfter v flag key look-is.Bad = refused badFile
 insertAfter v flag key (look-is.Found way i) = passed (Stop way notFound)
 insertAfter v flag key (look-is.Missing w) =
     insertAt v flag w (rowAbove (detailShape (v .desc)) key (textOf v (w .detail)))
 
+-- the lookup, and then what NSERT will do [C10]
 unfoldable pub insertDeed : Texts → Bool → List ℕ → Checked Insert
 insertDeed v flag key = do
   l ← look v flag key

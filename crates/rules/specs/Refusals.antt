@@ -20,7 +20,7 @@ use Rattle.rules.specs.Xtend.{lastWay, lastOf}
 use Rattle.rules.specs.XtendDone.{reading}
 use Rattle.rules.specs.Requests.{Request, opening, closing, seeking, advancing, inserting, deleting, updating, extending}
 
--- 020007, 020006, 020005, 030001: "all unchanged"; 070003: "all unchanged but OPEN's marks; 0 transfers"
+-- 020007, 020006, 020005, 030001: "all unchanged"; 070003: "all unchanged but OPEN's marks; 0 transfers" [N1, N2, N3, N4, N5, T7]
 unfoldable pub leavesAll : ℕ → Bool
 leavesAll n = eqb n wrongSize || (eqb n alreadyOpen || (eqb n isClosed || (eqb n wrongKey || eqb n badFile)))
 
@@ -52,19 +52,19 @@ wayOf Bad = Here
 wayOf (Found way i) = way
 wayOf (Missing w) = By w
 
--- 000001: "lookup done; workspace, position kept": the lookup of the workspace's key
+-- 000001: "lookup done; workspace, position kept": the lookup of the workspace's key [N6]
 pub record LookupDone (st : State) (o : Outcome) : Type 0 where
   pub result : Look
   pub looked : look (texts st) (st .session .flag) (keyIn (desc st) (st .work)) ≡ passed result
   pub leaves : JustReached st (reached (texts st) (st .session .flag) (wayOf result)) o
 
--- "If it holds only the end record, read the index (1)": the index block that XTEND reads besides the way, or 0
+-- "If it holds only the end record, read the index (1)": the index block that XTEND reads besides the way, or 0 [C24]
 unfoldable pub besides : Texts → Way → Checked ℕ
 besides v way = cond (eqb (count (textAt v way)) 1) (do
   w ← lastOf v way
   passed (w .index)) (passed 0)
 
--- 000005: "last block reached; position kept"
+-- 000005: "last block reached; position kept" [N7]
 pub record LastReached (st : State) (o : Outcome) : Type 0 where
   pub way : Way
   pub index : ℕ
@@ -72,7 +72,7 @@ pub record LastReached (st : State) (o : Outcome) : Type 0 where
   pub alone : besides (texts st) way ≡ passed index
   pub leaves : JustReached st (reading index (reached (texts st) (st .session .flag) way)) o
 
--- 000001, 000005, 070002 ("as 1 (NSERT) or 5 (XTEND)"): the call ends where its lookup, or the way to the last block, came to
+-- 000001, 000005, 070002 ("as 1 (NSERT) or 5 (XTEND)"): the call ends where its lookup, or the way to the last block, came to [N6, N7, N8]
 unfoldable pub stops : ℕ → Bool
 stops n = eqb n notFound || (eqb n outOfSequence || eqb n noRoom)
 
@@ -92,7 +92,7 @@ pub record Leaves (q : Request) (st : State) (o : Outcome) : Type 0 where
   pub refusal : leavesAll (o .number) ≡ true → AllUnchanged st o
   pub stop : stops (o .number) ≡ true → Stopped q st o
 
--- OPEN's marks, "all unchanged" by 020007 and 020006, and "answering 070003 it leaves all 0"
+-- OPEN's marks, "all unchanged" by 020007 and 020006, and "answering 070003 it leaves all 0" [S6]
 pub record LeavesMarks (st : State) (marks : List ℕ) (o : Opened) : Type 0 where
   pub wrong : o .outcome .number ≡ wrongSize → o .marks ≡ marks
   pub already : o .outcome .number ≡ alreadyOpen → o .marks ≡ marks

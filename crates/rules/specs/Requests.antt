@@ -11,7 +11,7 @@ use Rattle.rules.specs.NsertDone.{nsert}
 use Rattle.rules.specs.Dlete.{dlete}
 use Rattle.rules.specs.XtendDone.{xtend}
 
--- a call of a session, with the words lent to it: OPEN's marks, or the workspace
+-- a call of a session, with the words lent to it: OPEN's marks, or the workspace [S7]
 pub data Request : Type 0 where
   opening : List ℕ → Request
   closing : Request
@@ -43,7 +43,7 @@ answer st (deleting w) = dlete (lending w st)
 answer st (updating w) = updat (lending w st)
 answer st (extending w) = xtend (lending w st)
 
--- the state that a run of calls leaves
+-- the state that a run of calls leaves [S7]
 unfoldable pub left : State → List Request → State
 left st [] = st
 left st (q ∷ qs) = left (answer st q .after) qs

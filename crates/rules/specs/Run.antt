@@ -14,7 +14,7 @@ use Rattle.rules.specs.State.{Session, State, Outcome, desc, lent}
 use Rattle.rules.specs.Open.{Created, create}
 use Rattle.rules.specs.Requests.{opening, closing, seeking, advancing, inserting, deleting, updating, extending, answer}
 
--- a closed session over a file, a buffer and a workspace of zeros
+-- a closed session over a file, a buffer and a workspace of zeros [O9]
 unfoldable pub begun : Description → State
 begun p =
     lent
@@ -23,19 +23,20 @@ begun p =
     (zeros (p .wpb))
     (zeros (p .wpr))
 
--- CREATE "has no session": the file is new, and all else as it was
+-- CREATE "has no session": the file is new, and all else as it was [S8, T2]
 unfoldable pub createdOutcome : State → Created → Outcome
 createdOutcome st c =
     record { number = c .number; transfers = []; after = lent (st .session) (c .file) (st .buffer) (st .work) }
 
--- the workspace with the key, or the record, that begins at word `at` of the words beside
+-- the workspace with the key, or the record, that begins at word `at` of the words beside [O9]
 unfoldable pub keyFrom : List ℕ → State → ℕ → List ℕ
 keyFrom ws st at = put (st .work) 0 (part at (desc st .k) ws)
 
+-- the same with the record [O9]
 unfoldable pub recordFrom : List ℕ → State → ℕ → List ℕ
 recordFrom ws st at = put (st .work) 0 (part at (desc st .wpr) ws)
 
--- "A call is held as its kind with the key or record that kind carries": what it does
+-- "A call is held as its kind with the key or record that kind carries": what it does [O9]
 unfoldable pub perform : List ℕ → State → Call → Outcome
 perform ws st Create = createdOutcome st (create (desc st) (st .file))
 perform ws st Open = answer st (opening (zeros (desc st .n)))
@@ -47,13 +48,13 @@ perform ws st (Dlete at) = answer st (deleting (keyFrom ws st at))
 perform ws st (Updat at) = answer st (updating (recordFrom ws st at))
 perform ws st (Xtend at) = answer st (extending (recordFrom ws st at))
 
--- a line: "number as six octal digits, transfers, and for SEEK and ADV answering 0 or 030002 the workspace"
+-- a line: "number as six octal digits, transfers, and for SEEK and ADV answering 0 or 030002 the workspace" [O5]
 pub record Line : Type 0 where
   pub number : ℕ
   pub count : ℕ
   pub shown : List ℕ
 
--- "for SEEK and ADV answering 0 or 030002"
+-- "for SEEK and ADV answering 0 or 030002" [O5]
 unfoldable pub shows : Call → ℕ → Bool
 shows Create n = false
 shows Open n = false
@@ -65,6 +66,7 @@ shows (Dlete at) n = false
 shows (Updat at) n = false
 shows (Xtend at) n = false
 
+-- the line of a call that came to o [O5]
 unfoldable pub lineOf : Call → Outcome → Line
 lineOf c o = record {
   number = o .number;
@@ -72,11 +74,12 @@ lineOf c o = record {
   shown = cond (shows c (o .number)) (o .after .work) [];
 }
 
--- the lines of a run of calls, and the state it leaves
+-- the lines of a run of calls, and the state it leaves [O5]
 unfoldable pub printed : List ℕ → State → List Call → List Line
 printed ws st [] = []
 printed ws st (c ∷ cs) = let o = perform ws st c in lineOf c o ∷ printed ws (o .after) cs
 
+-- the state that a run of calls leaves [O9]
 unfoldable pub ended : List ℕ → State → List Call → State
 ended ws st [] = st
 ended ws st (c ∷ cs) = ended ws (perform ws st c .after) cs

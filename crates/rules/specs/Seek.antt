@@ -14,7 +14,7 @@ use Rattle.rules.specs.State.{State, Outcome, Effect, desc, texts, keyIn
 use Rattle.rules.specs.Checks.{sizesOk, workOk, isOpen, keyOk}
 use Rattle.rules.specs.Lookup.{Reached, reached, look, stopping, storing}
 
--- "SEEK found: record to workspace, position = key."
+-- "SEEK found: record to workspace, position = key." [C3]
 unfoldable pub giving : Texts → Reached → ℕ → ℕ → Bool → Effect
 giving v r number i keyed = record {
   number = number;
@@ -27,16 +27,19 @@ giving v r number i keyed = record {
   work = row (detailShape (v .desc)) (r .buffer) i;
 }
 
+-- what SEEK does, of what the lookup came to [C3, N6]
 unfoldable pub seekDone : Texts → Bool → List ℕ → Look → Checked Effect
 seekDone v flag work Bad = refused badFile
 seekDone v flag work (Found way i) = passed (giving v (reached v flag way) done i true)
 seekDone v flag work (Missing w) = passed (stopping notFound work (reached v flag (By w)))
 
+-- SEEK's steps, after the refusals [C3]
 unfoldable pub seekSteps : Texts → Bool → List ℕ → Checked Effect
 seekSteps v flag work = do
   l ← look v flag (keyIn (v .desc) work)
   seekDone v flag work l
 
+-- SEEK: 020007, 020005, 030001, and then its steps, which give 070003, 000001 or 0 [C3, N1, N3, N4]
 unfoldable pub seek : State → Outcome
 seek st = settle st do
   sizesOk st
@@ -45,7 +48,7 @@ seek st = settle st do
   keyOk (desc st .k) st
   seekSteps (texts st) (st .session .flag) (st .work)
 
--- "UPDAT found: record replaced, flag on, position = key."
+-- "UPDAT found: record replaced, flag on, position = key." [C4, N6]
 unfoldable pub updatDone : Texts → Bool → List ℕ → Look → Checked Effect
 updatDone v flag work Bad = refused badFile
 updatDone v flag work (Found way i) =
@@ -53,11 +56,13 @@ updatDone v flag work (Found way i) =
     passed (storing done work r (replaced (detailShape (v .desc)) i (recordIn (v .desc) work) (r .buffer)))
 updatDone v flag work (Missing w) = passed (stopping notFound work (reached v flag (By w)))
 
+-- UPDAT's steps, after the refusals [C4]
 unfoldable pub updatSteps : Texts → Bool → List ℕ → Checked Effect
 updatSteps v flag work = do
   l ← look v flag (keyIn (v .desc) work)
   updatDone v flag work l
 
+-- UPDAT: 020007, 020005, 030001, and then its steps, which give 070003, 000001 or 0 [C4, N1, N3, N4]
 unfoldable pub updat : State → Outcome
 updat st = settle st do
   sizesOk st

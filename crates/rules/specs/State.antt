@@ -9,7 +9,7 @@ use Rattle.drum.specs.declared.Description.{Description}
 use Rattle.drum.specs.Blocks.{Transfer, Texts, seen}
 
 -- "A value handed in and back: parameters, open or closed, current block (0 none), write flag, position (none, or a key)"; the position's
--- key is its first K words, and means nothing unless `placed`
+-- key is its first K words, and means nothing unless `placed` [S1]
 pub record Session : Type 0 where
   pub desc : Description
   pub opened : Bool
@@ -18,22 +18,24 @@ pub record Session : Type 0 where
   pub placed : Bool
   pub position : List ℕ
 
--- the session handed in and the words lent: at entry, or at exit
+-- the session handed in and the words lent: at entry, or at exit [W2]
 pub record State : Type 0 where
   pub session : Session
   pub file : List ℕ
   pub buffer : List ℕ
   pub work : List ℕ
 
--- what a call does: the number, the list of transfers ("Each result carries its count, which is the length of the list"), the state at exit
+-- what a call does: the number, the list of transfers ("Each result carries its count, which is the length of the list"), the state at exit [T3]
 pub record Outcome : Type 0 where
   pub number : ℕ
   pub transfers : List Transfer
   pub after : State
 
+-- a session with the words lent to it
 abbrev pub lent : Session → List ℕ → List ℕ → List ℕ → State
 lent s f b w = record { session = s; file = f; buffer = b; work = w }
 
+-- its parameters
 abbrev pub desc : State → Description
 desc st = st .session .desc
 
@@ -45,9 +47,11 @@ texts st = seen (st .session .desc) (st .session .current) (st .file) (st .buffe
 abbrev pub keyIn : Description → List ℕ → List ℕ
 keyIn p w = part 0 (p .k) w
 
+-- the record in a workspace [P3]
 abbrev pub recordIn : Description → List ℕ → List ℕ
 recordIn p w = part 0 (p .wpr) w
 
+-- the key that position is [S1]
 abbrev pub positionKey : Session → List ℕ
 positionKey s = part 0 (s .desc .k) (s .position)
 
@@ -56,12 +60,12 @@ unfoldable pub holding : ℕ → Bool → Session → Session
 holding b flag s =
     record { desc = s .desc; opened = s .opened; current = b; flag = flag; placed = s .placed; position = s .position }
 
--- a session like s, with "position = key"
+-- a session like s, with "position = key" [C3, C33, C35]
 unfoldable pub positioned : List ℕ → Session → Session
 positioned key s =
     record { desc = s .desc; opened = s .opened; current = s .current; flag = s .flag; placed = true; position = put (s .position) 0 key }
 
--- "OPEN and CLOSE leave current 0, flag off, position none"
+-- "OPEN and CLOSE leave current 0, flag off, position none" [S2, C35]
 unfoldable pub atRest : Bool → Session → Session
 atRest opened s =
     record { desc = s .desc; opened = opened; current = 0; flag = false; placed = false; position = zeros 63 }
@@ -78,7 +82,7 @@ pub record Effect : Type 0 where
   pub buffer : List ℕ
   pub work : List ℕ
 
--- the outcome of a call whose steps have this effect
+-- the outcome of a call whose steps have this effect [C33]
 unfoldable pub outcome : Session → Effect → Outcome
 outcome s e =
     let held = holding (e .current) (e .flag) s in
@@ -88,11 +92,11 @@ outcome s e =
       after = lent (cond (e .keyed) (positioned (keyIn (s .desc) (e .work)) held) held) (e .file) (e .buffer) (e .work);
     }
 
--- "all unchanged .. 0 transfers"
+-- "all unchanged .. 0 transfers" [T7, N1]
 abbrev pub unchanged : State → ℕ → Outcome
 unchanged st n = record { number = n; transfers = []; after = st }
 
--- the first refusal, or what the call did
+-- the first refusal, or what the call did [N1]
 unfoldable pub settle : State → Checked Effect → Outcome
 settle st (refused n) = unchanged st n
 settle st (passed e) = outcome (st .session) e

@@ -22,7 +22,7 @@ use Rattle.rules.specs.Lookup.{Reached, reached, textAt, stopping, stori
 use Rattle.rules.specs.Free.{withFree}
 use Rattle.rules.specs.Xtend.{extendDeed}
 
--- "read the index (1), buffer kept": index block x is read besides, where it is not 0
+-- "read the index (1), buffer kept": index block x is read besides, where it is not 0 [C24]
 unfoldable pub reading : ℕ → Reached → Reached
 reading x r = record {
   file = r .file;
@@ -32,27 +32,28 @@ reading x r = record {
   moves = r .moves ++ cond (eqb x 0) [] (Read x ∷ []);
 }
 
--- the old block: "the record takes the end record's place"
+-- the old block: "the record takes the end record's place" [C27]
 unfoldable pub oldText : Texts → Way → List ℕ → List ℕ
 oldText v way work =
     replaced (detailShape (v .desc)) (count (textAt v way) - 1) (recordIn (v .desc) work) (textAt v way)
 
--- the new block: "the end record starts a new block"
+-- the new block: "the end record starts a new block" [C27]
 unfoldable pub endText : Texts → Way → List ℕ
 endText v way = laid (v .desc .wpb) 1 (row (detailShape (v .desc)) (textAt v way) (count (textAt v way) - 1))
 
--- the entry "with a new ONES" bound for block b
+-- the entry "with a new ONES" bound for block b [C27]
 unfoldable pub onesEntry : Description → ℕ → List ℕ
 onesEntry p b = ones (p .k) ++ (b ∷ [])
 
--- a table of entries: "the old bound becomes the key"; and with "a new ONES entry" for block b behind it
+-- a table of entries: "the old bound becomes the key"; and with "a new ONES entry" for block b behind it [C27, C29]
 unfoldable pub bounded : Shape → List ℕ → List ℕ → List ℕ
 bounded h key t = replaced h (count t - 1) key t
 
+-- and with "a new ONES entry" for block b behind it [C27, C29]
 unfoldable pub extended : Description → Shape → List ℕ → ℕ → List ℕ → List ℕ
 extended p h key b t = inserted h (count t) (onesEntry p b) (bounded h key t)
 
--- "Write old, read index, write index, write new: 4."
+-- "Write old, read index, write index, write new: 4." [C28]
 unfoldable pub newMoves : Texts → Way → Path → List ℕ → ℕ → List Transfer
 newMoves v way w work b =
     Write (w .detail) (oldText v way work)
@@ -61,7 +62,7 @@ newMoves v way w work b =
     ∷ Write b (endText v way)
     ∷ []
 
--- "the entry starts a new index block ..: 1 more."
+-- "the entry starts a new index block ..: 1 more." [C28, C29]
 unfoldable pub bothMoves : Texts → Way → Path → List ℕ → ℕ → ℕ → List Transfer
 bothMoves v way w work b x =
     Write (w .detail) (oldText v way work)
@@ -71,17 +72,18 @@ bothMoves v way w work b x =
     ∷ Write x (laid (v .desc .wpb) 1 (onesEntry (v .desc) b))
     ∷ []
 
--- the file then: words 1 and 2 of the master, what the list writes, and "section, the old section's bound becoming the key"
+-- the file then: words 1 and 2 of the master, what the list writes, and "section, the old section's bound becoming the key" [C28]
 unfoldable pub newFile : Texts → Bool → Way → Path → List ℕ → Taken → List ℕ
 newFile v flag way w work d =
     written (v .desc) (reached v flag way .moves ++ newMoves v way w work (d .block)) (withFree (d .head) (d .lowest) (v .file))
 
+-- the same with a new section: "the old section's bound becoming the key" [C29]
 unfoldable pub bothFile : Texts → Bool → Way → Path → List ℕ → ℕ → Taken → List ℕ
 bothFile v flag way w work b x =
     extended (v .desc) (masterShape (v .desc)) (keyIn (v .desc) work) (x .block)
     (written (v .desc) (reached v flag way .moves ++ bothMoves v way w work b (x .block)) (withFree (x .head) (x .lowest) (v .file)))
 
--- "insert before the end record, flag on"; "Buffer: the new block, flag off."
+-- "insert before the end record, flag on"; "Buffer: the new block, flag off." [C26, C27, C29, C30]
 unfoldable pub extendDone : Texts → Bool → List ℕ → Extend → Checked Effect
 extendDone v flag work Bad = refused badFile
 extendDone v flag work (Stop way x n) = passed (stopping n work (reading x (reached v flag way)))
@@ -93,11 +95,13 @@ extendDone v flag work (New way w d n) =
 extendDone v flag work (Both way w b x n) =
     passed (landing (v .desc) n work (reached v flag way .moves ++ bothMoves v way w work b (x .block)) b (bothFile v flag way w work b x))
 
+-- XTEND's steps, after the refusals [C23]
 unfoldable pub xtendSteps : Texts → Bool → List ℕ → Checked Effect
 xtendSteps v flag work = do
   d ← extendDeed v flag (keyIn (v .desc) work)
   extendDone v flag work d
 
+-- XTEND: 020007, 020005, 030001, and then its steps, which give 070003, 000005, 070002, 070001 or 0 [C23, N1, N3, N4]
 unfoldable pub xtend : State → Outcome
 xtend st = settle st do
   sizesOk st

@@ -13,6 +13,6 @@ cat (r ∷ rows) = r ++ cat rows
 unfoldable pub encode : List ℕ → List (List ℕ) → List ℕ → List ℕ
 encode front rows pad = front ++ (cat rows ++ pad)
 
--- a block of w words that holds the rows: "word 0 count", the rows, "All other words are 0"
+-- a block of w words that holds the rows: "word 0 count", the rows, "All other words are 0" [L5, L6, L8]
 unfoldable pub table : ℕ → List (List ℕ) → List ℕ
 table w rows = laid w (length rows) (cat rows)

@@ -12,7 +12,7 @@ use Rattle.table.specs.declared.Shape.{Shape}
 use Rattle.table.specs.declared.Want.{Want}
 use Rattle.table.specs.declared.Want.the-variants.{Equal, NotBelow, Over}
 
--- "word 0 count" (of the master: "word 0 sections in use")
+-- "word 0 count" (of the master: "word 0 sections in use") [L1, L5, L6]
 abbrev pub count : List ℕ → ℕ
 count t = getD t 0 0
 
@@ -24,13 +24,15 @@ place h i = h .base + i * h .stride
 unfoldable pub row : Shape → List ℕ → ℕ → List ℕ
 row h t i = part (place h i) (h .stride) t
 
+-- the key of row i [P3, L4, L5]
 unfoldable pub keyAt : Shape → List ℕ → ℕ → List ℕ
 keyAt h t i = part (place h i) (h .width) t
 
+-- of an entry, row i, the block that it names [L4, L5]
 unfoldable pub blockIn : Shape → List ℕ → ℕ → ℕ
 blockIn h t i = getD t (place h i + h .width) 0
 
--- "Searches take the first that fits": the first i below n at which the test holds, else n
+-- "Searches take the first that fits": the first i below n at which the test holds, else n [W5]
 unfoldable pub firstWhere : (ℕ → Bool) → ℕ → ℕ
 firstWhere test zero = zero
 firstWhere test (suc n) = elim (test zero) [ true ↦ zero | false ↦ suc (firstWhere (λ i. test (suc i)) n) ]
@@ -53,16 +55,19 @@ asked Over Below = false
 asked Over Same = false
 asked Over Above = true
 
+-- whether row i is one that a search for the key wants [W5]
 unfoldable pub fits : Want → Shape → List ℕ → List ℕ → ℕ → Bool
 fits w h key t i = wanted w key (keyAt h t i)
 
--- the first row whose key is the key; is not below it; is above it: else the count
+-- the first row whose key is the key; is not below it; is above it: else the count [W5]
 abbrev pub rowWith : Shape → List ℕ → List ℕ → ℕ
 rowWith h key t = firstWhere (fits Equal h key t) (count t)
 
+-- the first row whose key is not below the key, else the count [W5]
 abbrev pub rowFrom : Shape → List ℕ → List ℕ → ℕ
 rowFrom h key t = firstWhere (fits NotBelow h key t) (count t)
 
+-- the first row whose key is above the key, else the count [W5]
 abbrev pub rowAbove : Shape → List ℕ → List ℕ → ℕ
 rowAbove h key t = firstWhere (fits Over h key t) (count t)
 
@@ -74,18 +79,18 @@ opened t a e s = put t a (s ++ part a (e - a) t)
 unfoldable pub closed : List ℕ → ℕ → ℕ → ℕ → List ℕ
 closed t a e n = put t a (part (a + n) (e - (a + n)) t ++ zeros n)
 
--- t with row r put in at place i
+-- t with row r put in at place i [C11, C26]
 unfoldable pub inserted : Shape → ℕ → List ℕ → List ℕ → List ℕ
 inserted h i r t = set (opened t (place h i) (place h (count t)) r) 0 (count t + 1)
 
--- t with the row at place i taken out; the words given up become 0
+-- t with the row at place i taken out; the words given up become 0 [C17, C34]
 unfoldable pub removed : Shape → ℕ → List ℕ → List ℕ
 removed h i t = set (closed t (place h i) (place h (count t)) (h .stride)) 0 (count t - 1)
 
--- t with the words r over row i from its first word on: a whole row, or its key alone
+-- t with the words r over row i from its first word on: a whole row, or its key alone [C4]
 unfoldable pub replaced : Shape → ℕ → List ℕ → List ℕ → List ℕ
 replaced h i r t = put t (place h i) r
 
--- a block of w words written anew: the count, the rows' words, and "All other words are 0"
+-- a block of w words written anew: the count, the rows' words, and "All other words are 0" [C34, L8]
 unfoldable pub laid : ℕ → ℕ → List ℕ → List ℕ
 laid w n rows = n ∷ (rows ++ zeros (w - 1 - length rows))

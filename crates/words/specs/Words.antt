@@ -5,7 +5,7 @@ use mathlib.Core.List.{List, [], _∷_, _++_}
 use lib.Dec.{leb, eqb}
 use lib.ListN.{length, take, drop, replicate}
 
--- "What is built": "A word is a number 0..262143"
+-- "What is built": "A word is a number 0..262143" [W1]
 abbrev pub topWord : ℕ
 topWord = 262143
 
@@ -31,7 +31,7 @@ unfoldable pub noneIs : ℕ → List ℕ → Bool
 noneIs x [] = true
 noneIs x (y ∷ l) = not (eqb y x) && noneIs x l
 
--- "Layout": "none is above 262143"
+-- "Layout": "none is above 262143" [W1, L9]
 unfoldable pub allWords : List ℕ → Bool
 allWords [] = true
 allWords (x ∷ l) = leb x topWord && allWords l
