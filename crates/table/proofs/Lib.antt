@@ -1,5 +1,6 @@
 pub mod Places
 pub mod Searches
+pub mod Differs
 pub mod Moves
 pub mod Lists
 pub mod Rows

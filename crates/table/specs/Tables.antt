@@ -1,7 +1,9 @@
 -- Tables. Master, index block and detail block are one thing: a count in word 0, and from word `base` on that many rows of `stride`
 -- words, each of which begins with a key of `width` words. Document 01, "Layout".
-use Prim.Native.Nat.{ℕ, zero, suc, _+_, _*_, _-_}
-use mathlib.Core.Bool.{Bool, true, false}
+use Prim.Native.Nat.{ℕ, zero, suc, _+_, _*_, _-_, _<_}
+use mathlib.Core.Path.{_≡_}
+use mathlib.Core.Bool.{Bool, true, false, not}
+use lib.Dec.{eqb}
 use mathlib.Core.List.{List, _∷_, _++_}
 use lib.ListN.{length, getD, set}
 use Rattle.words.specs.Words.{part, put, zeros}
@@ -58,6 +60,14 @@ asked Over Above = true
 -- whether row i is one that a search for the key wants [W5]
 unfoldable pub fits : Want → Shape → List ℕ → List ℕ → ℕ → Bool
 fits w h key t i = wanted w key (keyAt h t i)
+
+-- the first n rows are below the key: no search for it wants one of them
+abbrev pub AllBelow : Shape → List ℕ → List ℕ → ℕ → Type 0
+AllBelow h key t n = (j : ℕ) → j < n → keyLt (part (place h j) (h .width) t) key ≡ true
+
+-- whether word m of the row at word p is another than the key's, the key at word a of k
+abbrev pub differs : List ℕ → ℕ → List ℕ → ℕ → ℕ → Bool
+differs t p k a m = not (eqb (getD t (p + m) 0) (getD k (a + m) 0))
 
 -- the first row whose key is the key; is not below it; is above it: else the count [W5]
 abbrev pub rowWith : Shape → List ℕ → List ℕ → ℕ

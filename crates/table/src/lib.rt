@@ -2,12 +2,12 @@
 // word 0. Master, index block and detail block are such tables, so one function serves all three.
 use words::Order;
 ghost use mathlib.Core.Path.{_≡_};
-ghost use mathlib.Core.Bool.{true};
-ghost use Prim.Native.Nat.{ℕ, _+_, _*_, _≤_, _<_};
+ghost use Prim.Native.Nat.{_+_, _*_, _≤_, _<_};
 ghost use lib.ListN.{length};
 ghost use Rattle.words.specs.Words.{part};
-ghost use Rattle.words.specs.Keys.{order, keyLt};
-ghost use Rattle.table.specs.Tables.{count, place, firstWhere, asked, fits, opened, closed, inserted, removed, replaced};
+ghost use Rattle.table.specs.declared.Want.the-variants.{Equal};
+ghost use Rattle.table.specs.Tables.{count, place, firstWhere, asked, fits, AllBelow, differs, opened, closed, inserted, removed, replaced};
+ghost use Rattle.words.specs.Slices.{was, became};
 
 pub struct Shape {
     pub base: usize,
@@ -45,20 +45,15 @@ fn is_wanted(w: Want, o: Order) -> bool
     }
 }
 
-// How many rows at the front begin with a word below the key's first: their keys are below it, so no search wants them. Most rows of a
-// search are passed here, by one word each.
-fn low_rows(
-    base: usize,
-    stride: usize,
-    width: usize,
-    t: &[u32],
-    n: usize,
-    key: &[u32],
-    at: usize,
-) -> usize
-    requires { ⌜ (base + n * stride ≤ length (now t)) × (width ≤ stride) × (at + width ≤ length (now key)) ⌝ }
-    ensures { λ r. ⌜ (r ≤ n) × ((j : ℕ) → j < r → keyLt (part (base + j * stride) width (now (t .entry))) (part at width (now (key .entry))) ≡ true) ⌝ }
+// How many rows at the front begin with a word below the key's first: their keys are below it, so no search wants them. Where names differ
+// early, most rows of a search are passed here.
+fn low_rows(h: Shape, t: &[u32], n: usize, key: &[u32], at: usize) -> usize
+    requires { ⌜ (place h n ≤ length (now t)) × (h .width ≤ h .stride) × (at + h .width ≤ length (now key)) ⌝ }
+    ensures { λ r. ⌜ (r ≤ n) × AllBelow h (part at (h .width) (was key)) (was t) r ⌝ }
 {
+    let base = h.base;
+    let stride = h.stride;
+    let width = h.width;
     if width == 0 {
         return 0;
     }
@@ -75,21 +70,58 @@ fn low_rows(
     n
 }
 
-// `find`, the shape taken apart: a loop keeps plain numbers.
-fn find_row(
-    w: Want,
-    base: usize,
-    stride: usize,
-    width: usize,
-    t: &[u32],
-    n: usize,
-    key: &[u32],
-    at: usize,
-) -> usize
-    requires { ⌜ (base + n * stride ≤ length (now t)) × (width ≤ stride) × (at + width ≤ length (now key)) ⌝ }
-    ensures { λ r. ⌜ r ≡ firstWhere (fits w (record { base = base; stride = stride; width = width }) (part at width (now (key .entry))) (now (t .entry))) n ⌝ }
+// Two words as one number, the first heavier: of two such numbers the smaller is that of the words that are below.
+fn pair(a: u32, b: u32) -> u64
+    ensures { λ r. ⌜ r ≡ a * 4294967296 + b ⌝ }
 {
-    let mut i = low_rows(base, stride, width, t, n, key, at);
+    (a as u64) * 4294967296 + (b as u64)
+}
+
+// How many rows at the front are below the key, the first `from` being so: those too that begin with the key's first word and go on with two
+// words below its next two. Where names share their first words, most rows of a search are passed here.
+fn low_after(h: Shape, t: &[u32], from: usize, n: usize, key: &[u32], at: usize) -> usize
+    requires { ⌜
+        (place h n ≤ length (now t))
+        × (h .width ≤ h .stride)
+        × (at + h .width ≤ length (now key))
+        × (from ≤ n)
+        × AllBelow h (part at (h .width) (now key)) (now t) from
+        ⌝ }
+    ensures { λ r. ⌜ (r ≤ n) × AllBelow h (part at (h .width) (was key)) (was t) r ⌝ }
+{
+    let base = h.base;
+    let stride = h.stride;
+    let width = h.width;
+    if width < 3 {
+        return from;
+    }
+    let first = key[at];
+    let next = pair(key[at + 1], key[at + 2]);
+    let mut i = from;
+    let mut word = base + from * stride;
+    while i < n {
+        if t[word] != first {
+            return i;
+        }
+        if next <= pair(t[word + 1], t[word + 2]) {
+            return i;
+        }
+        word += stride;
+        i += 1;
+    }
+    n
+}
+
+// The first row that stands to the key as is wanted, else n.
+fn find_row(w: Want, h: Shape, t: &[u32], n: usize, key: &[u32], at: usize) -> usize
+    requires { ⌜ (place h n ≤ length (now t)) × (h .width ≤ h .stride) × (at + h .width ≤ length (now key)) ⌝ }
+    ensures { λ r. ⌜ r ≡ firstWhere (fits w h (part at (h .width) (was key)) (was t)) n ⌝ }
+{
+    let base = h.base;
+    let stride = h.stride;
+    let width = h.width;
+    let low = low_rows(h, t, n, key, at);
+    let mut i = low_after(h, t, low, n, key, at);
     let mut place = base + i * stride;
     while i < n {
         let o = words::compare_keys(t, place, key, at, width);
@@ -102,18 +134,67 @@ fn find_row(
     n
 }
 
+// The first word in which the key of the row at word `place` differs from the key sought, else the width.
+fn same_words(t: &[u32], place: usize, key: &[u32], at: usize, width: usize) -> usize
+    requires { ⌜ (place + width ≤ length (now t)) × (at + width ≤ length (now key)) ⌝ }
+    ensures { λ r. ⌜ r ≡ firstWhere (differs (was t) place (was key) at) width ⌝ }
+{
+    let mut m = 0;
+    while m < width {
+        if t[place + m] != key[at + m] {
+            return m;
+        }
+        m += 1;
+    }
+    width
+}
+
+// The first row with the key itself, else n. One word that differs rules a row out, so the word that ruled out the last row compared is
+// looked at first: most rows are passed by one word, however many of the first words they share.
+fn same_row(h: Shape, t: &[u32], n: usize, key: &[u32], at: usize) -> usize
+    requires { ⌜ (place h n ≤ length (now t)) × (h .width ≤ h .stride) × (at + h .width ≤ length (now key)) ⌝ }
+    ensures { λ r. ⌜ r ≡ firstWhere (fits Equal h (part at (h .width) (was key)) (was t)) n ⌝ }
+{
+    let base = h.base;
+    let stride = h.stride;
+    let width = h.width;
+    if width == 0 {
+        return 0;
+    }
+    let mut i = 0;
+    let mut row = base;
+    let mut m = 0;
+    let mut word = key[at];
+    while i < n {
+        if t[row + m] == word {
+            m = same_words(t, row, key, at, width);
+            if m == width {
+                return i;
+            }
+            word = key[at + m];
+        }
+        row += stride;
+        i += 1;
+    }
+    n
+}
+
 // The first of the n rows of t that is wanted for the key at word `at`, else n.
 pub fn find(w: Want, h: Shape, t: &[u32], n: usize, key: &[u32], at: usize) -> usize
     requires { ⌜ (place h n ≤ length (now t)) × (h .width ≤ h .stride) × (at + h .width ≤ length (now key)) ⌝ }
-    ensures { λ r. ⌜ r ≡ firstWhere (fits w h (part at (h .width) (now (key .entry))) (now (t .entry))) n ⌝ }
+    ensures { λ r. ⌜ r ≡ firstWhere (fits w h (part at (h .width) (was key)) (was t)) n ⌝ }
 {
-    find_row(w, h.base, h.stride, h.width, t, n, key, at)
+    match w {
+        Want::Equal => same_row(h, t, n, key, at),
+        Want::NotBelow => find_row(w, h, t, n, key, at),
+        Want::Over => find_row(w, h, t, n, key, at),
+    }
 }
 
 // Moves the words a to e of t up by n, and writes n words of row before them.
 pub fn open_words(t: &mut [u32], a: usize, e: usize, row: &[u32], from: usize, n: usize)
     requires { ⌜ (a ≤ e) × (e + n ≤ length (now t)) × (from + n ≤ length (now row)) ⌝ }
-    ensures { λ _. ⌜ now (t .exit) ≡ opened (now (t .entry)) a e (part from n (now (row .entry))) ⌝ }
+    ensures { λ _. ⌜ became t ≡ opened (was t) a e (part from n (was row)) ⌝ }
 {
     words::move_up(t, a, a + n, e - a);
     words::copy_words(t, a, row, from, n);
@@ -122,7 +203,7 @@ pub fn open_words(t: &mut [u32], a: usize, e: usize, row: &[u32], from: usize, n
 // Moves the words of t from a + n to e down by n, and clears the n words after them.
 pub fn close_words(t: &mut [u32], a: usize, e: usize, n: usize)
     requires { ⌜ (a + n ≤ e) × (e ≤ length (now t)) ⌝ }
-    ensures { λ _. ⌜ now (t .exit) ≡ closed (now (t .entry)) a e n ⌝ }
+    ensures { λ _. ⌜ became t ≡ closed (was t) a e n ⌝ }
 {
     words::move_down(t, a + n, a, e - a - n);
     words::zero_words(t, e - n, n);
@@ -130,8 +211,14 @@ pub fn close_words(t: &mut [u32], a: usize, e: usize, n: usize)
 
 // Puts the row at word `from` of `row` in before row i, and counts it.
 pub fn insert_row(h: Shape, t: &mut [u32], i: usize, row: &[u32], from: usize)
-    requires { ⌜ (1 ≤ h .base) × (place h (count (now t)) + h .stride ≤ length (now t)) × (i ≤ count (now t)) × (count (now t) < 262143) × (from + h .stride ≤ length (now row)) ⌝ }
-    ensures { λ _. ⌜ now (t .exit) ≡ inserted h i (part from (h .stride) (now (row .entry))) (now (t .entry)) ⌝ }
+    requires { ⌜
+        (1 ≤ h .base)
+        × (place h (count (now t)) + h .stride ≤ length (now t))
+        × (i ≤ count (now t))
+        × (count (now t) < 262143)
+        × (from + h .stride ≤ length (now row))
+        ⌝ }
+    ensures { λ _. ⌜ became t ≡ inserted h i (part from (h .stride) (was row)) (was t) ⌝ }
 {
     let base = h.base;
     let stride = h.stride;
@@ -142,8 +229,10 @@ pub fn insert_row(h: Shape, t: &mut [u32], i: usize, row: &[u32], from: usize)
 
 // Takes row i out, and counts it off.
 pub fn remove_row(h: Shape, t: &mut [u32], i: usize)
-    requires { ⌜ (1 ≤ h .base) × (place h (count (now t)) ≤ length (now t)) × (i < count (now t)) × (count (now t) ≤ 262143) ⌝ }
-    ensures { λ _. ⌜ now (t .exit) ≡ removed h i (now (t .entry)) ⌝ }
+    requires { ⌜
+        (1 ≤ h .base) × (place h (count (now t)) ≤ length (now t)) × (i < count (now t)) × (count (now t) ≤ 262143)
+        ⌝ }
+    ensures { λ _. ⌜ became t ≡ removed h i (was t) ⌝ }
 {
     let base = h.base;
     let stride = h.stride;
@@ -155,7 +244,7 @@ pub fn remove_row(h: Shape, t: &mut [u32], i: usize)
 // Writes n words of row from word `from` on over row i: the whole row, or its key alone.
 pub fn replace_row(h: Shape, t: &mut [u32], i: usize, row: &[u32], from: usize, n: usize)
     requires { ⌜ (place h i + n ≤ length (now t)) × (from + n ≤ length (now row)) ⌝ }
-    ensures { λ _. ⌜ now (t .exit) ≡ replaced h i (part from n (now (row .entry))) (now (t .entry)) ⌝ }
+    ensures { λ _. ⌜ became t ≡ replaced h i (part from n (was row)) (was t) ⌝ }
 {
     let at = h.base + i * h.stride;
     words::copy_words(t, at, row, from, n);

@@ -1,2 +1,3 @@
 pub mod Words
 pub mod Keys
+pub mod Slices
