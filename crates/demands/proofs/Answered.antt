@@ -96,7 +96,7 @@ module _ (st : State) (ss : List Section) (f : Free) (h : Sound st ss f) where
 
       go : UpdatRight (lending w st) ss f → Met (withKey p (keyIn p w) rows) (answer st (updating w))
       go (inl (e, g)) = subst (λ (x : List (List ℕ)). Met x (answer st (updating w))) (sym (is ∙ e)) (g .number-is)
-      go (inr (y, e, ss′, f′, g)) = subst (λ (x : List (List ℕ)). Met x (answer st (updating w))) (sym (is ∙ e)) (g .number-is)
+      go (inr (y, e, ss′, f′, g, c, d)) = subst (λ (x : List (List ℕ)). Met x (answer st (updating w))) (sym (is ∙ e)) (g .number-is)
 
   dlete-answers : (w : List ℕ) → Keyed st (p .k) w → Met (withKey p (keyIn p w) rows) (answer st (deleting w))
   unfolding answer lending
@@ -107,7 +107,7 @@ module _ (st : State) (ss : List Section) (f : Free) (h : Sound st ss f) where
 
       go : DleteRight (lending w st) ss f → Met (withKey p (keyIn p w) rows) (answer st (deleting w))
       go (inl (e, g)) = subst (λ (x : List (List ℕ)). Met x (answer st (deleting w))) (sym (is ∙ e)) (g .number-is)
-      go (inr (y, e, ss′, f′, g)) = subst (λ (x : List (List ℕ)). Met x (answer st (deleting w))) (sym (is ∙ e)) (g .number-is)
+      go (inr (y, e, ss′, f′, g, c)) = subst (λ (x : List (List ℕ)). Met x (answer st (deleting w))) (sym (is ∙ e)) (g .number-is)
 
   nsert-answers : (w : List ℕ) → Keyed st (p .wpr) w → Inserted (withKey p (keyIn p w) rows) (answer st (inserting w))
   unfolding answer lending
@@ -173,11 +173,13 @@ module _ (st : State) (ss : List Section) (f : Free) (h : Sound st ss f) where
   answered : Answered st rows (lastBlock (leavesOf ss))
   answered = record { seek = seek-answers; adv = adv-answers; nsert = nsert-answers; dlete = dlete-answers; updat = updat-answers; xtend = extend-answers }
 
-pub call-answers : CallAnswers
-call-answers =
-    after-open (λ (st : State). (rows : List (List ℕ)) → (c : Contains st rows) → Answered st rows (lastBlock (lay.leavesOf (c .tree)))) λ st ss f h rows c.
+pub sound-answers : (st : State) (ss : List Section) (f : Free) → Sound st ss f → (rows : List (List ℕ)) → (c : Contains st rows) → Answered st rows (lastBlock (lay.leavesOf (c .tree)))
+sound-answers st ss f h rows c =
     let t : Tree = record { sections = ss; chain = f .chain; lowest = f .lowest } in
     let one : t ≡ c .tree = one-tree (desc st) (putBack st) t (c .tree) (h .kept .good) (flushed-stands st ss f h) (c .held) in
     let is : contents (leavesOf ss) ≡ rows = sym (read-in ss) ∙ ap lay.contents one ∙ c .are in
     let end : lastBlock (leavesOf ss) ≡ lastBlock (lay.leavesOf (c .tree)) = ap lastBlock (sym (leaves-in ss) ∙ ap lay.leavesOf one) in
     subst (λ (x : List (List ℕ)). Answered st x (lastBlock (lay.leavesOf (c .tree)))) is (subst (Answered st (contents (leavesOf ss))) end (answered st ss f h))
+
+pub call-answers : CallAnswers
+call-answers = after-open (λ (st : State). (rows : List (List ℕ)) → (c : Contains st rows) → Answered st rows (lastBlock (lay.leavesOf (c .tree)))) sound-answers

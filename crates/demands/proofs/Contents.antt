@@ -112,15 +112,19 @@ changed-is st ss f h q ks = go q ks
 pub read-in : (ss : List Section) → lay.recordsIn (lay.leavesIn ss) ≡ contents (leavesOf ss)
 read-in ss = ap lay.recordsIn (leaves-in ss) ∙ records-in (leavesOf ss)
 
-pub call-contents : CallContents
-call-contents =
-    after-open (λ (st : State). (rows : List (List ℕ)) → Contains st rows → (q : Request) → Contains (answer st q .after) (changed (desc st) (eventOf (desc st) q (answer st q)) rows)) λ st ss f h rows c q.
+pub sound-contents : (st : State) (ss : List Section) (f : Free) → Sound st ss f → (rows : List (List ℕ)) → Contains st rows → (q : Request)
+    → Contains (answer st q .after) (changed (desc st) (eventOf (desc st) q (answer st q)) rows)
+sound-contents st ss f h rows c q =
     let p : Description = desc st in
     let t : Tree = record { sections = ss; chain = f .chain; lowest = f .lowest } in
     let is : contents (leavesOf ss) ≡ rows = sym (read-in ss) ∙ ap lay.contents (one-tree p (putBack st) t (c .tree) (h .kept .good) (flushed-stands st ss f h) (c .held)) ∙ c .are in
-    let z : Stepped st ss q = stepped st ss f h q in
+    let z : Stepped st ss f q = stepped st ss f h q in
     record {
       tree = record { sections = z .sections; chain = z .free .chain; lowest = z .free .lowest };
       held = flushed-stands (answer st q .after) (z .sections) (z .free) (z .sound);
       are = read-in (z .sections) ∙ z .contents-is ∙ changed-is st ss f h q (z .keys) ∙ ap (changed p (eventOf p q (answer st q))) is;
     }
+
+pub call-contents : CallContents
+call-contents =
+    after-open (λ (st : State). (rows : List (List ℕ)) → Contains st rows → (q : Request) → Contains (answer st q .after) (changed (desc st) (eventOf (desc st) q (answer st q)) rows)) sound-contents

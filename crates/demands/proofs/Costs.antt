@@ -1,5 +1,5 @@
--- The transfers of one call, from its definition alone, in whatever state: at most its share, 4 for each new detail block that its plan asks
--- for, and 1 for each new index block.
+-- The transfers of one call, from its definition alone, in whatever state: at most its share, 4 for each detail block that its plan splits or
+-- starts, and 1 for each new index block.
 use Prim.Native.Nat.{ℕ, suc, _+_, _*_, _≤_}
 use mathlib.Core.Bool.{Bool, true, false, cond}
 use mathlib.Core.Path.{refl, sym, subst}
@@ -7,7 +7,7 @@ use mathlib.Core.List.{List, [], _∷_, _++_}
 use native.Mathlib.Omega.{arith}
 use lib.Dec.{eqb}
 use lib.ListN.{length, length-append}
-use Rattle.numbers.specs.Checked.{Checked, passed, refused, _>>_}
+use Rattle.numbers.specs.Checked.{Checked, passed, refused, _>>=_, _>>_}
 use Rattle.drum.specs.Blocks.{Transfer, Read, Texts}
 use Rattle.layout.specs.Inspect.{layoutMarks}
 use Rattle.rules.specs.declared.Path.{Path}
@@ -23,86 +23,24 @@ use Rattle.rules.specs.declared.Delete.{Delete}
 use Rattle.rules.specs.declared.Delete.the-variants as delete-is
 use Rattle.rules.specs.declared.Extend.{Extend}
 use Rattle.rules.specs.declared.Extend.the-variants as extend-is
-use Rattle.rules.specs.State.{State, Effect, desc, texts, keyIn, positionKey, settle, outcome}
+use Rattle.rules.specs.State.{State, Outcome, Effect, desc, texts, keyIn, positionKey, settle, outcome}
 use Rattle.rules.specs.Checks.{sizesOk, workOk, isOpen, keyOk}
 use Rattle.rules.specs.Lookup.{reached, look, stopping, storing, landing}
 use Rattle.rules.specs.Seek.{giving, seekDone, seekSteps, seek, updatDone, updatSteps, updat}
 use Rattle.rules.specs.Adv.{advStep, advGiving, advReads, advDone, advSteps, adv}
-use Rattle.rules.specs.Nsert.{insertDeed}
-use Rattle.rules.specs.NsertDone.{splitMoves, insertDone, nsertSteps, nsert}
+use Rattle.rules.specs.NsertDone.{splitMoves, insertDone, nsert}
 use Rattle.rules.specs.NsertDone as nsert-is
 use Rattle.rules.specs.Dlete.{deleteDeed, emptyMoves, emptyAll, bothAll, emptying, deleteDone, dleteSteps, dlete}
-use Rattle.rules.specs.Xtend.{extendDeed}
-use Rattle.rules.specs.XtendDone.{reading, newMoves, extendDone, xtendSteps, xtend}
+use Rattle.rules.specs.XtendDone.{reading, newMoves, extendDone, xtend}
 use Rattle.rules.specs.XtendDone as xtend-is
 use Rattle.rules.specs.Close.{closeChecks, closeDone, close}
 use Rattle.rules.specs.Open.{openChecks, openLayout, openDone, openFile}
 use Rattle.rules.specs.Requests.{Request, opening, closing, seeking, advancing, inserting, deleting, updating, extending, lending, answer}
 use Rattle.numbers.proofs.Passed.{Passed, by-refused, by-bind, by-then, by-passed}
 use Rattle.demands.specs.Formula.{share}
+use Rattle.demands.specs.Counted.{detailSplits, indexSplits, detailStarts, indexStarts, nsertPlan, xtendPlan, ofPlan, splitsOf, startsOf}
+use Rattle.demands.proofs.Counted.{as-planned}
 use Rattle.demands.proofs.Reach.{flush-cost, bring-cost, way-cost}
-
--- ---- the new blocks that a plan asks for
-
-unfoldable pub insertDetails : Insert → ℕ
-insertDetails insert-is.Bad = 0
-insertDetails (insert-is.Stop way n) = 0
-insertDetails (insert-is.Room w i n) = 0
-insertDetails (insert-is.Split w i d n) = 1
-insertDetails (insert-is.Both w i b x n) = 1
-
-unfoldable pub insertIndexes : Insert → ℕ
-insertIndexes insert-is.Bad = 0
-insertIndexes (insert-is.Stop way n) = 0
-insertIndexes (insert-is.Room w i n) = 0
-insertIndexes (insert-is.Split w i d n) = 0
-insertIndexes (insert-is.Both w i b x n) = 1
-
-unfoldable pub extendDetails : Extend → ℕ
-extendDetails extend-is.Bad = 0
-extendDetails (extend-is.Stop way x n) = 0
-extendDetails (extend-is.Room way x n) = 0
-extendDetails (extend-is.New way w d n) = 1
-extendDetails (extend-is.Both way w b x n) = 1
-
-unfoldable pub extendIndexes : Extend → ℕ
-extendIndexes extend-is.Bad = 0
-extendIndexes (extend-is.Stop way x n) = 0
-extendIndexes (extend-is.Room way x n) = 0
-extendIndexes (extend-is.New way w d n) = 0
-extendIndexes (extend-is.Both way w b x n) = 1
-
--- of what a plan passes; a refused one asks for none
-unfoldable pub ofPlan : {A : Type 0} → (A → ℕ) → Checked A → ℕ
-ofPlan f (refused n) = 0
-ofPlan f (passed a) = f a
-
--- the plan of an NSERT or an XTEND with the workspace w
-abbrev pub insertPlan : State → List ℕ → Checked Insert
-insertPlan st w = insertDeed (texts st) (st .session .flag) (keyIn (desc st) w)
-
-abbrev pub extendPlan : State → List ℕ → Checked Extend
-extendPlan st w = extendDeed (texts st) (st .session .flag) (keyIn (desc st) w)
-
-unfoldable pub plannedDetails : State → Request → ℕ
-plannedDetails st (opening marks) = 0
-plannedDetails st closing = 0
-plannedDetails st (seeking w) = 0
-plannedDetails st (advancing w) = 0
-plannedDetails st (inserting w) = ofPlan insertDetails (insertPlan st w)
-plannedDetails st (deleting w) = 0
-plannedDetails st (updating w) = 0
-plannedDetails st (extending w) = ofPlan extendDetails (extendPlan st w)
-
-unfoldable pub plannedIndexes : State → Request → ℕ
-plannedIndexes st (opening marks) = 0
-plannedIndexes st closing = 0
-plannedIndexes st (seeking w) = 0
-plannedIndexes st (advancing w) = 0
-plannedIndexes st (inserting w) = ofPlan insertIndexes (insertPlan st w)
-plannedIndexes st (deleting w) = 0
-plannedIndexes st (updating w) = 0
-plannedIndexes st (extending w) = ofPlan extendIndexes (extendPlan st w)
 
 -- ---- the steps of each call
 
@@ -148,8 +86,8 @@ module _ (v : Texts) (flag : Bool) (work : List ℕ) where
   adv-most (step-is.At way i) = by-passed _ (omega (arith, way-cost v flag way))
   adv-most (step-is.Beyond w x i) = by-passed _ (omega (arith, bring-cost v flag (x .detail) (advReads w x), reads-most w x))
 
-  insert-most : (d : Insert) → Passed (Most (3 + 4 * insertDetails d + insertIndexes d)) (insertDone v flag work d)
-  unfolding insertDone landing insertDetails insertIndexes splitMoves nsert-is.bothMoves
+  insert-most : (d : Insert) → Passed (Most (3 + 4 * detailSplits d + indexSplits d)) (insertDone v flag work d)
+  unfolding insertDone landing detailSplits indexSplits splitMoves nsert-is.bothMoves
   insert-most insert-is.Bad = by-refused _
   insert-most (insert-is.Stop way n) = by-passed _ (stop-most way n)
   insert-most (insert-is.Room w i n) = by-passed _ (store-most (By w) n _)
@@ -172,8 +110,8 @@ module _ (v : Texts) (flag : Bool) (work : List ℕ) where
       go true = omega arith
       go false = omega arith
 
-  extend-most : (d : Extend) → Passed (Most (4 + 4 * extendDetails d + extendIndexes d)) (extendDone v flag work d)
-  unfolding extendDone stopping storing landing extendDetails extendIndexes newMoves xtend-is.bothMoves
+  extend-most : (d : Extend) → Passed (Most (4 + 4 * detailStarts d + indexStarts d)) (extendDone v flag work d)
+  unfolding extendDone stopping storing landing detailStarts indexStarts newMoves xtend-is.bothMoves
   extend-most extend-is.Bad = by-refused _
   extend-most (extend-is.Stop way x n) = by-passed _ (read-most x way)
   extend-most (extend-is.Room way x n) = by-passed _ (read-most x way)
@@ -200,11 +138,11 @@ keyed : (st : State) (reads : ℕ) (steps : Checked Effect) (n : ℕ) → Passed
 keyed st reads steps n h = open-most st (keyOk reads st >> steps) n (by-then (keyOk reads st) steps (λ a e. h))
 
 -- what NSERT and XTEND may cost, by their plan
-insert-bound : Checked Insert → ℕ
-insert-bound c = 3 + 4 * ofPlan insertDetails c + ofPlan insertIndexes c
+abbrev insert-bound : Checked Insert → ℕ
+insert-bound c = 3 + 4 * ofPlan detailSplits c + ofPlan indexSplits c
 
-extend-bound : Checked Extend → ℕ
-extend-bound c = 4 + 4 * ofPlan extendDetails c + ofPlan extendIndexes c
+abbrev extend-bound : Checked Extend → ℕ
+extend-bound c = 4 + 4 * ofPlan detailStarts c + ofPlan indexStarts c
 
 module _ (st : State) where
   abbrev v : Texts
@@ -235,17 +173,21 @@ module _ (st : State) where
   unfolding dlete dleteSteps
   dlete-cost = keyed st (desc st .k) (dleteSteps v flag (st .work)) 6 (by-bind (deleteDeed v flag key) _ λ d e. delete-most v flag (st .work) d)
 
-  pub nsert-cost : length (nsert st .transfers) ≤ 3 + 4 * ofPlan insertDetails (insertPlan st (st .work)) + ofPlan insertIndexes (insertPlan st (st .work))
-  unfolding nsert nsertSteps ofPlan insert-bound
+  pub nsert-cost : length (nsert st .transfers) ≤ insert-bound (nsertPlan st)
+  unfolding ofPlan
   nsert-cost =
-      keyed st (desc st .wpr) (nsertSteps v flag (st .work)) (insert-bound (insertDeed v flag key)) (by-bind (insertDeed v flag key) _ λ d e.
-      subst (λ (c : Checked Insert). Passed (Most (insert-bound c)) (insertDone v flag (st .work) d)) (sym e) (insert-most v flag (st .work) d))
+      let steps : Checked Effect = nsertPlan st >>= (λ d. insertDone v flag (st .work) d) in
+      subst (λ (o : Outcome). length (o .transfers) ≤ insert-bound (nsertPlan st)) (sym (as-planned st .nsert-is))
+      (settled st steps (insert-bound (nsertPlan st)) (by-bind (nsertPlan st) _ λ d e.
+      subst (λ (c : Checked Insert). Passed (Most (insert-bound c)) (insertDone v flag (st .work) d)) (sym e) (insert-most v flag (st .work) d)))
 
-  pub xtend-cost : length (xtend st .transfers) ≤ 4 + 4 * ofPlan extendDetails (extendPlan st (st .work)) + ofPlan extendIndexes (extendPlan st (st .work))
-  unfolding xtend xtendSteps ofPlan extend-bound
+  pub xtend-cost : length (xtend st .transfers) ≤ extend-bound (xtendPlan st)
+  unfolding ofPlan
   xtend-cost =
-      keyed st (desc st .wpr) (xtendSteps v flag (st .work)) (extend-bound (extendDeed v flag key)) (by-bind (extendDeed v flag key) _ λ d e.
-      subst (λ (c : Checked Extend). Passed (Most (extend-bound c)) (extendDone v flag (st .work) d)) (sym e) (extend-most v flag (st .work) d))
+      let steps : Checked Effect = xtendPlan st >>= (λ d. extendDone v flag (st .work) d) in
+      subst (λ (o : Outcome). length (o .transfers) ≤ extend-bound (xtendPlan st)) (sym (as-planned st .xtend-is))
+      (settled st steps (extend-bound (xtendPlan st)) (by-bind (xtendPlan st) _ λ d e.
+      subst (λ (c : Checked Extend). Passed (Most (extend-bound c)) (extendDone v flag (st .work) d)) (sym e) (extend-most v flag (st .work) d)))
 
 pub close-cost : (st : State) → length (close st .transfers) ≤ 1
 unfolding close closeDone
@@ -268,13 +210,15 @@ open-cost st marks = go (openChecks st marks)
     go (passed x) = laid (layoutMarks (desc st) (st .file))
 
 -- the bound of one call, whatever the state and the request
-pub call-cost : (st : State) (q : Request) → length (answer st q .transfers) ≤ share q + 4 * plannedDetails st q + plannedIndexes st q
-unfolding answer lending share plannedDetails plannedIndexes
+pub call-cost : (st : State) (q : Request)
+    → length (answer st q .transfers)
+    ≤ share q + 4 * (splitsOf detailSplits st q + startsOf detailStarts st q) + (splitsOf indexSplits st q + startsOf indexStarts st q)
+unfolding answer share splitsOf startsOf
 call-cost st (opening marks) = open-cost st marks
 call-cost st closing = close-cost st
 call-cost st (seeking w) = seek-cost (lending w st)
 call-cost st (advancing w) = adv-cost (lending w st)
-call-cost st (inserting w) = nsert-cost (lending w st)
+call-cost st (inserting w) = omega (arith, nsert-cost (lending w st))
 call-cost st (deleting w) = dlete-cost (lending w st)
 call-cost st (updating w) = updat-cost (lending w st)
-call-cost st (extending w) = xtend-cost (lending w st)
+call-cost st (extending w) = omega (arith, xtend-cost (lending w st))

@@ -19,18 +19,19 @@ use Rattle.layout.specs.Inspect.{layoutMarks}
 use Rattle.layout.specs.Holds.{Holds}
 use Rattle.layout.proofs.Made.{create-opens}
 use Rattle.layout.proofs.Unique.{one-tree}
-use Rattle.rules.specs.State.{State, desc, keyIn, lent, atRest}
+use Rattle.rules.specs.State.{Session, State, desc, keyIn, lent, atRest}
 use Rattle.rules.specs.Checks.{sizesOk}
 use Rattle.rules.specs.Open.{Created, create, openChecks, openDone, openLayout, openFile}
 use Rattle.rules.specs.Requests.{Request}
-use Rattle.demands.specs.Formula.{Demand3, CallWithin}
+use Rattle.demands.specs.Formula.{Within, AfterCreate, Demand3, CallWithin}
+use Rattle.demands.specs.Nearest.{Nearest, NeverMet}
 use Rattle.demands.specs.History.{FoundExactly, events, standing, withKey}
 use Rattle.demands.proofs.Trees.{leavesOf, contents}
 use Rattle.demands.proofs.Holds.{Free}
 use Rattle.demands.proofs.Sound.{Sound}
 use Rattle.demands.proofs.Reader.{leaves-in, records-in}
 use Rattle.demands.proofs.Opens.{Opens, open-right}
-use Rattle.demands.proofs.Growth.{counts, sizes}
+use Rattle.demands.proofs.Growth.{counts, sizes, nothing}
 use Rattle.demands.proofs.Within as formula
 use Rattle.demands.proofs.Calls.{stepped}
 use Rattle.demands.proofs.Standing.{found}
@@ -91,15 +92,34 @@ fresh-counts : (p : Description) → (counts (leavesOf (freshTree p .sections)) 
 unfolding counts sizes freshTree freshSection freshLeaf
 fresh-counts p = (refl, refl)
 
-pub session-formula : Demand3
-session-formula =
-    formula.demand-3 stepped λ session f buffer work marks c o.
+-- the tree that stands in a file just made
+pub made-fresh : (session : Session) (f buffer work marks : List ℕ) → create (session .desc) f .number ≡ done → (o : openFile (lent session (create (session .desc) f .file) buffer work) marks .outcome .number ≡ done)
+    → opens (lent session (create (session .desc) f .file) buffer work) marks o .tree ≡ freshTree (session .desc)
+made-fresh session f buffer work marks c o =
     let st : State = lent session (create (session .desc) f .file) buffer work in
     let z : Opens st marks = opens st marks o in
     let p : Description = session .desc in
     let good : goodParams p ≡ true = opening st marks o .sizes-are .good in
-    let is : z .tree ≡ freshTree p = one-tree p (created p) (z .tree) (freshTree p) good (subst (λ (x : List ℕ). Holds p x (z .tree)) (create-file p f c) (z .stands)) (create-opens p good) in
-    (z .tree .sections, _, z .sound, ap (λ (t : Tree). counts (leavesOf (t .sections))) is ∙ fresh-counts p .0, ap (λ (t : Tree). sizes (t .sections)) is ∙ fresh-counts p .1)
+    one-tree p (created p) (z .tree) (freshTree p) good (subst (λ (x : List ℕ). Holds p x (z .tree)) (create-file p f c) (z .stands)) (create-opens p good)
+
+-- what holds of a run that began with nothing brought
+pub after-create : (P : State → List Request → Type 0) → ((st : State) (qs : List Request) → formula.Ran (desc st) st qs nothing → P st qs) → AfterCreate P
+after-create =
+    formula.after-create stepped λ session f buffer work marks c o.
+    let z : Opens _ marks = opens (lent session (create (session .desc) f .file) buffer work) marks o in
+    let is : z .tree ≡ freshTree (session .desc) = made-fresh session f buffer work marks c o in (
+      z .tree .sections,
+      _,
+      z .sound,
+      ap (λ (t : Tree). counts (leavesOf (t .sections))) is ∙ fresh-counts (session .desc) .0,
+      ap (λ (t : Tree). sizes (t .sections)) is ∙ fresh-counts (session .desc) .1,
+    )
+
+pub session-formula : Demand3
+session-formula = after-create Within formula.ran-within
+
+pub never-met : NeverMet
+never-met = after-create Nearest formula.ran-nearest
 
 -- ---- demand 2
 

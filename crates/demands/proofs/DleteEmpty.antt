@@ -26,7 +26,7 @@ use Rattle.rules.specs.State.{State, Outcome, desc, texts, keyIn}
 use Rattle.rules.specs.Lookup.{reached, look, textAt}
 use Rattle.demands.proofs.Lists.{All, all-append, all-left, all-right, map-append, from-end, last-same}
 use Rattle.demands.proofs.Order.{del}
-use Rattle.layout.specs.Tree.{Leaf, Section}
+use Rattle.layout.specs.Tree.{Leaf, Section, leafBlocks}
 use Rattle.demands.proofs.Trees.{leavesOf, contents, key, table, leaves-append, contents-append, indexText}
 use Rattle.demands.proofs.Holds.{Free, Holds, LeafOk, SectionOk, masterText, masterEntry, headOr}
 use Rattle.demands.proofs.Places.{Place, treeOf, treeWith, olds, index-text, leaf-in, index-in, sec-ok, lastBound-append}
@@ -49,6 +49,8 @@ use Rattle.demands.proofs.Frees.{free-ok}
 use Rattle.demands.proofs.Acts.{same-file, act-gives}
 use Rattle.demands.proofs.Lookup.{Covers}
 use Rattle.demands.proofs.Dlete.{dlete-by, gone-contents, gone-ended}
+use Rattle.demands.specs.Reuse.{Deleted, detail-freed, both-freed}
+use Rattle.demands.proofs.Moves.{treeIn, one-freed, two-freed, same-blocks}
 use Rattle.demands.proofs.Growth.{Grows, nothing, grow-from}
 use Rattle.demands.proofs.Changes.{grow-inner, grow-last, grow-section}
 
@@ -107,6 +109,7 @@ module _ (st : State) (ss : List Section) (f : Free) (r : Ready (desc st .k) st 
 
   abbrev Result : Type 0
   Result = (ss′ : List Section) × (f′ : Free) × Gives st ss (dlete st) done 6 (del (key (desc st .k)) (val (keyIn (desc st) (st .work))) (contents (leavesOf ss))) nothing ss′ f′
+      × Deleted (treeIn ss f) (treeIn ss′ f′)
 
   abbrev head : ℕ
   head = headOr (f .chain) 0
@@ -149,9 +152,9 @@ module _ (st : State) (ss : List Section) (f : Free) (r : Ready (desc st .k) st 
       → deleteDone v flag (st .work) d ≡ passed (emptying p (st .work) (reached v flag way .moves ++ emptyMoves p (pathOf a) head t) (op (written p (reached v flag way .moves ++ emptyMoves p (pathOf a) head t) (set (st .file) 1 b))))
       → (f′ : Free) → headOr (f′ .chain) 0 ≡ b → f′ .lowest ≡ f .lowest → (ss′ : List Section) → ((rest : List ℕ) → op (masterText p (treeOf a) f′ ++ rest) ≡ masterText p ss′ f′ ++ rest)
       → length t ≡ p .wpb → Holds p (masterText p ss′ f′) (wrotes (textOf v) ((a .leaf .block, link p f) ∷ ((a .index, t) ∷ []))) ss′ f′
-      → contents (leavesOf ss′) ≡ del (key (p .k)) (val w) (contents (leavesOf ss)) → Grows p (treeOf a) ss′ nothing → Result
+      → contents (leavesOf ss′) ≡ del (key (p .k)) (val w) (contents (leavesOf ss)) → Grows p (treeOf a) ss′ nothing → Deleted (treeIn (treeOf a) f) (treeIn ss′ f′) → Result
   unfolding emptying emptyMoves writes times weigh
-  emptied d t b op ed ee f′ eh el ss′ law lt hold c grew =
+  emptied d t b op ed ee f′ eh el ss′ law lt hold c grew freed =
       let ms : List Transfer = emptyMoves p (pathOf a) head t in
       let ws : List Cell = (a .leaf .block, link p f) ∷ ((a .index, t) ∷ []) in
       let i : (1 ≤ a .leaf .block) × (a .leaf .block ≤ p .n) = leaf-in p a f _ _ (A .held) in
@@ -169,6 +172,7 @@ module _ (st : State) (ss : List Section) (f : Free) (r : Ready (desc st .k) st 
             (act-gives st ss f (r .sound) (r .opened) kw a way A ms ws refl fit old f′ file₁ e₁ ss′ (op F) (ap op F-is ∙ law (behind p F)) hold _ c
             (gone-ended st ss f r kw a way A C [] x [] q k) 0 (zeros (p .wpb)) (inl (refl, zeros-length (p .wpb))) done (reached v flag way .moves ++ ms) 6
             (rw (length-append (reached v flag way .moves) ms) (omega (arith, way-cost v flag way))) nothing (grow-from p ss (treeOf a) ss′ nothing (A .is) grew)),
+        subst (λ (z : List Section). Deleted (treeIn z f) (treeIn ss′ f′)) (sym (A .is)) freed,
       )
 
   -- another leaf follows in the section
@@ -192,7 +196,7 @@ module _ (st : State) (ss : List Section) (f : Free) (r : Ready (desc st .k) st 
       f′ refl refl ss′ (λ rest. ap (λ (z : List ℕ). z ++ rest) (same m hs e f′)) (index-long p good ls ok (omega (arith, room, length-append (a .low) (m ∷ hs), length-append (a .low) (a .leaf ∷ (m ∷ hs)))))
       (drop-leaf p (a .before) (a .index) (a .low) (a .leaf) m hs (a .behind) f _ (textOf v) held′)
       (ap (λ (z : List Leaf). contents (leavesOf (a .before ++ (sec (a .index) (a .low ++ z) ∷ a .behind)))) (sym e) ∙ gone-contents st ss f r kw a way A C [] x [] q k [] refl)
-      (grow-inner p good a m hs e)
+      (grow-inner p good a m hs e) (detail-freed _ (one-freed a f ls (ap (λ (z : List Leaf). leafBlocks (a .low ++ z)) (sym e))))
     where
       same : (m : Leaf) (hs : List Leaf) → a .high ≡ m ∷ hs → (f′ : Free) → masterText p (treeOf a) f′ ≡ masterText p (a .before ++ (sec (a .index) (a .low ++ (m ∷ hs)) ∷ a .behind)) f′
       same m hs e f′ = unfold masterText masterEntry in rw e (simp (map-append, lastBound-append))
@@ -221,7 +225,7 @@ module _ (st : State) (ss : List Section) (f : Free) (r : Ready (desc st .k) st 
       (index-long p good ls (all-append (LeafOk p) low _ (all-left (LeafOk p) low _ (ok .leaves)) (wok, tt)) (omega (arith, ok .room, n, length-append low (withBound p y (a .leaf .bound) ∷ []))))
       (drop-last p (a .before) (a .index) low y (a .leaf) (a .behind) f _ (textOf v) held′)
       (contents-same low y el eh ∙ gone-contents st ss f r kw a way A C [] x [] q k [] refl)
-      (grow-last p good a eh s cs eb some low y (withBound p y (a .leaf .bound)) el refl)
+      (grow-last p good a eh s cs eb some low y (withBound p y (a .leaf .bound)) el refl) (detail-freed _ (one-freed a f ls (same-blocks low y (a .leaf .bound) (a .low) (a .high) el eh)))
     where
       same : (low : List Leaf) (y : Leaf) (f′ : Free) → masterText p (a .before ++ (sec (a .index) (low ++ (y ∷ (a .leaf ∷ []))) ∷ a .behind)) f′
           ≡ masterText p (a .before ++ (sec (a .index) (low ++ (withBound p y (a .leaf .bound) ∷ [])) ∷ a .behind)) f′
@@ -248,7 +252,7 @@ module _ (st : State) (ss : List Section) (f : Free) (r : Ready (desc st .k) st 
       (subst (λ (z : List Section). Holds p (masterText p (a .before ++ z) f′) (wrotes (textOf v) ((a .leaf .block, link p f) ∷ ((a .index, link p (push p (a .leaf .block) f)) ∷ []))) (a .before ++ z) f′) (sym eb)
       (drop-section p (a .before) (a .index) (a .leaf) jb m hs cs f (masterOf p (st .file)) (textOf v) held′))
       (contents-same el eh ∙ gone-contents st ss f r kw a way A C [] x [] q k [] refl)
-      (grow-section p good a eh (sec jb (m ∷ hs)) cs eb (omega arith) el)
+      (grow-section p good a eh (sec jb (m ∷ hs)) cs eb (omega arith) el) (both-freed _ _ (two-freed a f el eh))
     where
       contents-same : a .low ≡ [] → a .high ≡ [] → contents (leavesOf (a .before ++ a .behind)) ≡ contents (leavesOf (treeWith a []))
       contents-same el eh = rw (el, eh) (simp leaves-append)

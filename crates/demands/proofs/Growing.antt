@@ -36,20 +36,21 @@ use Rattle.demands.proofs.Opens.{flushed-stands}
 use Rattle.demands.proofs.Stepped.{Stepped}
 use Rattle.demands.proofs.Calls.{stepped}
 use Rattle.demands.proofs.Answered.{readied}
-use Rattle.demands.proofs.Storing.{treeIn, section-is, block-is, rows-are, section-are}
+use Rattle.demands.proofs.Storing.{section-is, block-is, rows-are, section-are}
+use Rattle.demands.proofs.Moves.{treeIn}
 use Rattle.demands.proofs.Promised.{after-open}
 
 -- so many more blocks are in use
 module _ (st : State) (ss : List Section) (f : Free) (h : Sound st ss f) (o : Outcome) (ss′ : List Section) (f′ : Free) (h′ : Sound (o .after) ss′ f′) (b : Growth) (g : Grows (desc st) ss ss′ b) where
-  more-details : newDetails st o ≡ b .splits + b .starts
+  pub more-details : newDetails st o ≡ b .splits + b .starts
   unfolding newDetails
   more-details = ap₂ (λ (m n : ℕ). m - n) (details-are (o .after) ss′ f′ h′) (details-are st ss f h) ∙ g .details
 
-  more-indexes : newIndexes st o ≡ b .index-splits + b .index-starts
+  pub more-indexes : newIndexes st o ≡ b .index-splits + b .index-starts
   unfolding newIndexes
   more-indexes = ap₂ (λ (m n : ℕ). m - n) (indexes-are (o .after) ss′ f′ h′) (indexes-are st ss f h) ∙ g .indexes
 
-stored-yes : (p : Description) (n : ℕ) (f : Free) → accepted (storedWith p n f) ≡ true
+pub stored-yes : (p : Description) (n : ℕ) (f : Free) → accepted (storedWith p n f) ≡ true
 stored-yes p n f = go (eqb n (D p) && eqb (freeCount f) 0)
   where
     go : (t : Bool) → accepted (cond t noneFree done) ≡ true
@@ -131,13 +132,13 @@ module _ (st : State) (ss : List Section) (f : Free) (h : Sound st ss f) (w : Li
 
 -- the other calls
 module _ (st : State) (ss : List Section) (f : Free) (h : Sound st ss f) where
-  none-new : (q : Request) (z : Stepped st ss q) → z .growth ≡ nothing → (newDetails st (answer st q) ≡ 0) × (newIndexes st (answer st q) ≡ 0)
+  none-new : (q : Request) (z : Stepped st ss f q) → z .growth ≡ nothing → (newDetails st (answer st q) ≡ 0) × (newIndexes st (answer st q) ≡ 0)
   none-new q z e = (
     more-details st ss f h (answer st q) (z .sections) (z .free) (z .sound) (z .growth) (z .grows) ∙ ap (λ (g : Growth). g .splits + g .starts) e,
     more-indexes st ss f h (answer st q) (z .sections) (z .free) (z .sound) (z .growth) (z .grows) ∙ ap (λ (g : Growth). g .index-splits + g .index-starts) e,
   )
 
-  no-news : (q : Request) → stores q ≡ false → (newDetails st (answer st q) ≡ 0) × (newIndexes st (answer st q) ≡ 0)
+  pub no-news : (q : Request) → stores q ≡ false → (newDetails st (answer st q) ≡ 0) × (newIndexes st (answer st q) ≡ 0)
   unfolding stores
   no-news (opening marks) e = let z = stepped st ss f h (opening marks) in none-new _ z (z .brought)
   no-news closing e = let z = stepped st ss f h closing in none-new _ z (z .brought)

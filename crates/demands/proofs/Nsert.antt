@@ -79,9 +79,9 @@ module _ (st : State) (ss : List Section) (f : Free) (r : Ready (desc st .wpr) s
       (stop-gives st ss f (r .sound) (r .opened) here 3 (way-cost v flag way) back n (st .work))
 
   -- NSERT of a key that stands there
-  pub nsert-duplicate : (a : Place) (way : Way) → At v flag ss f a way → (i : ℕ) → look v flag w ≡ passed (Found way i) → Gives st ss (nsert st) notFound 3 rows nothing ss f
+  pub duplicate-deed : (way : Way) (i : ℕ) → look v flag w ≡ passed (Found way i) → insertDeed v flag w ≡ passed (Stop way notFound)
   unfolding insertDeed insertAfter
-  nsert-duplicate a way A i l = stop-nsert a way A notFound (simp l)
+  duplicate-deed way i l = simp l
 
   module _ (kw : Key (desc st) (keyIn (desc st) (st .work))) (a : Place) (A : At (texts st) (st .session .flag) ss f a (By (pathOf a))) (C : Covers (texts st) (keyIn (desc st) (st .work)) a)
       (none : hit (key (desc st .k)) (val (keyIn (desc st) (st .work))) (a .leaf .records) ≡ []) (l : look (texts st) (st .session .flag) (keyIn (desc st) (st .work)) ≡ passed (Missing (pathOf a))) where
@@ -135,21 +135,25 @@ module _ (st : State) (ss : List Section) (f : Free) (r : Ready (desc st .wpr) s
 
     -- ---- "if the block has room, insert"
 
+    pub room-deed : length (a .leaf .records) < D p → insertDeed v flag w ≡ passed (Room (pathOf a) place (storedWith p (length (a .leaf .records) + 1) f))
+    unfolding insertAt roomDeed
+    room-deed less =
+        let rs : List (List ℕ) = a .leaf .records in
+        deed-at ∙ simp (text, count-table (p .wpb) rs, lt-ltb (length rs) (D p) less, heads, lows, stored-number v (length rs + 1) f free₀)
+
     pub nsert-room : length (a .leaf .records) < D p → Gives st ss (nsert st) (storedWith p (length (a .leaf .records) + 1) f) 3 (ins K (st .work) rows) aRecord (treeWith a (withRows p (a .leaf) (ins K (st .work) (a .leaf .records)) ∷ [])) f
-    unfolding insertAt roomDeed insertDone
+    unfolding insertDone
     nsert-room less =
         let n : ℕ = storedWith p (length (a .leaf .records) + 1) f in
         let here : Reached = reached v flag (By (pathOf a)) in
         let t : List ℕ = inserted (detailShape p) place (recordIn p (st .work)) (here .buffer) in
         let rs : List (List ℕ) = a .leaf .records in
-        let deed : insertDeed v flag w ≡ passed (Room (pathOf a) place n)
-        = deed-at ∙ simp (text, count-table (p .wpb) rs, lt-ltb (length rs) (D p) less, heads, lows, stored-number v (length rs + 1) f free₀) in
         let len : length (ins K (st .work) rs) ≡ suc (length rs) = length-ins K (st .work) rs in
         let fits : 1 + suc (length rs) * p .wpr ≤ p .wpb = omega (arith, caps p (r .sound .kept .good) .records-fit, mul-le-mul-right (p .wpr) less) in
         let words : t ≡ table (p .wpb) (ins K (st .work) rs)
         = ap (λ (x : List ℕ). inserted (detailShape p) place x (here .buffer)) (work-is st ss f r) ∙ ap (inserted (detailShape p) place (st .work)) (A .buffer-is)
         ∙ record-ins p kr rs (st .work) (lk .rows) (r .work-length) fits in
-        subst (λ (z : Outcome). Gives st ss z n 3 (ins K (st .work) rows) aRecord (treeWith a (withRows p (a .leaf) (ins K (st .work) (a .leaf .records)) ∷ [])) f) (sym (nsert-by (Room (pathOf a) place n) (storing n (st .work) here t) deed refl))
+        subst (λ (z : Outcome). Gives st ss z n 3 (ins K (st .work) rows) aRecord (treeWith a (withRows p (a .leaf) (ins K (st .work) (a .leaf .records)) ∷ [])) f) (sym (nsert-by (Room (pathOf a) place n) (storing n (st .work) here t) (room-deed less) refl))
         (store-gives st ss f (r .sound) (r .opened) here 3 (way-cost v flag (By (pathOf a))) a (A .kept) (A .current-is) (ins K (st .work) rs) (ins K (st .work) rows) t n (st .work) words asc-ins-here
         (omega (arith, len)) (omega (arith, len)) (all-ins K (RowOk p) (st .work) rs (work-ok st ss f r) (lk .rows))
         (ins-contents (withRows p (a .leaf) (ins K (st .work) rs) ∷ []) (append-nil (ins K (st .work) rs))) ins-ended kw aRecord

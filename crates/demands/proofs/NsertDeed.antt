@@ -1,4 +1,4 @@
--- NSERT into a full block: what it will do, and that it stops where no room is left.
+-- NSERT into a full block: what it will do, and that it will stop where no room is left.
 use Prim.Native.Nat.{ℕ, _-_, _≤_, _<_}
 use mathlib.Core.Bool.{Bool, true, cond}
 use mathlib.Core.Path.{_≡_, _∙_}
@@ -16,11 +16,10 @@ use Rattle.drum.specs.Params.{D, I, goodParams}
 use Rattle.drum.specs.Blocks.{Texts, textOf, chainHead, lowestUnused, sections}
 use Rattle.rules.specs.declared.Way.the-variants.{By}
 use Rattle.rules.specs.declared.Look.the-variants.{Missing}
-use Rattle.rules.specs.declared.Insert.the-variants.{Split, Both}
+use Rattle.rules.specs.declared.Insert.the-variants.{Stop, Split, Both}
 use Rattle.rules.specs.State.{State, desc, texts, keyIn}
 use Rattle.rules.specs.Lookup.{look}
 use Rattle.rules.specs.Nsert.{halfCount, splitWith, splitDeed, bothStored, bothWith, bothAfter, bothDeed, insertAt, insertDeed}
-use Rattle.rules.specs.NsertDone.{nsert}
 use Rattle.demands.proofs.Order.{hit}
 use Rattle.layout.specs.Tree.{Section}
 use Rattle.demands.proofs.Trees.{leavesOf, contents, key, table}
@@ -31,12 +30,11 @@ use Rattle.demands.proofs.Blocks.{masterOf}
 use Rattle.demands.proofs.Entries.{head-is, lowest-is, sections-is, count-index}
 use Rattle.demands.proofs.Paths.{pathOf}
 use Rattle.demands.proofs.Sound.{Key}
-use Rattle.demands.proofs.Answers.{Ready, Gives}
+use Rattle.demands.proofs.Answers.{Ready}
 use Rattle.demands.proofs.Reach.{At}
 use Rattle.demands.proofs.Lookup.{Covers}
 use Rattle.demands.proofs.Frees.{next, freeCount, taken, takenOf, storedWith, FreeOk, free-taken, taken-count, stored-number, grant-none, grant-some, next-outside, second-outside, second-other, next-in, second-in, new-pass}
-use Rattle.demands.proofs.Nsert.{stop-nsert, deed-at, place, held, free₀}
-use Rattle.demands.proofs.Growth.{nothing}
+use Rattle.demands.proofs.Nsert.{deed-at, place, held, free₀}
 
 module _ (st : State) (ss : List Section) (f : Free) (r : Ready (desc st .wpr) st ss f) (kw : Key (desc st) (keyIn (desc st) (st .work))) (a : Place)
     (A : At (texts st) (st .session .flag) ss f a (By (pathOf a))) (C : Covers (texts st) (keyIn (desc st) (st .work)) a)
@@ -94,9 +92,9 @@ module _ (st : State) (ss : List Section) (f : Free) (r : Ready (desc st .wpr) s
     to-split : insertDeed v flag (keyIn p (st .work)) ≡ splitDeed v flag (pathOf a) i
     to-split = deed-at st ss f r kw a A C none l ∙ not-room ∙ simp (lt-ltb (length (olds a)) (I p) less)
 
-    pub nsert-none : freeCount f ≡ 0 → Gives st ss (nsert st) noRoom 3 rows nothing ss f
+    pub none-deed : freeCount f ≡ 0 → insertDeed v flag (keyIn p (st .work)) ≡ passed (Stop (By (pathOf a)) noRoom)
     unfolding splitDeed splitWith
-    nsert-none z = stop-nsert st ss f r a (By (pathOf a)) A noRoom (to-split ∙ simp (heads, lows, grant-none v f fr z))
+    none-deed z = to-split ∙ simp (heads, lows, grant-none v f fr z)
 
     pub split-deed : 1 ≤ freeCount f → insertDeed v flag (keyIn p (st .work)) ≡ passed (Split (pathOf a) i (takenOf f) (storedWith p (halfCount (D p) i) (taken f)))
     unfolding splitDeed splitWith
@@ -118,24 +116,28 @@ module _ (st : State) (ss : List Section) (f : Free) (r : Ready (desc st .wpr) s
     secs : sections (st .file) ≡ length ss
     secs = sections-is p (st .file) ss f (hd .master-is) (hd .sized)
 
-    pub nsert-none-both : freeCount f ≡ 0 → Gives st ss (nsert st) noRoom 3 rows nothing ss f
+    pub none-both-deed : freeCount f ≡ 0 → insertDeed v flag (keyIn p (st .work)) ≡ passed (Stop (By (pathOf a)) noRoom)
     unfolding bothDeed bothAfter bothWith
-    nsert-none-both z = stop-nsert st ss f r a (By (pathOf a)) A noRoom (to-both ∙ simp (heads, lows, grant-none v f fr z))
+    none-both-deed z = to-both ∙ simp (heads, lows, grant-none v f fr z)
 
-    pub nsert-few : freeCount f ≡ 1 → Gives st ss (nsert st) noRoom 3 rows nothing ss f
+    pub few-deed : freeCount f ≡ 1 → insertDeed v flag (keyIn p (st .work)) ≡ passed (Stop (By (pathOf a)) noRoom)
     unfolding bothDeed bothAfter bothWith
-    nsert-few z =
+    few-deed z =
         let some : 1 ≤ freeCount f = omega arith in
-        stop-nsert st ss f r a (By (pathOf a)) A noRoom
-        (to-both ∙ simp (heads, lows, grant-some v f fr some, grant-none v (taken f) (free-taken v f fr some) (omega (arith, z, taken-count f some)), ne-eqb (next f) 0 (λ e. omega (arith, e, next-in p _ _ ss f hd some))))
+        to-both ∙ simp (
+          heads,
+          lows,
+          grant-some v f fr some,
+          grant-none v (taken f) (free-taken v f fr some) (omega (arith, z, taken-count f some)),
+          ne-eqb (next f) 0 (λ e. omega (arith, e, next-in p _ _ ss f hd some)),
+        )
 
-    pub nsert-sections : 2 ≤ freeCount f → p .control ≤ length ss → Gives st ss (nsert st) noRoom 3 rows nothing ss f
+    pub sections-deed : 2 ≤ freeCount f → p .control ≤ length ss → insertDeed v flag (keyIn p (st .work)) ≡ passed (Stop (By (pathOf a)) noRoom)
     unfolding bothDeed bothAfter bothWith
-    nsert-sections two c =
+    sections-deed two c =
         let some : 1 ≤ freeCount f = omega arith in
         let some₂ : 1 ≤ freeCount (taken f) = omega (arith, taken-count f some) in
-        stop-nsert st ss f r a (By (pathOf a)) A noRoom
-        (to-both ∙ simp (
+        to-both ∙ simp (
           heads,
           lows,
           grant-some v f fr some,
@@ -144,7 +146,7 @@ module _ (st : State) (ss : List Section) (f : Free) (r : Ready (desc st .wpr) s
           ne-eqb (next (taken f)) 0 (λ e. omega (arith, e, second-in p _ _ ss f hd some some₂)),
           secs,
           le-leb (p .control) (length ss) c,
-        ))
+        )
 
     pub both-deed : 2 ≤ freeCount f → length ss < p .control
         → insertDeed v flag (keyIn p (st .work)) ≡ passed (Both (pathOf a) i (next f) (takenOf (taken f)) (storedWith p (halfCount (D p) i) (taken (taken f))))

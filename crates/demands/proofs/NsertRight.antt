@@ -18,8 +18,11 @@ use Rattle.rules.specs.declared.Way.the-variants.{By}
 use Rattle.rules.specs.declared.Look.the-variants.{Missing}
 use Rattle.rules.specs.State.{State, desc, texts, keyIn}
 use Rattle.rules.specs.Lookup.{look}
-use Rattle.rules.specs.Nsert.{halfCount}
+use Rattle.rules.specs.declared.Insert.{Insert}
+use Rattle.rules.specs.declared.Insert.the-variants.{Stop}
+use Rattle.rules.specs.Nsert.{halfCount, insertDeed}
 use Rattle.rules.specs.NsertDone.{nsert}
+use Rattle.demands.specs.Counted.{detailSplits, indexSplits}
 use Rattle.demands.proofs.Order.{below, hit, ins}
 use Rattle.layout.specs.Tree.{Leaf, Section}
 use Rattle.demands.proofs.Trees.{leavesOf, contents, key}
@@ -35,10 +38,10 @@ use Rattle.demands.proofs.Reach.{At}
 use Rattle.demands.proofs.Lookup.{Covers, Looked, absent, there, looks}
 use Rattle.demands.proofs.Frees.{next, freeCount, taken, storedWith}
 use Rattle.demands.proofs.NsertTexts.{news-length}
-use Rattle.demands.proofs.Nsert.{nsert-duplicate, nsert-room}
-use Rattle.demands.proofs.NsertDeed.{nsert-none, nsert-none-both, nsert-few, nsert-sections}
+use Rattle.demands.proofs.Nsert.{stop-nsert, duplicate-deed, room-deed, nsert-room}
+use Rattle.demands.proofs.NsertDeed.{none-deed, none-both-deed, few-deed, sections-deed, split-deed, both-deed}
 use Rattle.demands.proofs.NsertSplit.{nsert-split, nsert-both}
-use Rattle.demands.proofs.Growth.{nothing, aRecord, aSplit, bothSplit}
+use Rattle.demands.proofs.Growth.{Growth, nothing, aRecord, aSplit, bothSplit}
 
 -- a is the place of the block that the record belongs in
 pub record Belongs (st : State) (ss : List Section) (a : Place) : Type 0 where
@@ -79,6 +82,28 @@ pub data Nserted (st : State) (ss : List Section) (f : Free) : Type 0 where
       → (freeCount f ≡ 0) ⊎ ((length (olds a) ≡ I (desc st)) × ((freeCount f ≡ 1) ⊎ (desc st .control ≤ length ss)))
       → Gives st ss (nsert st) noRoom 3 (contents (leavesOf ss)) nothing ss f → Nserted st ss f
 
+module _ {st : State} {ss : List Section} {f : Free} where
+  -- what each way brings
+  abbrev pub broughtBy : Nserted st ss f → Growth
+  broughtBy (duplicate x e g) = nothing
+  broughtBy (room e a b l g) = aRecord
+  broughtBy (split e a b l m s i q g) = aSplit
+  broughtBy (both e a b l m s c i q g) = bothSplit
+  broughtBy (no-room e a b l w g) = nothing
+
+-- what it comes to, with the plan: it splits as many blocks as that says
+pub record Came (st : State) (ss : List Section) (f : Free) : Type 0 where
+  pub way : Nserted st ss f
+  pub plan : Insert
+  pub plan-is : insertDeed (texts st) (st .session .flag) (keyIn (desc st) (st .work)) ≡ passed plan
+  pub splits : broughtBy way .splits ≡ detailSplits plan
+  pub index-splits : broughtBy way .index-splits ≡ indexSplits plan
+
+came : {st : State} {ss : List Section} {f : Free} {plan : Insert} (way : Nserted st ss f)
+    → insertDeed (texts st) (st .session .flag) (keyIn (desc st) (st .work)) ≡ passed plan
+    → broughtBy way .splits ≡ detailSplits plan → broughtBy way .index-splits ≡ indexSplits plan → Came st ss f
+came {st} {ss} {f} {plan} way e a b = record { way = way; plan = plan; plan-is = e; splits = a; index-splits = b }
+
 module _ (st : State) (ss : List Section) (f : Free) (r : Ready (desc st .wpr) st ss f) (kw : Key (desc st) (keyIn (desc st) (st .work))) where
   abbrev p : Description
   p = desc st
@@ -101,8 +126,14 @@ module _ (st : State) (ss : List Section) (f : Free) (r : Ready (desc st .wpr) s
     i2 : 2 ≤ I p
     i2 = good-facts p (r .sound .kept .good) .two-entries
 
+    stops : length (a .leaf .records) ≡ D p → (freeCount f ≡ 0) ⊎ ((length (olds a) ≡ I p) × ((freeCount f ≡ 1) ⊎ (p .control ≤ length ss)))
+        → insertDeed (texts st) (st .session .flag) w ≡ passed (Stop (By (pathOf a)) noRoom) → Came st ss f
+    unfolding detailSplits indexSplits
+    stops full why deed = came (no-room e a here full why (stop-nsert st ss f r a (By (pathOf a)) A noRoom deed)) deed refl refl
+
     -- the block is full
-    full-ways : length (a .leaf .records) ≡ D p → Nserted st ss f
+    full-ways : length (a .leaf .records) ≡ D p → Came st ss f
+    unfolding detailSplits indexSplits
     full-ways full = go (decLt (length (olds a)) (I p)) (ℕ-discrete (freeCount f) 0) (ℕ-discrete (freeCount f) 1) (decLt (length ss) (p .control))
       where
         rs : List (List ℕ)
@@ -120,21 +151,30 @@ module _ (st : State) (ss : List Section) (f : Free) (r : Ready (desc st .wpr) s
         lx : suc (length (take j rs)) ≡ lowCount (D p)
         lx = ap suc (length-take-le j rs (omega (arith, jl .0))) ∙ jl .1
 
-        go : Dec (length (olds a) < I p) → Dec (freeCount f ≡ 0) → Dec (freeCount f ≡ 1) → Dec (length ss < p .control) → Nserted st ss f
-        go (yes less) (yes z) d₁ d₂ = no-room e a here full (inl z) (nsert-none st ss f r kw a A C none l full less z)
-        go (yes less) (no z) d₁ d₂ = split e a here full less (omega arith) (before st a) refl (nsert-split st ss f r kw a A C none l full (take j rs) (getD rs j []) (drop (suc j) rs) cut lx less (omega arith))
-        go (no m) (yes z) d₁ d₂ = no-room e a here full (inl z) (nsert-none-both st ss f r kw a A C none l full (omega (arith, sec-room)) z)
+        go : Dec (length (olds a) < I p) → Dec (freeCount f ≡ 0) → Dec (freeCount f ≡ 1) → Dec (length ss < p .control) → Came st ss f
+        go (yes less) (yes z) d₁ d₂ = stops full (inl z) (none-deed st ss f r kw a A C none l full less z)
+        go (yes less) (no z) d₁ d₂ =
+            let some : 1 ≤ freeCount f = omega arith in
+            came
+            (split e a here full less some (before st a) refl
+            (nsert-split st ss f r kw a A C none l full (take j rs) (getD rs j []) (drop (suc j) rs) cut lx less some))
+            (split-deed st ss f r kw a A C none l full less some) refl refl
+        go (no m) (yes z) d₁ d₂ = stops full (inl z) (none-both-deed st ss f r kw a A C none l full (omega (arith, sec-room)) z)
         go (no m) (no z) (yes o) d₂ =
             let most : length (olds a) ≡ I p = omega (arith, sec-room) in
-            no-room e a here full (inr (most, inl o)) (nsert-few st ss f r kw a A C none l full most o)
+            stops full (inr (most, inl o)) (few-deed st ss f r kw a A C none l full most o)
         go (no m) (no z) (no o) (no c) =
             let most : length (olds a) ≡ I p = omega (arith, sec-room) in
             let top : p .control ≤ length ss = omega arith in
-            no-room e a here full (inr (most, inr top)) (nsert-sections st ss f r kw a A C none l full most (omega arith) top)
+            stops full (inr (most, inr top)) (sections-deed st ss f r kw a A C none l full most (omega arith) top)
         go (no m) (no z) (no o) (yes c) =
             let most : length (olds a) ≡ I p = omega (arith, sec-room) in
-            both e a here full most (omega arith) c (before st a) refl
-            (nsert-both st ss f r kw a A C none l full (take j rs) (getD rs j []) (drop (suc j) rs) cut lx most (take i ns) (getD ns i (a .leaf)) (drop (suc i) ns) (split-at ns i (a .leaf) il) li (omega arith) c)
+            let two : 2 ≤ freeCount f = omega arith in
+            came
+            (both e a here full most two c (before st a) refl
+            (nsert-both st ss f r kw a A C none l full (take j rs) (getD rs j []) (drop (suc j) rs) cut lx most
+            (take i ns) (getD ns i (a .leaf)) (drop (suc i) ns) (split-at ns i (a .leaf) il) li two c))
+            (both-deed st ss f r kw a A C none l full most two c) (refl {a = 1}) (refl {a = 1})
           where
             ns : List Leaf
             ns = a .low ++ (lower p (a .leaf) (take j rs) (getD rs j []) ∷ (upper p (a .leaf) (next f) (drop (suc j) rs) ∷ a .high))
@@ -148,18 +188,25 @@ module _ (st : State) (ss : List Section) (f : Free) (r : Ready (desc st .wpr) s
             li : suc (length (take i ns)) ≡ lowCount (I p)
             li = ap suc (length-take-le i ns (omega (arith, il))) ∙ omega (arith, half (I p) i2)
 
-    new-key : Nserted st ss f
+    new-key : Came st ss f
+    unfolding detailSplits indexSplits
     new-key = go (decLt (length (a .leaf .records)) (D p))
       where
-        go : Dec (length (a .leaf .records) < D p) → Nserted st ss f
-        go (yes less) = room e a here less (nsert-room st ss f r kw a A C none l less)
+        go : Dec (length (a .leaf .records) < D p) → Came st ss f
+        go (yes less) = came (room e a here less (nsert-room st ss f r kw a A C none l less)) (room-deed st ss f r kw a A C none l less) refl refl
         go (no n) = full-ways (omega (arith, leaf-ok p a f _ _ (A .held) .room))
 
-  at : Looked (texts st) (st .session .flag) (keyIn (desc st) (st .work)) ss f → Nserted st ss f
-  at (there a way A C bs x cs q k one l) = duplicate x one (nsert-duplicate st ss f r a way A (length bs) l)
+  at : Looked (texts st) (st .session .flag) (keyIn (desc st) (st .work)) ss f → Came st ss f
+  unfolding detailSplits indexSplits
+  at (there a way A C bs x cs q k one l) =
+      let deed = duplicate-deed st ss f r way (length bs) l in
+      came (duplicate x one (stop-nsert st ss f r a way A notFound deed)) deed refl refl
   at (absent a A C e none l) = new-key e a A C none l
 
-pub nsert-right : (st : State) (ss : List Section) (f : Free) → Ready (desc st .wpr) st ss f → Nserted st ss f
-nsert-right st ss f r =
+pub nsert-came : (st : State) (ss : List Section) (f : Free) → Ready (desc st .wpr) st ss f → Came st ss f
+nsert-came st ss f r =
     let kw : Key (desc st) (keyIn (desc st) (st .work)) = key-of (desc st .wpr) st ss f r (good-facts (desc st) (r .sound .kept .good) .key) (omega arith) in
     at st ss f r kw (looks (texts st) (st .session .flag) ss f (r .sound .kept) (keyIn (desc st) (st .work)) kw)
+
+pub nsert-right : (st : State) (ss : List Section) (f : Free) → Ready (desc st .wpr) st ss f → Nserted st ss f
+nsert-right st ss f r = nsert-came st ss f r .way

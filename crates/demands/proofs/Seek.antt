@@ -7,7 +7,9 @@ use mathlib.Core.List.{List, [], _∷_, _++_, append-nil}
 use native.Mathlib.Omega.{arith}
 use lib.ListN.{length, length-append, length-replicate}
 use Rattle.numbers.specs.Numbers.{done, notFound}
+use Rattle.words.specs.Words.{part}
 use Rattle.words.specs.Keys.{val}
+use Rattle.words.proofs.Values.{val-inj}
 use Rattle.table.specs.Tables.{row, replaced}
 use Rattle.drum.specs.declared.Description.{Description}
 use Rattle.drum.specs.Params.{detailShape}
@@ -27,12 +29,16 @@ use Rattle.demands.proofs.Steps.{withRows}
 use Rattle.demands.proofs.Places.{lo, hi, leaf-ok, asc-leaf, upd-here, treeOf, treeWith}
 use Rattle.demands.proofs.Blocks.{writes}
 use Rattle.demands.proofs.Paths.{pathOf}
-use Rattle.demands.proofs.Records.{row-here, record-replace, upd-at, ended-upd}
+use Rattle.demands.proofs.Records.{key-long, row-here, record-replace, upd-at, ended-upd}
 use Rattle.demands.proofs.Sound.{Key, Kept, Sound, leftBy, no-true-false}
 use Rattle.demands.proofs.Answers.{Ready, key-of, work-is, work-ok, work-key, sizes-pass, open-pass, ready-pass, Gives}
 use Rattle.demands.proofs.Reach.{flush-cost, way-cost, flush-pass, bring}
 use Rattle.demands.proofs.Lookup.{Looked, absent, there, looks}
 use Rattle.demands.proofs.Stores.{asc-rows, row-key, stop-gives, give-gives, store-gives}
+use Rattle.demands.specs.Filled.{Filled}
+use Rattle.demands.specs.Reuse.{Keeps}
+use Rattle.demands.proofs.Moves.{treeIn, kept-block}
+use Rattle.demands.proofs.Fills.{filled-updated}
 use Rattle.demands.proofs.Growth.{nothing, grow-none, grow-from}
 use Rattle.demands.proofs.Changes.{grow-less}
 
@@ -107,9 +113,17 @@ abbrev pub UpdatRight : State → List Section → Free → Type 0
 UpdatRight st ss f =
     ((hit (key (desc st .k)) (val (keyIn (desc st) (st .work))) (contents (leavesOf ss)) ≡ []) × Gives st ss (updat st) notFound 3 (contents (leavesOf ss)) nothing ss f)
     ⊎ ((x : List ℕ) × (hit (key (desc st .k)) (val (keyIn (desc st) (st .work))) (contents (leavesOf ss)) ≡ x ∷ [])
-    × (ss′ : List Section) × (f′ : Free) × Gives st ss (updat st) done 3 (upd (key (desc st .k)) (st .work) (contents (leavesOf ss))) nothing ss′ f′)
+    × (ss′ : List Section) × (f′ : Free) × Gives st ss (updat st) done 3 (upd (key (desc st .k)) (st .work) (contents (leavesOf ss))) nothing ss′ f′
+    × Keeps (treeIn ss f) (treeIn ss′ f′) × (Filled (desc st) (treeIn ss f) → Filled (desc st) (treeIn ss′ f′)))
 
 module _ (st : State) (ss : List Section) (f : Free) (r : Ready (desc st .wpr) st ss f) (kw : Key (desc st) (keyIn (desc st) (st .work))) where
+  -- a record with the key's number has the key
+  same-key : (x : List ℕ) → RowOk (desc st) x → key (desc st .k) x ≡ val (keyIn (desc st) (st .work)) → keyIn (desc st) (st .work) ≡ keyIn (desc st) x
+  unfolding key part
+  same-key x ok k =
+      let long = key-long (desc st) (good-facts (desc st) (r .sound .kept .good) .key) x ok in
+      val-inj _ _ (kw .wide) (long .1) (kw .long ∙ sym (long .0)) (sym k)
+
   updat-at : Looked (texts st) (st .session .flag) (keyIn (desc st) (st .work)) ss f → UpdatRight st ss f
   unfolding updat updatSteps updatDone
   updat-at (absent a A C none gone l) =
@@ -153,6 +167,8 @@ module _ (st : State) (ss : List Section) (f : Free) (r : Ready (desc st .wpr) s
             ∙ ap (λ (z : List Section). upd K (st .work) (contents (leavesOf z))) (sym (A .is)))
             (ended-upd p kr (contents (leavesOf ss)) _ (asc-rows p _ _ ss f (r .sound .kept .holds)) (r .sound .kept .ended) (st .work) (rw key-is (kw .below))) kw nothing
             (grow-from p ss (treeOf a) _ nothing (A .is) (grow-less p (r .sound .kept .good) a (withRows p (a .leaf) (bs ++ st .work ∷ cs)) (omega (arith, len))))),
+        subst (λ (z : List Section). Keeps (treeIn z f) (treeIn (treeWith a (withRows p (a .leaf) (bs ++ st .work ∷ cs) ∷ [])) f)) (sym (A .is)) (kept-block a f (withRows p (a .leaf) (bs ++ st .work ∷ cs)) refl),
+        filled-updated p a f ss (A .is) bs x (st .work) cs q (same-key x (all-right (RowOk p) bs _ ok .0) k),
       )
 
 pub updat-right : (st : State) (ss : List Section) (f : Free) → Ready (desc st .wpr) st ss f → UpdatRight st ss f

@@ -95,9 +95,9 @@ pub record Told (p : Description) (st : State) (ss : List Section) (qs : List Re
   pub contents-is : contents (leavesOf sections) ≡ happened (key (p .k)) (map numbered (events st qs)) (contents (leavesOf ss))
   pub keys : All (KeyOf p) (events st qs)
 
-told-more : (p : Description) (st : State) (ss : List Section) (q : Request) (qs : List Request) → desc st ≡ p → (z : Stepped st ss q) → Told p (answer st q .after) (z .sections) qs → Told p st ss (q ∷ qs)
+told-more : (p : Description) (st : State) (ss : List Section) (f : Free) (q : Request) (qs : List Request) → desc st ≡ p → (z : Stepped st ss f q) → Told p (answer st q .after) (z .sections) qs → Told p st ss (q ∷ qs)
 unfolding left events
-told-more p st ss q qs e z r = record {
+told-more p st ss f q qs e z r = record {
   sections = r .sections;
   free = r .free;
   sound = r .sound;
@@ -122,8 +122,8 @@ tells p [] st ss f h e = record {
   keys = unfold events in tt;
 }
 tells p (q ∷ qs) st ss f h e =
-    let z : Stepped st ss q = stepped st ss f h q in
-    told-more p st ss q qs e z (tells p qs (answer st q .after) (z .sections) (z .free) (z .sound) (z .desc-is ∙ e))
+    let z : Stepped st ss f q = stepped st ss f h q in
+    told-more p st ss f q qs e z (tells p qs (answer st q .after) (z .sections) (z .free) (z .sound) (z .desc-is ∙ e))
 
 -- ---- SEEK
 

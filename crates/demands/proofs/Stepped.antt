@@ -2,7 +2,9 @@
 use Prim.Native.Nat.{ℕ, _+_, _*_, _≤_}
 use mathlib.Core.Path.{_≡_}
 use mathlib.Core.List.{List, map}
+use lib.Dec.{eqb}
 use lib.ListN.{length}
+use Rattle.numbers.specs.Numbers.{done}
 use Rattle.words.specs.Keys.{val}
 use Rattle.drum.specs.declared.Description.{Description}
 use Rattle.rules.specs.State.{State, Outcome, desc, keyIn}
@@ -10,12 +12,15 @@ use Rattle.rules.specs.Requests.{Request, opening, closing, seeking, advancing,
 use Rattle.demands.specs.Formula.{acceptedBy, share}
 use Rattle.demands.specs.History.{eventOf}
 use Rattle.demands.specs.History as told
+use Rattle.demands.specs.Filled.{disturbs, Filled}
+use Rattle.demands.specs.Reuse.{Takes, Keeps, Deletes}
 use Rattle.demands.proofs.Lists.{All}
-use Rattle.layout.specs.Tree.{Section}
+use Rattle.layout.specs.Tree.{Section, Tree}
 use Rattle.demands.proofs.Trees.{leavesOf, contents, key}
 use Rattle.demands.proofs.Holds.{Free}
 use Rattle.demands.proofs.Sound.{Key, Sound}
 use Rattle.demands.proofs.History.{Event, stored, removed, happened}
+use Rattle.demands.proofs.Moves.{treeIn}
 use Rattle.demands.proofs.Growth.{Growth, nothing, Grows}
 
 -- what a call may bring: NSERT splits and XTEND starts, with a record where it is accepted; the others bring nothing
@@ -42,9 +47,20 @@ abbrev pub KeyOf : Description → told.Event → Type 0
 KeyOf p (told.stored r) = Key p (keyIn p r)
 KeyOf p (told.removed x) = Key p x
 
+-- what a call makes of the blocks: NSERT and XTEND take as many as they bring, DLETE may free some, the others keep all
+abbrev pub Moved : Request → Outcome → Growth → Tree → Tree → Type 0
+Moved (opening marks) o g t t′ = Keeps t t′
+Moved closing o g t t′ = Keeps t t′
+Moved (seeking w) o g t t′ = Keeps t t′
+Moved (advancing w) o g t t′ = Keeps t t′
+Moved (inserting w) o g t t′ = Takes (g .splits + g .starts) (g .index-splits + g .index-starts) t t′
+Moved (deleting w) o g t t′ = Deletes (eqb (o .number) done) t t′
+Moved (updating w) o g t t′ = Keeps t t′
+Moved (extending w) o g t t′ = Takes (g .splits + g .starts) (g .index-splits + g .index-starts) t t′
+
 -- a call from a sound state with the tree ss: a sound state again, of the same file; the contents with what the call put in or took out; and
--- what the call brought, at what cost
-pub record Stepped (st : State) (ss : List Section) (q : Request) : Type 0 where
+-- what the call brought, at what cost; the blocks then; and a tree filled by XTEND stays one where the call is no NSERT and no DLETE accepted
+pub record Stepped (st : State) (ss : List Section) (f : Free) (q : Request) : Type 0 where
   pub sections : List Section
   pub free : Free
   pub sound : Sound (answer st q .after) sections free
@@ -55,3 +71,5 @@ pub record Stepped (st : State) (ss : List Section) (q : Request) : Type 0 where
   pub grows : Grows (desc st) ss sections growth
   pub brought : Brought q (answer st q) growth
   pub cost : length (answer st q .transfers) ≤ most q growth
+  pub moved : Moved q (answer st q) growth (treeIn ss f) (treeIn sections free)
+  pub filled : disturbs q (answer st q) ≡ 0 → Filled (desc st) (treeIn ss f) → Filled (desc st) (treeIn sections free)

@@ -60,6 +60,7 @@ use Rattle.demands.proofs.Standing.{with-hit, rows-of, rows-ok}
 use Rattle.demands.proofs.Opens.{flushed-stands}
 use Rattle.demands.proofs.Contents.{row-under, below-is, read-in}
 use Rattle.demands.proofs.Answered.{readied}
+use Rattle.demands.proofs.Moves.{treeIn}
 use Rattle.demands.proofs.Promised.{after-open}
 
 -- ---- the number by its cases
@@ -164,9 +165,6 @@ module _ (p : Description) (w : List ℕ) (kw : Key p w) where
       go false q z = z (omega arith)
 
 -- ---- NSERT
-
-abbrev pub treeIn : List Section → Free → Tree
-treeIn ss f = record { sections = ss; chain = f .chain; lowest = f .lowest }
 
 module _ (st : State) (ss : List Section) (f : Free) (h : Sound st ss f) where
   abbrev p : Description
@@ -274,7 +272,7 @@ last-of (x ∷ []) y = refl
 last-of (x ∷ z ∷ fr) y = last-of (z ∷ fr) y
 
 -- the records before the end record are ordinary
-ordinary-front : (p : Description) → p .k ≤ p .wpr → (e : List ℕ) → isOnes (keyIn p e) ≡ true → (lo : ℕ) (xs : List (List ℕ)) (hi : ℕ)
+pub ordinary-front : (p : Description) → p .k ≤ p .wpr → (e : List ℕ) → isOnes (keyIn p e) ≡ true → (lo : ℕ) (xs : List (List ℕ)) (hi : ℕ)
     → Asc (key (p .k)) lo (xs ++ e ∷ []) hi → hi ≡ suc (val (ones (p .k))) → All (RowOk p) (xs ++ e ∷ []) → ordinary p (xs ++ e ∷ []) ≡ xs
 unfolding ordinary
 ordinary-front p kr e o lo [] hi h t ok = rw o
@@ -422,9 +420,11 @@ module _ (st : State) (ss : List Section) (f : Free) (r : Ready (desc st .wpr) s
 
 -- ---- after each call of a run
 
-pub call-numbers : CallNumbers
+pub sound-numbers : (st : State) (ss : List Section) (f : Free) → Sound st ss f → (t : Tree) → laid.Holds (desc st) (putBack st) t → Stored st t
 unfolding answer lending
-call-numbers =
-    after-open (λ (st : State). (t : Tree) → laid.Holds (desc st) (putBack st) t → Stored st t) λ st ss f h t ht.
+sound-numbers st ss f h t ht =
     let is : treeIn ss f ≡ t = one-tree (desc st) (putBack st) (treeIn ss f) t (h .kept .good) (flushed-stands st ss f h) ht in
     subst (Stored st) is (record { nsert = nsert-number st ss f h; xtend = λ w a. xtend-number (lending w st) ss f (readied st ss f h (desc st .wpr) w a) })
+
+pub call-numbers : CallNumbers
+call-numbers = after-open (λ (st : State). (t : Tree) → laid.Holds (desc st) (putBack st) t → Stored st t) sound-numbers

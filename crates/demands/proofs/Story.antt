@@ -123,7 +123,7 @@ module _ (st : State) (ss : List Section) (f : Free) (h : Sound st ss f) where
     where
       by : UpdatRight (lending w st) ss f → (y : List ℕ) × (hit K (val (keyIn p w)) rows ≡ y ∷ [])
       by (inl (e, g)) = impossible (sym a ∙ ap accepted (g .number-is))
-      by (inr (y, e, ss′, f′, g)) = (y, e)
+      by (inr (y, e, ss′, f′, g, c, d)) = (y, e)
 
       go : Gate (lending w st) ss f (lent-sound w st ss f h) (p .wpr) → (y : List ℕ) × (hit K (val (keyIn p w)) rows ≡ y ∷ [])
       go (stopped n ne ac nf e) = impossible (sym a ∙ ap (λ (o : Outcome). accepted (o .number)) (e (updatSteps (texts (lending w st)) (st .session .flag) w)) ∙ ac)
@@ -183,7 +183,7 @@ module _ (st : State) (ss : List Section) (f : Free) (h : Sound st ss f) where
     call-same (extending w) ks = if-same (accepted (answer st (extending w) .number)) (told.stored w) (added w) ks (λ a kw. added-as w kw (xtend-fresh w a))
 
     -- the records with the key after the call
-    with-after : (q : Request) (z : Stepped st ss q) → withKey p k (contents (leavesOf (z .sections))) ≡ told.standing p k (eventOf p q (answer st q)) (withKey p k rows)
+    with-after : (q : Request) (z : Stepped st ss f q) → withKey p k (contents (leavesOf (z .sections))) ≡ told.standing p k (eventOf p q (answer st q)) (withKey p k rows)
     with-after q z =
         let es : List told.Event = eventOf p q (answer st q) in
         let top : ℕ = reach (p .k) 0 (leavesOf ss) in
@@ -205,7 +205,7 @@ run-same : (p : Description) (k : List ℕ) → Key p k → (qs : List Request) 
 unfolding events deeds
 run-same p k kk [] st ss f h e = unfold told.standing stands in refl
 run-same p k kk (q ∷ qs) st ss f h e =
-    let z : Stepped st ss q = stepped st ss f h q in
+    let z : Stepped st ss f q = stepped st ss f h q in
     let es : List told.Event = eventOf (desc st) q (answer st q) in
     let ds : List Deed = deedOf (desc st) q (answer st q) in
     let was : List (List ℕ) = withKey p k (contents (leavesOf ss)) in

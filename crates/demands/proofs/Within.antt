@@ -1,21 +1,25 @@
 -- The session formula of a whole run, from what is known of each call; and the bound of one call.
-use Prim.Native.Nat.{ℕ, _+_, _*_, _≤_}
+use Prim.Native.Nat.{ℕ, _+_, _*_, _/_, _≤_}
+use mathlib.Core.Bool.{true}
 use mathlib.Core.Path.{_≡_, refl, sym, _∙_, subst}
 use mathlib.Core.List.{List, [], _∷_}
 use native.Mathlib.Omega.{arith}
 use Rattle.numbers.specs.Numbers.{done}
 use Rattle.drum.specs.declared.Description.{Description}
-use Rattle.drum.specs.Params.{D, I, FD, FI}
+use Rattle.drum.specs.Params.{D, I, FD, FI, goodParams}
+use Rattle.drum.proofs.Good.{good-facts}
 use Rattle.rules.specs.State.{Session, State, Outcome, desc, lent}
 use Rattle.rules.specs.Open.{create, openFile}
 use Rattle.rules.specs.Requests.{Request, opening, closing, seeking, advancing, inserting, deleting, updating, extending, answer, left, tally}
-use Rattle.demands.specs.Formula.{hD, hI, newDetails, newIndexes, acceptedBy, ofNsert, ofXtend, M, S, s, X, x, allTransfers, shares, Within, Demand3, CallWithin}
+use Rattle.demands.specs.Formula.{hD, hI, newDetails, newIndexes, acceptedBy, ofNsert, ofXtend}
+use Rattle.demands.specs.Formula.{M, S, s, X, x, allTransfers, shares, Within, AfterCreate, CallWithin}
+use Rattle.demands.specs.Nearest.{Nearest}
 use Rattle.demands.proofs.Lists.{All, all-append}
 use Rattle.layout.specs.Tree.{Leaf, Section}
 use Rattle.demands.proofs.Trees.{leavesOf}
 use Rattle.demands.proofs.Holds.{Free, LeafOk, SectionOk}
 use Rattle.demands.proofs.Sound.{Sound}
-use Rattle.demands.proofs.Potential.{lastOr, paid-same, paid-halves, paid-fills}
+use Rattle.demands.proofs.Potential.{lastOr, paid-same, paid-halves, paid-first, paid-fills}
 use Rattle.demands.proofs.Growth.{counts, sizes, Growth, grown, plus, nothing, Tally, Grows, tally-made}
 use Rattle.demands.proofs.InUse.{details-are, indexes-are}
 use Rattle.demands.proofs.Stepped.{Brought, Stepped}
@@ -42,7 +46,7 @@ sees st (deleting w) o g b d i = subst (Seen st (deleting w) o) (sym b) (record 
 sees st (updating w) o g b d i = subst (Seen st (updating w) o) (sym b) (record { records = refl; splits = refl; index-splits = refl; starts = refl; index-starts = refl })
 sees st (extending w) o g b d i = record { records = omega arith; splits = omega arith; index-splits = omega arith; starts = omega arith; index-starts = omega arith }
 
-module _ (st : State) (ss : List Section) (f : Free) (h : Sound st ss f) (q : Request) (z : Stepped st ss q) where
+module _ (st : State) (ss : List Section) (f : Free) (h : Sound st ss f) (q : Request) (z : Stepped st ss f q) where
   new-details : newDetails st (answer st q) ≡ z .growth .splits + z .growth .starts
   unfolding newDetails
   new-details = rw (details-are (answer st q .after) (z .sections) (z .free) (z .sound), details-are st ss f h) (z .grows .details)
@@ -72,16 +76,16 @@ tally-same p ss g h a b c d e t = record {
 }
 
 -- where a run of calls ends that began after g was brought
-record Ran (p : Description) (st : State) (qs : List Request) (g : Growth) : Type 0 where
-  sections : List Section
-  free : Free
-  sound : Sound (left st qs) sections free
-  desc-is : desc (left st qs) ≡ p
-  tally : Tally p sections (plus (brings st qs) g)
-  cost : allTransfers st qs ≤ shares st qs + 4 * (S st qs + X st qs) + s st qs + x st qs
+pub record Ran (p : Description) (st : State) (qs : List Request) (g : Growth) : Type 0 where
+  pub sections : List Section
+  pub free : Free
+  pub sound : Sound (left st qs) sections free
+  pub desc-is : desc (left st qs) ≡ p
+  pub tally : Tally p sections (plus (brings st qs) g)
+  pub cost : allTransfers st qs ≤ shares st qs + 4 * (S st qs + X st qs) + s st qs + x st qs
 
 -- a call before the run
-ran-more : (p : Description) (st : State) (ss : List Section) (f : Free) (g : Growth) (q : Request) (qs : List Request) → Sound st ss f → (z : Stepped st ss q)
+ran-more : (p : Description) (st : State) (ss : List Section) (f : Free) (g : Growth) (q : Request) (qs : List Request) → Sound st ss f → (z : Stepped st ss f q)
     → Ran p (answer st q .after) qs (plus (z .growth) g) → Ran p st (q ∷ qs) g
 unfolding M S X s x allTransfers shares tally left
 ran-more p st ss f g q qs h z r =
@@ -118,7 +122,7 @@ leaves-ok p [] h = tt
 leaves-ok p (z ∷ zs) h = all-append (LeafOk p) (z .leaves) (leavesOf zs) (h .0 .leaves) (leaves-ok p zs (h .1))
 
 -- what a run brought, from nothing on, is within the formula
-ran-within : (st : State) (qs : List Request) → Ran (desc st) st qs nothing → Within st qs
+pub ran-within : (st : State) (qs : List Request) → Ran (desc st) st qs nothing → Within st qs
 unfolding hD hI
 ran-within st qs r =
     let p : Description = desc st in
@@ -135,7 +139,22 @@ ran-within st qs r =
       transfers = r .cost;
     }
 
-module _ (step : (st : State) (ss : List Section) (f : Free) → Sound st ss f → (q : Request) → Stepped st ss q) where
+pub ran-good : (st : State) (qs : List Request) → Ran (desc st) st qs nothing → goodParams (desc st) ≡ true
+ran-good st qs r = subst (λ (d : Description). goodParams d ≡ true) (r .desc-is) (r .sound .kept .good)
+
+-- and short of it by half a block
+pub ran-nearest : (st : State) (qs : List Request) → Ran (desc st) st qs nothing → Nearest st qs
+unfolding hD hI
+ran-nearest st qs r =
+    let p : Description = desc st in
+    let g = good-facts p (ran-good st qs r) in
+    let a : 1 ≤ S st qs → (D p + 1) / 2 * S st qs + D p / 2 ≤ M st qs
+    = λ l. omega (arith, paid-first (D p) (FD p) _ _ _ _ (r .tally .leaves) (omega arith)) in
+    let b : 1 ≤ s st qs → (I p + 1) / 2 * s st qs + I p / 2 ≤ S st qs + X st qs
+    = λ l. omega (arith, paid-first (I p) (FI p) _ _ _ _ (r .tally .entries) (omega arith)) in
+    record { never = λ l. omega (arith, a l); index-never = λ l. omega (arith, b l); splits = a; index-splits = b }
+
+module _ (step : (st : State) (ss : List Section) (f : Free) → Sound st ss f → (q : Request) → Stepped st ss f q) where
   runs : (p : Description) (qs : List Request) (st : State) (ss : List Section) (f : Free) → Sound st ss f → desc st ≡ p → (g : Growth) → Tally p ss g → Ran p st qs g
   runs p [] st ss f h e g t = record {
     sections = ss;
@@ -146,24 +165,21 @@ module _ (step : (st : State) (ss : List Section) (f : Free) → Sound st ss f �
     cost = unfold allTransfers shares S X s x tally in omega arith;
   }
   runs p (q ∷ qs) st ss f h e g t =
-      let z : Stepped st ss q = step st ss f h q in
+      let z : Stepped st ss f q = step st ss f h q in
       let u : Grows p ss (z .sections) (z .growth) = subst (λ (r : Description). Grows r ss (z .sections) (z .growth)) e (z .grows) in
       ran-more p st ss f g q qs h z (runs p qs (answer st q .after) (z .sections) (z .free) (z .sound) (z .desc-is ∙ e) (plus (z .growth) g) (u .tally g t))
 
-  -- from a sound state, where no call has brought anything yet
-  pub within : (st : State) (ss : List Section) (f : Free) → Sound st ss f → Tally (desc st) ss nothing → (qs : List Request) → Within st qs
-  within st ss f h t qs = ran-within st qs (runs (desc st) qs st ss f h refl nothing t)
-
-  -- "From a CREATE and then an OPEN that both answer 0", which leave a sound state with one section of one leaf with the end record
-  pub demand-3 : ((session : Session) (f buffer work marks : List ℕ) → create (session .desc) f .number ≡ done
+  -- "From a CREATE and then an OPEN that both answer 0", which leave a sound state with one section of one leaf with the end record: what holds of
+  -- a run that began with nothing brought
+  pub after-create : ((session : Session) (f buffer work marks : List ℕ) → create (session .desc) f .number ≡ done
       → openFile (lent session (create (session .desc) f .file) buffer work) marks .outcome .number ≡ done
       → (ss : List Section) × (free : Free) × Sound (openFile (lent session (create (session .desc) f .file) buffer work) marks .outcome .after) ss free
       × (counts (leavesOf ss) ≡ 1 ∷ []) × (sizes ss ≡ 1 ∷ []))
-      → Demand3
-  demand-3 made session f buffer work marks c o qs = go (made session f buffer work marks c o)
+      → (P : State → List Request → Type 0) → ((st : State) (qs : List Request) → Ran (desc st) st qs nothing → P st qs) → AfterCreate P
+  after-create made P by session f buffer work marks c o qs = go (made session f buffer work marks c o)
     where
       st : State
       st = openFile (lent session (create (session .desc) f .file) buffer work) marks .outcome .after
 
-      go : (ss : List Section) × (free : Free) × Sound st ss free × (counts (leavesOf ss) ≡ 1 ∷ []) × (sizes ss ≡ 1 ∷ []) → Within st qs
-      go (ss, free, h, a, b) = within st ss free h (tally-made (desc st) (h .kept .good) ss a b) qs
+      go : (ss : List Section) × (free : Free) × Sound st ss free × (counts (leavesOf ss) ≡ 1 ∷ []) × (sizes ss ≡ 1 ∷ []) → P st qs
+      go (ss, free, h, a, b) = by st qs (runs (desc st) qs st ss free h refl nothing (tally-made (desc st) (h .kept .good) ss a b))

@@ -125,12 +125,16 @@ module _ (st : State) (ss : List Section) (f : Free) (r : Ready (desc st .wpr) s
   pub lows : lowestUnused (st .file) ≡ f .lowest
   lows = lowest-is p (st .file) ss f (held .master-is) (held .sized)
 
-  -- the call, by what its steps come to
+  -- what it will do, and the call by what its steps come to
+  pub last-deed : (d : Extend) → extendAt v flag w (L .way) ≡ passed d → extendDeed v flag w ≡ passed d
+  unfolding extendDeed
+  last-deed d e = ap (λ (m : Checked Way). m >>= (λ x. extendAt v flag w x)) (L .way-is) ∙ e
+
   pub xtend-by : (d : Extend) (e : Effect) → extendAt v flag w (L .way) ≡ passed d → extendDone v flag (st .work) d ≡ passed e → xtend st ≡ outcome (st .session) e
-  unfolding xtend xtendSteps extendDeed
+  unfolding xtend xtendSteps
   xtend-by d e ed ee =
       ready-pass st ss f (p .wpr) r (xtendSteps v flag (st .work)) e
-      (ap (λ (m : Checked Way). (m >>= (λ x. extendAt v flag w x)) >>= (λ x. extendDone v flag (st .work) x)) (L .way-is) ∙ ap (λ (m : Checked Extend). m >>= (λ x. extendDone v flag (st .work) x)) ed ∙ ee)
+      (ap (λ (m : Checked Extend). m >>= (λ x. extendDone v flag (st .work) x)) (last-deed d ed) ∙ ee)
 
   -- the path to the last block, however that came to the buffer
   pub path-of : lastOf v (L .way) ≡ passed (pathOf a)
@@ -156,6 +160,11 @@ module _ (st : State) (ss : List Section) (f : Free) (r : Ready (desc st .wpr) s
       let back : Kept (leftBy v here) (here .flag) ss f = subst (λ (z : List Section). Kept (leftBy v here) (here .flag) z f) (sym (L .at .is)) (L .at .kept) in
       subst (λ (z : Outcome). Gives st ss z n 4 rows nothing ss f) (sym (xtend-by (Stop (L .way) x n) (stopping n (st .work) (reading x here)) e refl))
       (stop-gives st ss f (r .sound) (r .opened) (reading x here) 4 (read-cost x) back n (st .work))
+
+  -- "Fewer than FD records"
+  pub room-at : (x : ℕ) → extendAt v flag w (L .way) ≡ roomDeed v (L .way) x → extendAt v flag w (L .way) ≡ passed (Room (L .way) x (storedWith p (size + 1) f))
+  unfolding roomDeed
+  room-at x e = e ∙ simp (counted, heads, lows, stored-number v (size + 1) f (free-ok v ss f _ held))
 
   -- ---- the record goes before the end record: its key is above all others there
 
@@ -186,14 +195,15 @@ module _ (st : State) (ss : List Section) (f : Free) (r : Ready (desc st .wpr) s
     grown-ended = ended-ins p kr rows _ (asc-rows p _ _ ss f held) (r .sound .kept .ended) (st .work) (rw key-is (kw .below))
 
     -- "Fewer than FD records: insert before the end record, flag on."
-    pub room-gives : size < FD p → (x : ℕ) → extendAt v flag w (L .way) ≡ roomDeed v (L .way) x → Gives st ss (xtend st) (storedWith p (size + 1) f) 4 (ins K (st .work) rows) aRecord (treeWith a (withRows p (L .leaf) (L .front ++ st .work ∷ (endRecord p ∷ [])) ∷ [])) f
-    unfolding roomDeed extendDone reading FD
-    room-gives less x e =
+    pub room-gives : size < FD p → (x : ℕ) → extendAt v flag w (L .way) ≡ passed (Room (L .way) x (storedWith p (size + 1) f))
+        → Gives st ss (xtend st) (storedWith p (size + 1) f) 4 (ins K (st .work) rows) aRecord
+        (treeWith a (withRows p (L .leaf) (L .front ++ st .work ∷ (endRecord p ∷ [])) ∷ [])) f
+    unfolding extendDone reading FD
+    room-gives less x deed =
         let n : ℕ = storedWith p (size + 1) f in
         let here : Reached = reached v flag (L .way) in
         let t : List ℕ = inserted (detailShape p) (count (here .buffer) - 1) (recordIn p (st .work)) (here .buffer) in
         let rs : List (List ℕ) = L .front ++ st .work ∷ (endRecord p ∷ []) in
-        let deed : extendAt v flag w (L .way) ≡ passed (Room (L .way) x n) = e ∙ simp (counted, heads, lows, stored-number v (size + 1) f (free-ok v ss f _ held)) in
         let len : length rs ≡ suc size = length-append (L .front) (st .work ∷ (endRecord p ∷ [])) ∙ omega (arith, size-is) in
         let fits : 1 + length rs * p .wpr ≤ p .wpb = rw len (omega (arith, caps p good .records-fit, mul-le-mul-right (p .wpr) (full less))) in
         let buf : here .buffer ≡ table (p .wpb) (L .front ++ endRecord p ∷ []) = L .at .buffer-is ∙ ap (table (p .wpb)) (L .rows-are) in
@@ -233,16 +243,22 @@ module _ (st : State) (ss : List Section) (f : Free) (r : Ready (desc st .wpr) s
         ∙ ap₂ (λ (t u : Bool). cond t (aloneDeed v w (L .way)) (cond (not u) (passed (Stop (L .way) 0 outOfSequence)) (cond (ltb size (FD p)) (roomDeed v (L .way) 0) (newDeed v flag (L .way)))))
         (ne-eqb size 1 (λ q. omega (arith, q, more))) high-key
 
+    pub five-deed : val w ≤ K y → extendAt v flag w (L .way) ≡ passed (Stop (L .way) 0 outOfSequence)
+    five-deed h = ordinary ∙ simp (le-ltb (K y) (val w) h)
+
     pub xtend-five : val w ≤ K y → Gives st ss (xtend st) outOfSequence 4 rows nothing ss f
-    xtend-five h = stop-xtend 0 outOfSequence (ordinary ∙ simp (le-ltb (K y) (val w) h))
+    xtend-five h = stop-xtend 0 outOfSequence (five-deed h)
 
     pub in-sequence : K y < val w → Asc K (lo p a) (L .front) (val w)
     in-sequence h =
         let b : Asc K (lo p a) (fr ++ y ∷ []) (K (endRecord p)) = subst (λ (u : List (List ℕ)). Asc K (lo p a) u (K (endRecord p))) e (cut-front K (lo p a) (L .front) (endRecord p) [] _ asc) in
         subst (λ (u : List (List ℕ)). Asc K (lo p a) u (val w)) (sym e) (asc-append K (lo p a) fr (K y) (y ∷ []) (val w) (cut-front K (lo p a) fr y [] _ b) (omega arith, h))
 
+    pub room-deed : K y < val w → size < FD p → extendAt v flag w (L .way) ≡ passed (Room (L .way) 0 (storedWith p (size + 1) f))
+    room-deed h less = room-at 0 (ordinary ∙ simp (lt-ltb (K y) (val w) h, lt-ltb size (FD p) less))
+
     pub xtend-room : K y < val w → size < FD p → Gives st ss (xtend st) (storedWith p (size + 1) f) 4 (ins K (st .work) rows) aRecord (treeWith a (withRows p (L .leaf) (L .front ++ st .work ∷ (endRecord p ∷ [])) ∷ [])) f
-    xtend-room h less = room-gives (in-sequence h) less 0 (ordinary ∙ simp (lt-ltb (K y) (val w) h, lt-ltb size (FD p) less))
+    xtend-room h less = room-gives (in-sequence h) less 0 (room-deed h less)
 
     pub to-new : K y < val w → FD p ≤ size → extendAt v flag w (L .way) ≡ newDeed v flag (L .way)
     to-new h full = ordinary ∙ simp (lt-ltb (K y) (val w) h, le-ltb size (FD p) full)

@@ -20,7 +20,7 @@ use Rattle.drum.specs.Params.{FD, detailShape, masterShape, indexShape}
 use Rattle.drum.specs.Blocks.{Texts, textOf}
 use Rattle.drum.proofs.Good.{caps}
 use Rattle.rules.specs.declared.Path.{Path}
-use Rattle.rules.specs.declared.Extend.the-variants.{Stop}
+use Rattle.rules.specs.declared.Extend.the-variants.{Stop, Room}
 use Rattle.rules.specs.State.{State, desc, texts, keyIn}
 use Rattle.rules.specs.Lookup.{textAt}
 use Rattle.rules.specs.Xtend.{roomDeed, notAboveBefore, aloneDeed, newDeed, extendAt}
@@ -42,7 +42,7 @@ use Rattle.demands.proofs.Sound.{Key}
 use Rattle.demands.proofs.Answers.{Ready, Gives}
 use Rattle.demands.proofs.Frees.{storedWith}
 use Rattle.demands.proofs.Last.{ending, Last}
-use Rattle.demands.proofs.Xtend.{size-is, good, counted, path-of, stop-xtend, room-gives}
+use Rattle.demands.proofs.Xtend.{size-is, good, counted, path-of, stop-xtend, room-at, room-gives}
 use Rattle.demands.proofs.Growth.{nothing, aRecord}
 
 module _ (st : State) (ss : List Section) (f : Free) (r : Ready (desc st .wpr) st ss f) (kw : Key (desc st) (keyIn (desc st) (st .work))) (L : Last (texts st) (st .session .flag) ss f) where
@@ -131,12 +131,18 @@ module _ (st : State) (ss : List Section) (f : Free) (r : Ready (desc st .wpr) s
         ∙ ap (λ (m : Checked Path). m >>= (λ x. cond (notAboveBefore v w x) (passed (Stop (L .way) (x .index) outOfSequence)) (roomDeed v (L .way) (x .index)))) (path-of st ss f r kw L)
         ∙ ap (λ (t : Bool). cond t (passed (Stop (L .way) (L .index) outOfSequence)) (roomDeed v (L .way) (L .index))) before-test
 
+    pub five-deed : val w < lo p a → extendAt v flag w (L .way) ≡ passed (Stop (L .way) (L .index) outOfSequence)
+    five-deed h = to-alone ∙ simp (lt-ltb (val w) (lo p a) h)
+
     pub alone-five : val w < lo p a → Gives st ss (xtend st) outOfSequence 4 rows nothing ss f
-    alone-five h = stop-xtend st ss f r kw L (L .index) outOfSequence (to-alone ∙ simp (lt-ltb (val w) (lo p a) h))
+    alone-five h = stop-xtend st ss f r kw L (L .index) outOfSequence (five-deed h)
 
     pub few : size < FD p
     few = omega (arith, one, caps p (good st ss f r kw L) .fd-least)
 
+    pub room-deed : lo p a ≤ val w → extendAt v flag w (L .way) ≡ passed (Room (L .way) (L .index) (storedWith p (size + 1) f))
+    room-deed h = room-at st ss f r kw L (L .index) (to-alone ∙ simp (le-ltb (val w) (lo p a) h))
+
     pub alone-room : lo p a ≤ val w → Gives st ss (xtend st) (storedWith p (size + 1) f) 4 (ins K (st .work) rows) aRecord (treeWith a (withRows p (L .leaf) (L .front ++ st .work ∷ (endRecord p ∷ [])) ∷ [])) f
     alone-room h =
-        room-gives st ss f r kw L (subst (λ (z : List (List ℕ)). Asc K (lo p a) z (val w)) (sym alone) h) few (L .index) (to-alone ∙ simp (le-ltb (val w) (lo p a) h))
+        room-gives st ss f r kw L (subst (λ (z : List (List ℕ)). Asc K (lo p a) z (val w)) (sym alone) h) few (L .index) (room-deed h)

@@ -1,4 +1,4 @@
--- XTEND into a filled last block: what it will do, and that it stops where no room is left.
+-- XTEND into a filled last block: what it will do, and that it will stop where no room is left.
 use Prim.Native.Nat.{ℕ, _+_, _-_, _≤_, _<_}
 use mathlib.Core.Bool.{Bool, true}
 use mathlib.Core.Path.{_≡_, ap, _∙_}
@@ -15,11 +15,10 @@ use Rattle.drum.specs.Params.{FD, FI, goodParams}
 use Rattle.drum.specs.Blocks.{Texts, textOf, chainHead, lowestUnused, sections}
 use Rattle.layout.specs.Create.{endRecord}
 use Rattle.rules.specs.declared.Path.{Path}
-use Rattle.rules.specs.declared.Extend.the-variants.{New, Both}
+use Rattle.rules.specs.declared.Extend.the-variants.{Stop, New, Both}
 use Rattle.rules.specs.State.{State, desc, texts, keyIn}
 use Rattle.rules.specs.Lookup.{textAt}
 use Rattle.rules.specs.Xtend.{newDeed, extendAt, newWith, bothWith, bothAfter, newAt}
-use Rattle.rules.specs.XtendDone.{xtend}
 use Rattle.demands.proofs.Lists.{All}
 use Rattle.layout.specs.Tree.{Section}
 use Rattle.demands.proofs.Trees.{leavesOf, contents, key, indexText}
@@ -30,11 +29,10 @@ use Rattle.demands.proofs.Blocks.{masterOf}
 use Rattle.demands.proofs.Entries.{sections-is, count-index}
 use Rattle.demands.proofs.Paths.{pathOf}
 use Rattle.demands.proofs.Sound.{Key}
-use Rattle.demands.proofs.Answers.{Ready, Gives}
+use Rattle.demands.proofs.Answers.{Ready}
 use Rattle.demands.proofs.Frees.{freeCount, storedWith, FreeOk, free-ok, stored-number, next, taken, takenOf, free-taken, taken-count, grant-none, grant-some, next-in, second-in, next-outside, second-outside, second-other, new-pass}
 use Rattle.demands.proofs.Last.{ending, Last}
-use Rattle.demands.proofs.Xtend.{good, held, oks, counted, heads, lows, path-of, stop-xtend, to-new}
-use Rattle.demands.proofs.Growth.{nothing}
+use Rattle.demands.proofs.Xtend.{good, held, oks, counted, heads, lows, path-of, to-new}
 
 module _ (st : State) (ss : List Section) (f : Free) (r : Ready (desc st .wpr) st ss f) (kw : Key (desc st) (keyIn (desc st) (st .work))) (L : Last (texts st) (st .session .flag) ss f)
     (fr : List (List ℕ)) (y : List ℕ) (e : L .front ≡ fr ++ y ∷ []) (higher : key (desc st .k) y < val (keyIn (desc st) (st .work))) (full : FD (desc st) ≤ length (L .leaf .records)) where
@@ -101,9 +99,9 @@ module _ (st : State) (ss : List Section) (f : Free) (r : Ready (desc st .wpr) s
   ls = lows st ss f r kw L
 
   module _ (room : length (L .low ++ (L .leaf ∷ [])) < FI (desc st)) where
-    pub new-none : freeCount f ≡ 0 → Gives st ss (xtend st) noRoom 4 rows nothing ss f
+    pub none-deed : freeCount f ≡ 0 → extendAt v flag w (L .way) ≡ passed (Stop (L .way) 0 noRoom)
     unfolding newAt newWith
-    new-none z = stop-xtend st ss f r kw L 0 noRoom (to-at ∙ simp (hs, ls, grant-none v f fo z, cnt, lt-ltb (length (L .low ++ (L .leaf ∷ []))) (FI p) room))
+    none-deed z = to-at ∙ simp (hs, ls, grant-none v f fo z, cnt, lt-ltb (length (L .low ++ (L .leaf ∷ []))) (FI p) room)
 
     pub new-deed : 1 ≤ freeCount f → extendAt v flag w (L .way) ≡ passed (New (L .way) (pathOf end) (takenOf f) (storedWith p n₀ (taken f)))
     unfolding newAt newWith
@@ -120,16 +118,15 @@ module _ (st : State) (ss : List Section) (f : Free) (r : Ready (desc st .wpr) s
         )
 
   module _ (most : FI (desc st) ≤ length (L .low ++ (L .leaf ∷ []))) where
-    pub both-none : freeCount f ≡ 0 → Gives st ss (xtend st) noRoom 4 rows nothing ss f
+    pub none-both-deed : freeCount f ≡ 0 → extendAt v flag w (L .way) ≡ passed (Stop (L .way) 0 noRoom)
     unfolding newAt bothAfter bothWith
-    both-none z = stop-xtend st ss f r kw L 0 noRoom (to-at ∙ simp (hs, ls, grant-none v f fo z, cnt, le-ltb (length (L .low ++ (L .leaf ∷ []))) (FI p) most))
+    none-both-deed z = to-at ∙ simp (hs, ls, grant-none v f fo z, cnt, le-ltb (length (L .low ++ (L .leaf ∷ []))) (FI p) most)
 
-    pub both-few : freeCount f ≡ 1 → Gives st ss (xtend st) noRoom 4 rows nothing ss f
+    pub few-deed : freeCount f ≡ 1 → extendAt v flag w (L .way) ≡ passed (Stop (L .way) 0 noRoom)
     unfolding newAt bothAfter bothWith
-    both-few z =
+    few-deed z =
         let some : 1 ≤ freeCount f = omega arith in
-        stop-xtend st ss f r kw L 0 noRoom
-        (to-at ∙ simp (
+        to-at ∙ simp (
           hs,
           ls,
           grant-some v f fo some,
@@ -137,15 +134,14 @@ module _ (st : State) (ss : List Section) (f : Free) (r : Ready (desc st .wpr) s
           le-ltb (length (L .low ++ (L .leaf ∷ []))) (FI p) most,
           grant-none v (taken f) (free-taken v f fo some) (omega (arith, z, taken-count f some)),
           ne-eqb (next f) 0 (λ q. omega (arith, q, next-in p _ _ ss f hd some)),
-        ))
+        )
 
-    pub both-sections : 2 ≤ freeCount f → p .control ≤ length ss → Gives st ss (xtend st) noRoom 4 rows nothing ss f
+    pub sections-deed : 2 ≤ freeCount f → p .control ≤ length ss → extendAt v flag w (L .way) ≡ passed (Stop (L .way) 0 noRoom)
     unfolding newAt bothAfter bothWith
-    both-sections two c =
+    sections-deed two c =
         let some : 1 ≤ freeCount f = omega arith in
         let some₂ : 1 ≤ freeCount (taken f) = omega (arith, taken-count f some) in
-        stop-xtend st ss f r kw L 0 noRoom
-        (to-at ∙ simp (
+        to-at ∙ simp (
           hs,
           ls,
           grant-some v f fo some,
@@ -156,7 +152,7 @@ module _ (st : State) (ss : List Section) (f : Free) (r : Ready (desc st .wpr) s
           ne-eqb (next (taken f)) 0 (λ q. omega (arith, q, second-in p _ _ ss f hd some some₂)),
           secs,
           le-leb (p .control) (length ss) c,
-        ))
+        )
 
     pub both-deed : 2 ≤ freeCount f → length ss < p .control → extendAt v flag w (L .way) ≡ passed (Both (L .way) (pathOf end) (next f) (takenOf (taken f)) (storedWith p n₀ (taken (taken f))))
     unfolding newAt bothAfter bothWith

@@ -78,7 +78,8 @@ pub record Answered (st : State) (rows last : List (List ℕ)) : Type 0 where
   pub nsert : (w : List ℕ) → Keyed st (desc st .wpr) w → Inserted (withKey (desc st) (keyIn (desc st) w) rows) (answer st (inserting w))
   pub dlete : (w : List ℕ) → Keyed st (desc st .k) w → Met (withKey (desc st) (keyIn (desc st) w) rows) (answer st (deleting w))
   pub updat : (w : List ℕ) → Keyed st (desc st .wpr) w → Met (withKey (desc st) (keyIn (desc st) w) rows) (answer st (updating w))
-  pub xtend : (w : List ℕ) → Keyed st (desc st .wpr) w → Extended (desc st) last (ordinary (desc st) (recordsFrom (desc st) (keyIn (desc st) w) rows)) (answer st (extending w))
+  pub xtend : (w : List ℕ) → Keyed st (desc st .wpr) w
+      → Extended (desc st) last (ordinary (desc st) (recordsFrom (desc st) (keyIn (desc st) w) rows)) (answer st (extending w))
 
 -- after each call of any run from an OPEN that answers 0
 abbrev pub CallAnswers : Type 0

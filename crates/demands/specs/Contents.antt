@@ -17,6 +17,7 @@ unfoldable pub recordsBelow : Description → List ℕ → List (List ℕ) → L
 recordsBelow p key [] = []
 recordsBelow p key (r ∷ rs) = cond (keyLt (keyIn p r) key) (r ∷ recordsBelow p key rs) (recordsBelow p key rs)
 
+-- the records whose keys are above the key
 unfoldable pub recordsAbove : Description → List ℕ → List (List ℕ) → List (List ℕ)
 recordsAbove p key [] = []
 recordsAbove p key (r ∷ rs) = cond (keyLt key (keyIn p r)) (r ∷ recordsAbove p key rs) (recordsAbove p key rs)
@@ -36,4 +37,5 @@ pub record Contains (st : State) (rows : List (List ℕ)) : Type 0 where
 -- after each call of any run from an OPEN that answers 0: NSERT, UPDAT and XTEND that answer 0 or 070001 have put in their record, DLETE that
 -- answers 0 has taken out the record with its key, and no other call has changed a record
 abbrev pub CallContents : Type 0
-CallContents = AfterOpen λ st. (rows : List (List ℕ)) → Contains st rows → (q : Request) → Contains (answer st q .after) (changed (desc st) (eventOf (desc st) q (answer st q)) rows)
+CallContents = AfterOpen λ st. (rows : List (List ℕ)) → Contains st rows → (q : Request)
+    → Contains (answer st q .after) (changed (desc st) (eventOf (desc st) q (answer st q)) rows)

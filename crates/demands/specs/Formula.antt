@@ -14,10 +14,11 @@ use Rattle.rules.specs.State.{Session, State, Outcome, desc, lent}
 use Rattle.rules.specs.Open.{create, openFile}
 use Rattle.rules.specs.Requests.{Request, opening, closing, seeking, advancing, inserting, deleting, updating, extending, answer, tally}
 
--- "hD = (D+1)/2, hI = (I+1)/2, rounded down."
+-- "hD = (D+1)/2, hI = (I+1)/2, rounded down." [F1]
 unfoldable pub hD : Description → ℕ
 hD p = (D p + 1) / 2
 
+-- "hI = (I+1)/2" [F1]
 unfoldable pub hI : Description → ℕ
 hI p = (I p + 1) / 2
 
@@ -26,17 +27,19 @@ unfoldable pub detailsUnder : Description → List ℕ → ℕ → ℕ
 detailsUnder p f zero = 0
 detailsUnder p f (suc n) = detailsUnder p f n + count (blockAt p f (blockIn (masterShape p) f n))
 
--- the detail blocks and the index blocks in use. An index block is never the buffered one, so that its words are the file's
+-- the detail blocks and the index blocks in use. An index block is never the buffered one, so that its words are the file's [F2]
 unfoldable pub detailBlocks : State → ℕ
 detailBlocks st = detailsUnder (desc st) (st .file) (sections (st .file))
 
+-- the index blocks in use: the sections [F2]
 unfoldable pub indexBlocks : State → ℕ
 indexBlocks st = sections (st .file)
 
--- how many more of them are in use after a call than before it; 0 where there are fewer
+-- how many more of them are in use after a call than before it; 0 where there are fewer [F2]
 unfoldable pub newDetails : State → Outcome → ℕ
 newDetails before o = detailBlocks (o .after) - detailBlocks before
 
+-- the same of the index blocks [F2]
 unfoldable pub newIndexes : State → Outcome → ℕ
 newIndexes before o = indexBlocks (o .after) - indexBlocks before
 
@@ -55,6 +58,7 @@ ofNsert n (deleting w) = 0
 ofNsert n (updating w) = 0
 ofNsert n (extending w) = 0
 
+-- n of an XTEND, and 0 of any other call
 unfoldable pub ofXtend : ℕ → Request → ℕ
 ofXtend n (opening marks) = 0
 ofXtend n closing = 0
@@ -65,7 +69,7 @@ ofXtend n (deleting w) = 0
 ofXtend n (updating w) = 0
 ofXtend n (extending w) = n
 
--- "3·(SEEK+UPDAT+NSERT) + 5·ADV + 6·DLETE + 4·XTEND + CLOSE": a call's share of that sum
+-- "3·(SEEK+UPDAT+NSERT) + 5·ADV + 6·DLETE + 4·XTEND + CLOSE": a call's share of that sum [F4]
 unfoldable pub share : Request → ℕ
 share (opening marks) = 0
 share closing = 1
@@ -79,33 +83,36 @@ share (extending w) = 4
 -- ---- of a run of calls, from the state st on
 
 module _ (st : State) (qs : List Request) where
-  -- "Let M be records accepted by NSERT and XTEND"
+  -- "Let M be records accepted by NSERT and XTEND" [F2]
   unfoldable pub M : ℕ
   M = tally (λ before q o. ofNsert (acceptedBy o) q + ofXtend (acceptedBy o) q) st qs
 
-  -- "S, s detail and index splits by NSERT": each puts one more block in use
+  -- "S, s detail and index splits by NSERT": each puts one more block in use [F2]
   unfoldable pub S : ℕ
   S = tally (λ before q o. ofNsert (newDetails before o) q) st qs
 
+  -- index splits by NSERT [F2]
   unfoldable pub s : ℕ
   s = tally (λ before q o. ofNsert (newIndexes before o) q) st qs
 
-  -- "X, x detail and index blocks started by XTEND"
+  -- "X, x detail and index blocks started by XTEND" [F2]
   unfoldable pub X : ℕ
   X = tally (λ before q o. ofXtend (newDetails before o) q) st qs
 
+  -- index blocks started by XTEND [F2]
   unfoldable pub x : ℕ
   x = tally (λ before q o. ofXtend (newIndexes before o) q) st qs
 
-  -- "the sum of transfers", and "calls counted whether refused or not"
+  -- "the sum of transfers", and "calls counted whether refused or not" [F4, T3]
   unfoldable pub allTransfers : ℕ
   allTransfers = tally (λ before q o. length (o .transfers)) st qs
 
+  -- the calls' shares, summed [F4]
   unfoldable pub shares : ℕ
   shares = tally (λ before q o. share q) st qs
 
 -- "hD·S ≤ M, FD·X ≤ M, hI·s ≤ S+X, FI·x ≤ S+X, and the sum of transfers is at most 3·(SEEK+UPDAT+NSERT) + 5·ADV + 6·DLETE + 4·XTEND +
--- CLOSE + 4·(S+X) + s + x, calls counted whether refused or not."
+-- CLOSE + 4·(S+X) + s + x, calls counted whether refused or not." [F3, F4]
 pub record Within (st : State) (qs : List Request) : Type 0 where
   pub splits : hD (desc st) * S st qs ≤ M st qs
   pub starts : FD (desc st) * X st qs ≤ M st qs
@@ -113,12 +120,16 @@ pub record Within (st : State) (qs : List Request) : Type 0 where
   pub index-starts : FI (desc st) * x st qs ≤ S st qs + X st qs
   pub transfers : allTransfers st qs ≤ shares st qs + 4 * (S st qs + X st qs) + s st qs + x st qs
 
--- "From a CREATE and then an OPEN that both answer 0, any calls, each given what the last left, closing and reopening included"
-abbrev pub Demand3 : Type 0
-Demand3 =
+-- P holds "From a CREATE and then an OPEN that both answer 0, any calls, each given what the last left, closing and reopening included"
+abbrev pub AfterCreate : (State → List Request → Type 0) → Type 0
+AfterCreate P =
     (session : Session) (f buffer work marks : List ℕ) → create (session .desc) f .number ≡ done
     → let made = lent session (create (session .desc) f .file) buffer work in
-    openFile made marks .outcome .number ≡ done → (qs : List Request) → Within (openFile made marks .outcome .after) qs
+    openFile made marks .outcome .number ≡ done → (qs : List Request) → P (openFile made marks .outcome .after) qs
+
+-- demand 3: the formula holds of every such run [F3, F4, S7]
+abbrev pub Demand3 : Type 0
+Demand3 = AfterCreate Within
 
 -- ---- of one call
 

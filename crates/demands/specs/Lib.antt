@@ -10,8 +10,15 @@ pub mod Whole
 pub mod Mission
 pub mod Storing
 pub mod Routines
+pub mod WrongRoutines
 pub mod Made
 pub mod Growing
+pub mod Counted
+pub mod Nearest
 pub mod Story
 pub mod Lines
 pub mod Stuck
+pub mod Filled
+pub mod Reuse
+pub mod Room
+pub mod Turns

@@ -6,6 +6,7 @@ use mathlib.Core.List.{List, [], _∷_}
 use lib.Dec.{eqb}
 use lib.ListN.{length, getD}
 use Rattle.words.specs.Words.{part, put}
+use Rattle.words.specs.Slices.{Slice, was}
 use Rattle.table.specs.Tables.{laid}
 use Rattle.drum.specs.declared.Description.{Description}
 use Rattle.drum.specs.Params.{start, fileSize, goodParams}
@@ -65,6 +66,10 @@ pub record Texts : Type 0 where
 -- the same, of the four things that it is made of
 abbrev pub seen : Description → ℕ → List ℕ → List ℕ → Texts
 seen p cur f b = record { desc = p; current = cur; file = f; buffer = b }
+
+-- the same of lent words, as they were when a function was called
+abbrev pub atEntry : Description → ℕ → Slice → Slice → Texts
+atEntry p current file buffer = seen p current (was file) (was buffer)
 
 -- "Current text of a block: the buffer if it is the current block, else the file." [S4, T5]
 unfoldable pub textOf : Texts → ℕ → List ℕ

@@ -5,9 +5,10 @@ ghost use mathlib.Core.Bool.{true};
 ghost use mathlib.Core.List.{[], _∷_};
 ghost use Prim.Native.Nat.{_+_, _*_, _-_, _≤_, _<_};
 ghost use lib.Dec.{leb};
-ghost use lib.ListN.{length};
-ghost use Rattle.drum.specs.Params.{D, I, FD, FI, masterSize, fileSize, start as startOf, every, goodParams, mostSections, sized, masterShape, indexShape, detailShape};
-ghost use Rattle.drum.specs.Blocks.{blockAt, putBlock, Fitting, Block, seen, textOf};
+ghost use Rattle.drum.specs.Params.{D, I, FD, FI, masterSize, fileSize, start as startOf};
+ghost use Rattle.drum.specs.Params.{every, goodParams, mostSections, sized, masterShape, indexShape, detailShape};
+ghost use Rattle.drum.specs.Blocks.{blockAt, putBlock, Fitting, Block, textOf, atEntry};
+ghost use Rattle.words.specs.Slices.{was, became};
 
 // The parameters of a search file. Set up field by field, each step handing the description on.
 pub struct Description {
@@ -45,42 +46,66 @@ impl Description {
     }
 
     pub fn with_wpb(mut self, x: usize) -> Self
-        ensures { λ r. ⌜ r ≡ record { wpb = x; wpr = self .wpr; k = self .k; space = self .space; control = self .control; n = self .n } ⌝ }
+        ensures { λ r. ⌜
+            r
+            ≡ record
+            { wpb = x; wpr = self .wpr; k = self .k; space = self .space; control = self .control; n = self .n }
+            ⌝ }
     {
         self.wpb = x;
         self
     }
 
     pub fn with_wpr(mut self, x: usize) -> Self
-        ensures { λ r. ⌜ r ≡ record { wpb = self .wpb; wpr = x; k = self .k; space = self .space; control = self .control; n = self .n } ⌝ }
+        ensures { λ r. ⌜
+            r
+            ≡ record
+            { wpb = self .wpb; wpr = x; k = self .k; space = self .space; control = self .control; n = self .n }
+            ⌝ }
     {
         self.wpr = x;
         self
     }
 
     pub fn with_k(mut self, x: usize) -> Self
-        ensures { λ r. ⌜ r ≡ record { wpb = self .wpb; wpr = self .wpr; k = x; space = self .space; control = self .control; n = self .n } ⌝ }
+        ensures { λ r. ⌜
+            r
+            ≡ record
+            { wpb = self .wpb; wpr = self .wpr; k = x; space = self .space; control = self .control; n = self .n }
+            ⌝ }
     {
         self.k = x;
         self
     }
 
     pub fn with_space(mut self, x: usize) -> Self
-        ensures { λ r. ⌜ r ≡ record { wpb = self .wpb; wpr = self .wpr; k = self .k; space = x; control = self .control; n = self .n } ⌝ }
+        ensures { λ r. ⌜
+            r
+            ≡ record
+            { wpb = self .wpb; wpr = self .wpr; k = self .k; space = x; control = self .control; n = self .n }
+            ⌝ }
     {
         self.space = x;
         self
     }
 
     pub fn with_control(mut self, x: usize) -> Self
-        ensures { λ r. ⌜ r ≡ record { wpb = self .wpb; wpr = self .wpr; k = self .k; space = self .space; control = x; n = self .n } ⌝ }
+        ensures { λ r. ⌜
+            r
+            ≡ record
+            { wpb = self .wpb; wpr = self .wpr; k = self .k; space = self .space; control = x; n = self .n }
+            ⌝ }
     {
         self.control = x;
         self
     }
 
     pub fn with_n(mut self, x: usize) -> Self
-        ensures { λ r. ⌜ r ≡ record { wpb = self .wpb; wpr = self .wpr; k = self .k; space = self .space; control = self .control; n = x } ⌝ }
+        ensures { λ r. ⌜
+            r
+            ≡ record
+            { wpb = self .wpb; wpr = self .wpr; k = self .k; space = self .space; control = self .control; n = x }
+            ⌝ }
     {
         self.n = x;
         self
@@ -238,7 +263,12 @@ impl Description {
 
 // The rest of document 01's table: room for two records and two entries, and the ranges of SPACE, CONTROL and N.
 fn has_room(p: Description) -> bool
-    ensures { λ r. ⌜ r ≡ every (leb 2 (D p) ∷ leb 2 (I p) ∷ leb (p .space) (D p - 2) ∷ leb (p .space) (I p - 2) ∷ leb 1 (p .control) ∷ leb (p .control) mostSections ∷ leb 2 (p .n) ∷ leb (p .n) 262142 ∷ []) ⌝ }
+    ensures { λ r. ⌜
+        r
+        ≡ every
+        (leb 2 (D p) ∷ leb 2 (I p) ∷ leb (p .space) (D p - 2) ∷ leb (p .space) (I p - 2)
+        ∷ leb 1 (p .control) ∷ leb (p .control) mostSections ∷ leb 2 (p .n) ∷ leb (p .n) 262142 ∷ [])
+        ⌝ }
 {
     let d = p.d();
     let i = p.i();
@@ -270,7 +300,7 @@ fn has_room(p: Description) -> bool
 // Brings block b of the file into the buffer.
 pub fn read_block(p: Description, file: &[u32], buffer: &mut [u32], b: usize)
     requires { ⌜ Fitting p (now file) (now buffer) × Block p b ⌝ }
-    ensures { λ _. ⌜ now (buffer .exit) ≡ blockAt p (now (file .entry)) b ⌝ }
+    ensures { λ _. ⌜ became buffer ≡ blockAt p (was file) b ⌝ }
 {
     let wpb = p.wpb;
     let start = p.start(b);
@@ -280,7 +310,7 @@ pub fn read_block(p: Description, file: &[u32], buffer: &mut [u32], b: usize)
 // Writes the buffer over block b of the file.
 pub fn write_block(p: Description, file: &mut [u32], buffer: &[u32], b: usize)
     requires { ⌜ Fitting p (now file) (now buffer) × Block p b ⌝ }
-    ensures { λ _. ⌜ now (file .exit) ≡ putBlock p (now (file .entry)) b (now (buffer .entry)) ⌝ }
+    ensures { λ _. ⌜ became file ≡ putBlock p (was file) b (was buffer) ⌝ }
 {
     let wpb = p.wpb;
     let start = p.start(b);
@@ -296,7 +326,7 @@ pub fn text_of<'a>(
     b: usize,
 ) -> &'a [u32]
     requires { ⌜ Fitting p (now file) (now buffer) × Block p b ⌝ }
-    ensures { λ r. ⌜ now r ≡ textOf (seen p current (now (file .entry)) (now (buffer .entry))) b ⌝ }
+    ensures { λ r. ⌜ now r ≡ textOf (atEntry p current file buffer) b ⌝ }
 {
     if b == current {
         return buffer;

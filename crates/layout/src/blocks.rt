@@ -9,12 +9,13 @@ ghost use Prim.Native.Nat.{_+_, _*_, _≤_};
 ghost use lib.ListN.{length};
 ghost use Rattle.layout.specs.Inspect.{through, detailHeld, indexHeld, chainHeld};
 ghost use Rattle.layout.specs.Inspected.{flagged, Fit};
+ghost use Rattle.words.specs.Slices.{was, became};
 
 // The detail block under the entry at place e.
 pub fn detail_held(p: Description, f: &[u32], low: usize, e: usize, marks: &mut [u8]) -> bool
     requires { ⌜ Fit p (now f) ⌝ }
     requires { ⌜ (length (now marks) ≡ p .n) × (low + p .k ≤ length (now f)) × (e + (p .k + 1) ≤ length (now f)) ⌝ }
-    ensures { λ r. ⌜ detailHeld p (now (f .entry)) low e (now (marks .entry)) ≡ flagged r (now (marks .exit)) ⌝ }
+    ensures { λ r. ⌜ detailHeld p (was f) low e (was marks) ≡ flagged r (became marks) ⌝ }
 {
     let at = e + p.k;
     let b = words::word_at(f, at);
@@ -40,8 +41,10 @@ pub fn details_held(
     marks: &mut [u8],
 ) -> bool
     requires { ⌜ Fit p (now f) ⌝ }
-    requires { ⌜ (length (now marks) ≡ p .n) × (low + p .k ≤ length (now f)) × (e + n * (p .k + 1) ≤ length (now f)) ⌝ }
-    ensures { λ r. ⌜ through (detailHeld p (now (f .entry))) (p .k + 1) low e n (now (marks .entry)) ≡ flagged r (now (marks .exit)) ⌝ }
+    requires { ⌜
+        (length (now marks) ≡ p .n) × (low + p .k ≤ length (now f)) × (e + n * (p .k + 1) ≤ length (now f))
+        ⌝ }
+    ensures { λ r. ⌜ through (detailHeld p (was f)) (p .k + 1) low e n (was marks) ≡ flagged r (became marks) ⌝ }
 {
     let mut before = low;
     let mut at = e;
@@ -61,7 +64,7 @@ pub fn details_held(
 pub fn index_held(p: Description, f: &[u32], low: usize, e: usize, marks: &mut [u8]) -> bool
     requires { ⌜ Fit p (now f) ⌝ }
     requires { ⌜ (length (now marks) ≡ p .n) × (low + p .k ≤ length (now f)) × (e + (p .k + 1) ≤ length (now f)) ⌝ }
-    ensures { λ r. ⌜ indexHeld p (now (f .entry)) low e (now (marks .entry)) ≡ flagged r (now (marks .exit)) ⌝ }
+    ensures { λ r. ⌜ indexHeld p (was f) low e (was marks) ≡ flagged r (became marks) ⌝ }
 {
     let k = p.k;
     let at = e + k;
@@ -86,7 +89,7 @@ pub fn index_held(p: Description, f: &[u32], low: usize, e: usize, marks: &mut [
 pub fn sections_held(p: Description, f: &[u32], n: usize, marks: &mut [u8]) -> bool
     requires { ⌜ Fit p (now f) ⌝ }
     requires { ⌜ (length (now marks) ≡ p .n) × (3 + n * (p .k + 1) ≤ length (now f)) ⌝ }
-    ensures { λ r. ⌜ through (indexHeld p (now (f .entry))) (p .k + 1) 0 3 n (now (marks .entry)) ≡ flagged r (now (marks .exit)) ⌝ }
+    ensures { λ r. ⌜ through (indexHeld p (was f)) (p .k + 1) 0 3 n (was marks) ≡ flagged r (became marks) ⌝ }
 {
     let mut before = 0;
     let mut at = 3;
@@ -106,7 +109,7 @@ pub fn sections_held(p: Description, f: &[u32], n: usize, marks: &mut [u8]) -> b
 pub fn chain_held(p: Description, f: &[u32], head: usize, marks: &mut [u8]) -> bool
     requires { ⌜ Fit p (now f) ⌝ }
     requires { ⌜ length (now marks) ≡ p .n ⌝ }
-    ensures { λ r. ⌜ chainHeld p (now (f .entry)) (p .n) head (now (marks .entry)) ≡ flagged r (now (marks .exit)) ⌝ }
+    ensures { λ r. ⌜ chainHeld p (was f) (p .n) head (was marks) ≡ flagged r (became marks) ⌝ }
 {
     let wpb = p.wpb;
     let mut b = head;

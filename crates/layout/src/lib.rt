@@ -20,12 +20,15 @@ ghost use Rattle.drum.specs.Params.{goodParams, fileSize};
 ghost use Rattle.layout.specs.Create.{created};
 ghost use Rattle.layout.specs.Inspect.{restOk, masterOk, layoutMarks};
 ghost use Rattle.layout.specs.Inspected.{flagged, Fit, leftMarks};
+ghost use Rattle.words.specs.Slices.{was, became};
 
 // Whether the file is as under Layout; the marks if so, and all 0 if not.
 pub fn inspect(p: Description, f: &[u32], marks: &mut [u8]) -> bool
     requires { ⌜ Fit p (now f) ⌝ }
     requires { ⌜ length (now marks) ≡ p .n ⌝ }
-    ensures { λ r. ⌜ (layoutMarks p (now (f .entry)) ≡ flagged r (now (marks .exit))) × (now (marks .exit) ≡ leftMarks (p .n) (layoutMarks p (now (f .entry)))) ⌝ }
+    ensures { λ r. ⌜
+        (layoutMarks p (was f) ≡ flagged r (became marks)) × (became marks ≡ leftMarks (p .n) (layoutMarks p (was f)))
+        ⌝ }
 {
     clear(marks);
     if walk(p, f, marks) {
@@ -39,7 +42,7 @@ pub fn inspect(p: Description, f: &[u32], marks: &mut [u8]) -> bool
 fn walk(p: Description, f: &[u32], marks: &mut [u8]) -> bool
     requires { ⌜ Fit p (now f) ⌝ }
     requires { ⌜ now marks ≡ zeros (p .n) ⌝ }
-    ensures { λ r. ⌜ layoutMarks p (now (f .entry)) ≡ flagged r (now (marks .exit)) ⌝ }
+    ensures { λ r. ⌜ layoutMarks p (was f) ≡ flagged r (became marks) ⌝ }
 {
     if !words::all_words(f, 0, f.len()) {
         return false;
@@ -75,7 +78,7 @@ fn walk(p: Description, f: &[u32], marks: &mut [u8]) -> bool
 fn master_ok(p: Description, f: &[u32], n: usize) -> bool
     requires { ⌜ Fit p (now f) ⌝ }
     requires { ⌜ (1 ≤ n) × (n ≤ p .control) ⌝ }
-    ensures { λ r. ⌜ r ≡ masterOk p (now (f .entry)) n ⌝ }
+    ensures { λ r. ⌜ r ≡ masterOk p (was f) n ⌝ }
 {
     let k = p.k;
     let m = p.master_size();
@@ -90,7 +93,7 @@ fn master_ok(p: Description, f: &[u32], n: usize) -> bool
 fn rest_ok(p: Description, f: &[u32], lowest: usize, marks: &[u8]) -> bool
     requires { ⌜ Fit p (now f) ⌝ }
     requires { ⌜ (length (now marks) ≡ p .n) × (1 ≤ lowest) × (lowest ≤ p .n + 1) ⌝ }
-    ensures { λ r. ⌜ r ≡ restOk p (now (f .entry)) lowest (now (marks .entry)) ⌝ }
+    ensures { λ r. ⌜ r ≡ restOk p (was f) lowest (was marks) ⌝ }
 {
     if !all_set(marks, lowest - 1) {
         return false;
@@ -105,7 +108,7 @@ fn rest_ok(p: Description, f: &[u32], lowest: usize, marks: &[u8]) -> bool
 // Writes the words of a new file, every one of them.
 pub fn lay_out(p: Description, file: &mut [u32])
     requires { ⌜ (goodParams p ≡ true) × (length (now file) ≡ fileSize p) ⌝ }
-    ensures { λ _. ⌜ now (file .exit) ≡ created p ⌝ }
+    ensures { λ _. ⌜ became file ≡ created p ⌝ }
 {
     let k = p.k;
     let size = file.len();
@@ -124,7 +127,7 @@ pub fn lay_out(p: Description, file: &mut [u32])
 // Writes an entry at word `at`: the bound ONES, and a block.
 fn lay_entry(t: &mut [u32], at: usize, k: usize, block: u32)
     requires { ⌜ at + k + 1 ≤ length (now t) ⌝ }
-    ensures { λ _. ⌜ now (t .exit) ≡ put (now (t .entry)) at (ones k ++ (block ∷ [])) ⌝ }
+    ensures { λ _. ⌜ became t ≡ put (was t) at (ones k ++ (block ∷ [])) ⌝ }
 {
     lay_ones(t, at, k);
     t[at + k] = block;
@@ -133,7 +136,7 @@ fn lay_entry(t: &mut [u32], at: usize, k: usize, block: u32)
 // Writes the key ONES of k words at word `at`.
 fn lay_ones(t: &mut [u32], at: usize, k: usize)
     requires { ⌜ at + k ≤ length (now t) ⌝ }
-    ensures { λ _. ⌜ now (t .exit) ≡ put (now (t .entry)) at (ones k) ⌝ }
+    ensures { λ _. ⌜ became t ≡ put (was t) at (ones k) ⌝ }
 {
     let mut i = 0;
     while i < k {

@@ -5,11 +5,12 @@ ghost use Prim.Native.Nat.{_+_, _*_, _≤_};
 ghost use lib.ListN.{length};
 ghost use Rattle.layout.specs.Inspect.{above as isAbove, ascends as ascending, endOk, recordsOk, rowsIn};
 ghost use Rattle.layout.specs.Inspected.{counted};
+ghost use Rattle.words.specs.Slices.{was};
 
 // Whether the key at place a is above the one at low, if there is one.
 pub fn above(p: Description, f: &[u32], low: usize, a: usize) -> bool
     requires { ⌜ (low + p .k ≤ length (now f)) × (a + p .k ≤ length (now f)) ⌝ }
-    ensures { λ r. ⌜ r ≡ isAbove p (now (f .entry)) low a ⌝ }
+    ensures { λ r. ⌜ r ≡ isAbove p (was f) low a ⌝ }
 {
     if low == 0 {
         return true;
@@ -20,7 +21,7 @@ pub fn above(p: Description, f: &[u32], low: usize, a: usize) -> bool
 // Whether the keys of the n rows from place a on ascend, the first above the one at low.
 pub fn ascends(p: Description, f: &[u32], stride: usize, low: usize, a: usize, n: usize) -> bool
     requires { ⌜ (low + p .k ≤ length (now f)) × (p .k ≤ stride) × (a + n * stride ≤ length (now f)) ⌝ }
-    ensures { λ r. ⌜ r ≡ ascending p (now (f .entry)) stride low a n ⌝ }
+    ensures { λ r. ⌜ r ≡ ascending p (was f) stride low a n ⌝ }
 {
     let mut before = low;
     let mut at = a;
@@ -39,7 +40,7 @@ pub fn ascends(p: Description, f: &[u32], stride: usize, low: usize, a: usize, n
 // Whether the record at place r is the end record, if the bound at place e is ONES.
 pub fn end_ok(p: Description, f: &[u32], e: usize, r: usize) -> bool
     requires { ⌜ (e + p .k ≤ length (now f)) × (r + p .wpr ≤ length (now f)) × (p .k ≤ p .wpr) ⌝ }
-    ensures { λ b. ⌜ b ≡ endOk p (now (f .entry)) e r ⌝ }
+    ensures { λ b. ⌜ b ≡ endOk p (was f) e r ⌝ }
 {
     let k = p.k;
     if !words::all_are(f, e, k, 262143) {
@@ -53,8 +54,14 @@ pub fn end_ok(p: Description, f: &[u32], e: usize, r: usize) -> bool
 
 // Whether the n records from place a on are good under the entry at place e.
 pub fn records_ok(p: Description, f: &[u32], low: usize, e: usize, a: usize, n: usize) -> bool
-    requires { ⌜ (low + p .k ≤ length (now f)) × (e + p .k ≤ length (now f)) × (a + n * p .wpr ≤ length (now f)) × (1 ≤ n) × (p .k ≤ p .wpr) ⌝ }
-    ensures { λ b. ⌜ b ≡ recordsOk p (now (f .entry)) low e a n ⌝ }
+    requires { ⌜
+        (low + p .k ≤ length (now f))
+        × (e + p .k ≤ length (now f))
+        × (a + n * p .wpr ≤ length (now f))
+        × (1 ≤ n)
+        × (p .k ≤ p .wpr)
+        ⌝ }
+    ensures { λ b. ⌜ b ≡ recordsOk p (was f) low e a n ⌝ }
 {
     let wpr = p.wpr;
     if !ascends(p, f, wpr, low, a, n) {
@@ -70,7 +77,7 @@ pub fn records_ok(p: Description, f: &[u32], low: usize, e: usize, a: usize, n: 
 // The count of the rows in the block that starts at s, 0 if it is bad or a word behind the rows is not 0.
 pub fn rows_in(p: Description, f: &[u32], most: usize, stride: usize, s: usize) -> usize
     requires { ⌜ (1 + most * stride ≤ p .wpb) × (s + p .wpb ≤ length (now f)) ⌝ }
-    ensures { λ r. ⌜ (rowsIn p (now (f .entry)) most stride s ≡ counted r) × (r ≤ most) ⌝ }
+    ensures { λ r. ⌜ (rowsIn p (was f) most stride s ≡ counted r) × (r ≤ most) ⌝ }
 {
     let wpb = p.wpb;
     let n = words::word_at(f, s);

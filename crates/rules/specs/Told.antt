@@ -1,14 +1,13 @@
 -- The form of the promises below the session: what a call's steps leave, as its code can tell it.
-use denote.Triple.Both.{Both}
-use denote.Ref.{RefT, now}
 use mathlib.Core.Path.{_≡_}
 use Prim.Native.Nat.{ℕ}
 use mathlib.Core.Bool.{Bool, false}
 use mathlib.Core.List.{List}
 use lib.ListN.{length}
 use Rattle.numbers.specs.Checked.{Checked, passed, refused}
+use Rattle.words.specs.Slices.{Slice, was, became}
 use Rattle.drum.specs.declared.Description.{Description}
-use Rattle.drum.specs.Blocks.{Texts, seen}
+use Rattle.drum.specs.Blocks.{Texts, atEntry}
 use Rattle.rules.specs.declared.Done.{Done}
 use Rattle.rules.specs.State.{Effect}
 
@@ -59,18 +58,8 @@ told v flag work (passed e) = record {
   work = e .work;
 }
 
--- words lent to a function ("lent slices of 32-bit words"): as they were, and as it left them
-abbrev pub Slice : Type 0
-Slice = Both (RefT (List ℕ)) (RefT (List ℕ))
-
-abbrev pub was : Slice → List ℕ
-was x = now (x .entry)
-
-abbrev pub became : Slice → List ℕ
-became x = now (x .exit)
-
 -- the promise of a function that makes a call's steps, or the last of them: what it gave back, with the words it left, is what the steps tell
 abbrev pub Follows : Done → (Texts → Bool → List ℕ → Checked Effect) → Description → ℕ → Bool → Slice → Slice → Slice → Type 0
 Follows r steps p current flag file buffer work =
-    let v = seen p current (was file) (was buffer) in
+    let v = atEntry p current file buffer in
     gave r (became file) (became buffer) (became work) ≡ told v flag (was work) (steps v flag (was work))
