@@ -1,49 +1,113 @@
 -- What a call does once its key or record is in the workspace; OPEN and CLOSE pass the workspace by.
 use Prim.Native.Nat.{ℕ, _+_, _≤_, _<_}
 use mathlib.Core.Path.{_≡_, refl, sym, ap, _∙_}
-use mathlib.Core.Bool.{Bool, true, false, cond, _&&_}
+use mathlib.Core.Bool.{Bool, true, false, cond, not, _&&_}
 use mathlib.Core.List.{List, []}
 use lib.Dec.{leb}
 use lib.ListN.{length}
-use borrow.Author.Tests.{le-leb, lt-leb}
+use borrow.Author.Tests.{le-leb, lt-leb, not-true, not-false}
+use Rattle.numbers.specs.Numbers.{wrongSize}
 use Rattle.numbers.specs.Checked.{Checked, passed, refused}
 use Rattle.words.specs.Words.{part, put}
+use Rattle.words.proofs.Keys.{clash}
+use Rattle.drum.specs.declared.Description.{Description}
 use Rattle.rules.specs.declared.Call.{Call}
-use Rattle.rules.specs.declared.Call.the-variants.{Create, Open, Close}
-use Rattle.rules.specs.State.{Session, State, desc, lent}
+use Rattle.rules.specs.declared.Call.the-variants.{Create, Open, Close, Seek, Adv, Nsert, Dlete, Updat, Xtend}
+use Rattle.rules.specs.State.{Session, State, Outcome, lent}
 use Rattle.rules.specs.Checks.{sizesOk, isOpen}
 use Rattle.rules.specs.Open.{Created, create, openFile, openChecks, openDone, openLayout}
 use Rattle.rules.specs.Close.{close, closeChecks, closeDone}
+use Rattle.rules.specs.Seek.{seek, updat}
+use Rattle.rules.specs.Adv.{adv}
+use Rattle.rules.specs.NsertDone.{nsert}
+use Rattle.rules.specs.Dlete.{dlete}
+use Rattle.rules.specs.XtendDone.{xtend}
 use Rattle.rules.specs.Run.{createdOutcome}
-use Rattle.searchfile.specs.Promise.{Counted, CountedOpen, counted, countedOpen}
-use Rattle.calls.specs.Perform.{staged, workFor, called, done}
+use Rattle.searchfile.specs.declared.Session as code
+use Rattle.searchfile.specs.Promise.{Counted, CountedOpen, held, given, counted, countedOpen}
+use Rattle.calls.specs.Perform.{Staged, stagedAs, staged, stagedFor, marked, called, calledOn, done}
 
 -- the words beside and the workspace have room, or one has not
 module _ (ws : List ℕ) (at n : ℕ) (w : List ℕ) where
-  pub staged-room : at + n ≤ length ws → n ≤ length w → staged ws at n w ≡ put w 0 (part at n ws)
+  pub staged-room : at + n ≤ length ws → n ≤ length w → staged ws at n w ≡ stagedAs true (put w 0 (part at n ws))
   unfolding staged
   staged-room h k = simp (le-leb _ _ h, le-leb _ _ k)
 
-  pub staged-long : length ws < at + n → staged ws at n w ≡ w
+  pub staged-copied : (v : List ℕ) → v ≡ put w 0 (part at n ws) → at + n ≤ length ws → n ≤ length w → stagedAs true v ≡ staged ws at n w
+  staged-copied v e h k = ap (stagedAs true) e ∙ sym (staged-room h k)
+
+  pub staged-long : length ws < at + n → staged ws at n w ≡ stagedAs false w
   unfolding staged
   staged-long h = simp (lt-leb _ _ h)
 
-  pub staged-narrow : length w < n → staged ws at n w ≡ w
+  pub staged-narrow : length w < n → staged ws at n w ≡ stagedAs false w
   unfolding staged
   staged-narrow h = go (leb (at + n) (length ws))
     where
-      go : (x : Bool) → cond (x && leb n (length w)) (put w 0 (part at n ws)) w ≡ w
+      go : (x : Bool) → cond (x && leb n (length w)) (stagedAs true (put w 0 (part at n ws))) (stagedAs false w) ≡ stagedAs false w
       go true = simp (lt-leb _ _ h)
       go false = refl
 
--- the call on the workspace that was made for it
-pub called-done : (ws : List ℕ) (st : State) (m w : List ℕ) (c x : Call)
-    → w ≡ workFor ws (desc st) (st .work) c → c ≡ x
-    → countedOpen (called (lent (st .session) (st .file) (st .buffer) w) m x) ≡ countedOpen (done ws st m c)
-unfolding done
-called-done ws st m w c x e h =
-    ap (λ (y : Call). countedOpen (called (lent (st .session) (st .file) (st .buffer) w) m y)) (sym h)
-    ∙ ap (λ (v : List ℕ). countedOpen (called (lent (st .session) (st .file) (st .buffer) v) m c)) e
+  unfit-words : staged ws at n w .fits ≡ false → staged ws at n w .work ≡ w
+  unfolding staged
+  unfit-words = go (leb (at + n) (length ws) && leb n (length w))
+    where
+      go : (x : Bool)
+          → cond x (stagedAs true (put w 0 (part at n ws))) (stagedAs false w) .fits ≡ false
+          → cond x (stagedAs true (put w 0 (part at n ws))) (stagedAs false w) .work ≡ w
+      go true e = absurd (clash e)
+      go false e = refl
+
+-- the clause of each kind
+module _ (ws : List ℕ) (p : Description) (w : List ℕ) (c : Call) where
+  pub create-staged : c ≡ Create → stagedAs true w ≡ stagedFor ws p w c
+  unfolding stagedFor
+  create-staged e = rw e
+
+  pub open-staged : c ≡ Open → stagedAs true w ≡ stagedFor ws p w c
+  unfolding stagedFor
+  open-staged e = rw e
+
+  pub close-staged : c ≡ Close → stagedAs true w ≡ stagedFor ws p w c
+  unfolding stagedFor
+  close-staged e = rw e
+
+  pub adv-staged : c ≡ Adv → stagedAs true w ≡ stagedFor ws p w c
+  unfolding stagedFor
+  adv-staged e = rw e
+
+  pub seek-staged : (r : Bool) (v : List ℕ) (at : ℕ) → stagedAs r v ≡ staged ws at (p .k) w → c ≡ Seek at → stagedAs r v ≡ stagedFor ws p w c
+  unfolding stagedFor
+  seek-staged r v at h e = rw e h
+
+  pub nsert-staged : (r : Bool) (v : List ℕ) (at : ℕ) → stagedAs r v ≡ staged ws at (p .wpr) w → c ≡ Nsert at → stagedAs r v ≡ stagedFor ws p w c
+  unfolding stagedFor
+  nsert-staged r v at h e = rw e h
+
+  pub dlete-staged : (r : Bool) (v : List ℕ) (at : ℕ) → stagedAs r v ≡ staged ws at (p .k) w → c ≡ Dlete at → stagedAs r v ≡ stagedFor ws p w c
+  unfolding stagedFor
+  dlete-staged r v at h e = rw e h
+
+  pub updat-staged : (r : Bool) (v : List ℕ) (at : ℕ) → stagedAs r v ≡ staged ws at (p .wpr) w → c ≡ Updat at → stagedAs r v ≡ stagedFor ws p w c
+  unfolding stagedFor
+  updat-staged r v at h e = rw e h
+
+  pub xtend-staged : (r : Bool) (v : List ℕ) (at : ℕ) → stagedAs r v ≡ staged ws at (p .wpr) w → c ≡ Xtend at → stagedAs r v ≡ stagedFor ws p w c
+  unfolding stagedFor
+  xtend-staged r v at h e = rw e h
+
+-- without room the workspace is as it was
+pub unfit-left : (ws : List ℕ) (p : Description) (w : List ℕ) (c : Call) → stagedFor ws p w c .fits ≡ false → stagedFor ws p w c .work ≡ w
+unfolding stagedFor
+unfit-left ws p w Create e = refl
+unfit-left ws p w Open e = refl
+unfit-left ws p w Close e = refl
+unfit-left ws p w (Seek at) e = unfit-words ws at (p .k) w e
+unfit-left ws p w Adv e = refl
+unfit-left ws p w (Nsert at) e = unfit-words ws at (p .wpr) w e
+unfit-left ws p w (Dlete at) e = unfit-words ws at (p .k) w e
+unfit-left ws p w (Updat at) e = unfit-words ws at (p .wpr) w e
+unfit-left ws p w (Xtend at) e = unfit-words ws at (p .wpr) w e
 
 -- an outcome with another workspace
 abbrev pub beside : List ℕ → Counted → Counted
@@ -80,35 +144,93 @@ module _ (s : Session) (f b w : List ℕ) where
   unfolding close closeChecks sizesOk isOpen
   close-beside = close-done (closeChecks (lent s f b []))
 
-module _ (ws : List ℕ) (st : State) (m w : List ℕ) (c : Call) (e : w ≡ workFor ws (desc st) (st .work) c) where
-  pub create-performed : (n t : ℕ) (s : Session) (f : List ℕ)
-      → c ≡ Create
-      → _≡_ {A = Created} (record { number = n; file = f }) (create (desc st) (st .file))
-      → t ≡ 0
-      → s ≡ st .session
-      → _≡_ {A = CountedOpen}
-      (record { outcome = record { number = n; transfers = t; after = lent s f (st .buffer) w }; marks = m })
-      (countedOpen (done ws st m c))
-  unfolding called createdOutcome
-  create-performed n t s f h r z q =
-      (λ j. record { outcome = record { number = r j .number; transfers = z j; after = lent (q j) (r j .file) (st .buffer) w }; marks = m })
-      ∙ called-done ws st m w c Create e h
+-- a call of the session s over file f, buffer b and workspace u, which is w once the key or record is put into it; r tells whether it had room
+module _ (ws : List ℕ) (s : Session) (f b u m w : List ℕ) (c : Call) (r : Bool) where
+  abbrev did : CountedOpen
+  did = countedOpen (done ws (lent s f b u) m c)
 
-  pub open-performed : (o : CountedOpen)
-      → c ≡ Open
-      → o ≡ countedOpen (openFile (lent (st .session) (st .file) (st .buffer) []) m)
-      → besideOpen w o ≡ countedOpen (done ws st m c)
-  unfolding called
-  open-performed o h r =
-      ap (besideOpen w) r
-      ∙ open-beside (st .session) (st .file) (st .buffer) w m
-      ∙ called-done ws st m w c Open e h
+  pub refused-performed : stagedAs r w ≡ stagedFor ws (s .desc) u c → not r ≡ true
+      → _≡_ {A = CountedOpen} (record { outcome = record { number = wrongSize; transfers = 0; after = lent s f b w }; marks = m }) did
+  unfolding done calledOn
+  refused-performed e q =
+      let n : r ≡ false = not-true r q in
+      let g : stagedFor ws (s .desc) u c .fits ≡ false = ap (λ (x : Staged). x .fits) (sym e) ∙ n in
+      let h : w ≡ u = ap (λ (x : Staged). x .work) e ∙ unfit-left ws (s .desc) u c g in
+      (λ j. record { outcome = record { number = wrongSize; transfers = 0; after = lent s f b (h j) }; marks = m })
+      ∙ ap (λ (t : Bool). countedOpen (calledOn (lent s f b u) m c (stagedAs t (stagedFor ws (s .desc) u c .work)))) (sym g)
 
-  pub close-performed : (o : Counted)
-      → c ≡ Close
-      → o ≡ counted (close (lent (st .session) (st .file) (st .buffer) []))
-      → _≡_ {A = CountedOpen} (record { outcome = beside w o; marks = m }) (countedOpen (done ws st m c))
+  called-done : (x : Call) → stagedAs r w ≡ stagedFor ws (s .desc) u c → not r ≡ false → c ≡ x → countedOpen (called (lent s f b w) m x) ≡ did
+  unfolding done calledOn
+  called-done x e q h =
+      ap (λ (y : Call). countedOpen (called (lent s f b w) m y)) (sym h)
+      ∙ ap (λ (t : Bool). countedOpen (calledOn (lent s f b u) m c (stagedAs t w))) (sym (not-false r q))
+      ∙ ap (λ (g : Staged). countedOpen (calledOn (lent s f b u) m c g)) e
+
+  -- what OPEN and CLOSE leave, who are not lent the workspace
+  module _ (n t : ℕ) (s′ : Session) (f′ b′ m′ : List ℕ) where
+    abbrev gives : List ℕ → Counted
+    gives v = record { number = n; transfers = t; after = lent s′ f′ b′ v }
+
+    pub open-performed : _≡_ {A = CountedOpen} (record { outcome = gives []; marks = m′ }) (countedOpen (openFile (lent s f b []) m))
+        → stagedAs r w ≡ stagedFor ws (s .desc) u c → not r ≡ false → c ≡ Open
+        → _≡_ {A = CountedOpen} (record { outcome = gives w; marks = m′ }) did
+    unfolding called
+    open-performed k e g h = ap (besideOpen w) k ∙ open-beside s f b w m ∙ called-done Open e g h
+
+    pub close-performed : gives [] ≡ counted (close (lent s f b []))
+        → stagedAs r w ≡ stagedFor ws (s .desc) u c → not r ≡ false → c ≡ Close
+        → _≡_ {A = CountedOpen} (record { outcome = gives w; marks = m }) did
+    unfolding called
+    close-performed k e g h =
+        ap (λ (x : Counted). record { outcome = x; marks = m }) (ap (beside w) k ∙ close-beside s f b w) ∙ called-done Close e g h
+
+  -- a call whose definition looks at the workspace
+  by-work : (does : State → Outcome) (x : Call) → called (lent s f b w) m x ≡ marked m (does (lent s f b w))
+      → (o : Counted) → o ≡ counted (does (lent s f b w))
+      → stagedAs r w ≡ stagedFor ws (s .desc) u c → not r ≡ false → c ≡ x
+      → _≡_ {A = CountedOpen} (record { outcome = o; marks = m }) did
+  by-work does x is o k e g h = (λ j. record { outcome = k j; marks = m }) ∙ ap countedOpen (sym is) ∙ called-done x e g h
+
+  pub seek-performed : (at : ℕ) (o : Counted) → o ≡ counted (seek (lent s f b w)) → stagedAs r w ≡ stagedFor ws (s .desc) u c → not r ≡ false → c ≡ Seek at
+      → _≡_ {A = CountedOpen} (record { outcome = o; marks = m }) did
   unfolding called
-  close-performed o h r =
-      ap (λ (x : Counted). record { outcome = x; marks = m }) (ap (beside w) r ∙ close-beside (st .session) (st .file) (st .buffer) w)
-      ∙ called-done ws st m w c Close e h
+  seek-performed at = by-work seek (Seek at) refl
+
+  pub adv-performed : (o : Counted) → o ≡ counted (adv (lent s f b w)) → stagedAs r w ≡ stagedFor ws (s .desc) u c → not r ≡ false → c ≡ Adv
+      → _≡_ {A = CountedOpen} (record { outcome = o; marks = m }) did
+  unfolding called
+  adv-performed = by-work adv Adv refl
+
+  pub nsert-performed : (at : ℕ) (o : Counted) → o ≡ counted (nsert (lent s f b w)) → stagedAs r w ≡ stagedFor ws (s .desc) u c → not r ≡ false → c ≡ Nsert at
+      → _≡_ {A = CountedOpen} (record { outcome = o; marks = m }) did
+  unfolding called
+  nsert-performed at = by-work nsert (Nsert at) refl
+
+  pub dlete-performed : (at : ℕ) (o : Counted) → o ≡ counted (dlete (lent s f b w)) → stagedAs r w ≡ stagedFor ws (s .desc) u c → not r ≡ false → c ≡ Dlete at
+      → _≡_ {A = CountedOpen} (record { outcome = o; marks = m }) did
+  unfolding called
+  dlete-performed at = by-work dlete (Dlete at) refl
+
+  pub updat-performed : (at : ℕ) (o : Counted) → o ≡ counted (updat (lent s f b w)) → stagedAs r w ≡ stagedFor ws (s .desc) u c → not r ≡ false → c ≡ Updat at
+      → _≡_ {A = CountedOpen} (record { outcome = o; marks = m }) did
+  unfolding called
+  updat-performed at = by-work updat (Updat at) refl
+
+  pub xtend-performed : (at : ℕ) (o : Counted) → o ≡ counted (xtend (lent s f b w)) → stagedAs r w ≡ stagedFor ws (s .desc) u c → not r ≡ false → c ≡ Xtend at
+      → _≡_ {A = CountedOpen} (record { outcome = o; marks = m }) did
+  unfolding called
+  xtend-performed at = by-work xtend (Xtend at) refl
+
+-- CREATE "has no session": it is handed back as it was
+pub create-performed : (ws : List ℕ) (s s′ : code.Session) (f b u m w : List ℕ) (c : Call) (r : Bool) (n t : ℕ) (f′ : List ℕ)
+    → _≡_ {A = Created} (record { number = n; file = f′ }) (create (s .desc) f)
+    → t ≡ 0
+    → s′ ≡ s
+    → stagedAs r w ≡ stagedFor ws (s .desc) u c → not r ≡ false → c ≡ Create
+    → _≡_ {A = CountedOpen}
+    (record { outcome = record { number = n; transfers = t; after = given s′ f′ b w }; marks = m })
+    (countedOpen (done ws (given s f b u) m c))
+unfolding called createdOutcome
+create-performed ws s s′ f b u m w c r n t f′ k z q e g h =
+    (λ j. record { outcome = record { number = k j .number; transfers = z j; after = given (q j) (k j .file) b w }; marks = m })
+    ∙ called-done ws (held s) f b u m w c r Create e g h

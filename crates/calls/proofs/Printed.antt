@@ -1,4 +1,5 @@
--- Where the key or record has room, and OPEN is lent as many marks as there are blocks, a call does what it does in the printed session.
+-- One call: where its key or record has room, and OPEN is lent as many marks as there are blocks, it does what it does in the printed session.
+-- Of a run of calls Session.antt speaks.
 use Prim.Native.Nat.{ℕ, _+_, _≤_}
 use mathlib.Core.Path.{_≡_, refl, sym, ap, _∙_}
 use mathlib.Core.Bool.{Bool}
@@ -8,15 +9,11 @@ use Rattle.numbers.specs.Checked.{Checked, passed, refused}
 use Rattle.words.specs.Words.{zeros}
 use Rattle.rules.specs.declared.Call.{Call}
 use Rattle.rules.specs.declared.Call.the-variants.{Create, Open, Close, Seek, Adv, Nsert, Dlete, Updat, Xtend}
-use Rattle.rules.specs.State.{State, desc, lent}
+use Rattle.rules.specs.State.{State, desc}
 use Rattle.rules.specs.Open.{openFile, openChecks, openDone}
-use Rattle.rules.specs.Seek.{seek, updat}
-use Rattle.rules.specs.NsertDone.{nsert}
-use Rattle.rules.specs.Dlete.{dlete}
-use Rattle.rules.specs.XtendDone.{xtend}
 use Rattle.rules.specs.Requests.{answer, lending}
 use Rattle.rules.specs.Run.{perform, keyFrom, recordFrom}
-use Rattle.calls.specs.Perform.{workFor, called, done}
+use Rattle.calls.specs.Perform.{Staged, stagedFor, called, calledOn, done}
 use Rattle.calls.proofs.Performed.{staged-room}
 
 -- n words from word `at` on stand in the words beside, and the workspace holds n
@@ -45,18 +42,18 @@ open-marks st m n h = rw h (go (openChecks st n))
     go (passed x) = refl
 
 pub done-printed : (ws : List ℕ) (st : State) (m : List ℕ) (c : Call) → length m ≡ desc st .n → Room ws st c → done ws st m c .outcome ≡ perform ws st c
-unfolding done called workFor perform answer lending keyFrom recordFrom
+unfolding done calledOn called stagedFor perform answer lending keyFrom recordFrom
 done-printed ws st m Create l h = refl
 done-printed ws st m Open l h = open-marks st m (zeros (desc st .n)) (l ∙ sym (length-replicate (desc st .n) 0))
 done-printed ws st m Close l h = refl
 done-printed ws st m (Seek at) l h =
-    ap (λ (w : List ℕ). seek (lent (st .session) (st .file) (st .buffer) w)) (staged-room ws at (desc st .k) (st .work) (h .0) (h .1))
+    ap (λ (g : Staged). calledOn st m (Seek at) g .outcome) (staged-room ws at (desc st .k) (st .work) (h .0) (h .1))
 done-printed ws st m Adv l h = refl
 done-printed ws st m (Nsert at) l h =
-    ap (λ (w : List ℕ). nsert (lent (st .session) (st .file) (st .buffer) w)) (staged-room ws at (desc st .wpr) (st .work) (h .0) (h .1))
+    ap (λ (g : Staged). calledOn st m (Nsert at) g .outcome) (staged-room ws at (desc st .wpr) (st .work) (h .0) (h .1))
 done-printed ws st m (Dlete at) l h =
-    ap (λ (w : List ℕ). dlete (lent (st .session) (st .file) (st .buffer) w)) (staged-room ws at (desc st .k) (st .work) (h .0) (h .1))
+    ap (λ (g : Staged). calledOn st m (Dlete at) g .outcome) (staged-room ws at (desc st .k) (st .work) (h .0) (h .1))
 done-printed ws st m (Updat at) l h =
-    ap (λ (w : List ℕ). updat (lent (st .session) (st .file) (st .buffer) w)) (staged-room ws at (desc st .wpr) (st .work) (h .0) (h .1))
+    ap (λ (g : Staged). calledOn st m (Updat at) g .outcome) (staged-room ws at (desc st .wpr) (st .work) (h .0) (h .1))
 done-printed ws st m (Xtend at) l h =
-    ap (λ (w : List ℕ). xtend (lent (st .session) (st .file) (st .buffer) w)) (staged-room ws at (desc st .wpr) (st .work) (h .0) (h .1))
+    ap (λ (g : Staged). calledOn st m (Xtend at) g .outcome) (staged-room ws at (desc st .wpr) (st .work) (h .0) (h .1))

@@ -1,39 +1,42 @@
 // Calls as values: a call is its kind, and where its key or record begins in an array of words kept beside it.
 use drum::Description;
+use numbers::WRONG_SIZE;
 use rules::Call;
 use searchfile::Answer;
 use searchfile::Session;
 ghost use mathlib.Core.Path.{_≡_};
 ghost use Rattle.rules.specs.Open.{create as creation};
 ghost use Rattle.searchfile.specs.Promise.{given, made, countedOpen};
-ghost use Rattle.calls.specs.Perform.{staged, workFor, done, performedAs};
+ghost use Rattle.calls.specs.Perform.{staged, stagedAs, stagedFor, done, performedAs};
+ghost use Rattle.words.specs.Slices.{was, became};
 
 // Writes the n words of `words` from word `at` on over the first n of the workspace, if both have room for them.
-fn stage_words(words: &[u32], at: usize, n: usize, work: &mut [u32])
-    ensures { λ _. ⌜ now (work .exit) ≡ staged (now (words .entry)) at n (now (work .entry)) ⌝ }
+fn stage_words(words: &[u32], at: usize, n: usize, work: &mut [u32]) -> bool
+    ensures { λ r. ⌜ stagedAs r (became work) ≡ staged (was words) at n (was work) ⌝ }
 {
     if work.len() < n {
-        return;
+        return false;
     }
     if words.len() < n {
-        return;
+        return false;
     }
     if words.len() - n < at {
-        return;
+        return false;
     }
     words::copy_words(work, 0, words, at, n);
+    true
 }
 
-// Puts the key or record that the call carries into the workspace.
-fn stage(call: Call, p: Description, words: &[u32], work: &mut [u32])
-    ensures { λ _. ⌜ now (work .exit) ≡ workFor (now (words .entry)) p (now (work .entry)) call ⌝ }
+// Puts the key or record that the call carries into the workspace, if there is room for it.
+fn stage(call: Call, p: Description, words: &[u32], work: &mut [u32]) -> bool
+    ensures { λ r. ⌜ stagedAs r (became work) ≡ stagedFor (was words) p (was work) call ⌝ }
 {
     match call {
-        Call::Create => {}
-        Call::Open => {}
-        Call::Close => {}
+        Call::Create => true,
+        Call::Open => true,
+        Call::Close => true,
         Call::Seek { at } => stage_words(words, at, p.k, work),
-        Call::Adv => {}
+        Call::Adv => true,
         Call::Nsert { at } => stage_words(words, at, p.wpr, work),
         Call::Dlete { at } => stage_words(words, at, p.k, work),
         Call::Updat { at } => stage_words(words, at, p.wpr, work),
@@ -43,7 +46,9 @@ fn stage(call: Call, p: Description, words: &[u32], work: &mut [u32])
 
 // CREATE with the session's parameters; the session stays as it is.
 fn create(s: Session, file: &mut [u32]) -> Answer
-    ensures { λ r. ⌜ (made (r .number) (now (file .exit)) ≡ creation (s .desc) (now (file .entry))) × (r .transfers ≡ 0) × (r .session ≡ s) ⌝ }
+    ensures { λ r. ⌜
+        (made (r .number) (became file) ≡ creation (s .desc) (was file)) × (r .transfers ≡ 0) × (r .session ≡ s)
+        ⌝ }
 {
     let number = searchfile::create(s.desc, file);
     Answer {
@@ -53,7 +58,8 @@ fn create(s: Session, file: &mut [u32]) -> Answer
     }
 }
 
-// Performs one call: its key or record is put into the workspace, and the session's method of its kind is called.
+// Performs one call: its key or record is put into the workspace, and the session's method of its kind is called. A key or record that has no
+// room, in the words or in the workspace, is refused before anything is changed.
 pub fn perform(
     call: Call,
     words: &[u32],
@@ -63,9 +69,18 @@ pub fn perform(
     work: &mut [u32],
     marks: &mut [u8],
 ) -> Answer
-    ensures { λ r. ⌜ performedAs r (now (file .exit)) (now (buffer .exit)) (now (work .exit)) (now (marks .exit)) ≡ countedOpen (done (now (words .entry)) (given s (now (file .entry)) (now (buffer .entry)) (now (work .entry))) (now (marks .entry)) call) ⌝ }
+    ensures { λ r. ⌜
+        performedAs r (became file) (became buffer) (became work) (became marks)
+        ≡ countedOpen (done (was words) (given s (was file) (was buffer) (was work)) (was marks) call)
+        ⌝ }
 {
-    stage(call, s.desc, words, work);
+    if !stage(call, s.desc, words, work) {
+        return Answer {
+            number: WRONG_SIZE,
+            transfers: 0,
+            session: s,
+        };
+    }
     match call {
         Call::Create => create(s, file),
         Call::Open => s.open_file(file, buffer, marks),

@@ -4,4 +4,8 @@ pub mod Changes
 pub mod Outcomes
 pub mod Told
 pub mod View
-pub mod Next
+pub mod Most
+pub mod Unpacked
+pub mod Stepped
+pub mod Runs
+pub mod OneResult

@@ -11,6 +11,7 @@ use lib.Seq.{drop-length}
 use Rattle.numbers.proofs.Passed.{both}
 use Rattle.words.specs.Words.{part, put}
 use Rattle.words.proofs.Parts.{length-part, part-all, part-cons, put-all}
+use Rattle.drum.specs.declared.Description.{Description}
 use Rattle.rules.specs.State.{Session}
 use Rattle.capi.specs.Words.{isSession, parametersIn, sessionOf, wordsOf, bit}
 
@@ -40,19 +41,19 @@ module _ (ws : List ℕ) where
   session-yes h = simp (eq-eqb _ _ (h .whole), le-leb _ _ (h .opened-most), le-leb _ _ (h .flag-most), le-leb _ _ (h .placed-most))
 
   -- the tests one by one, as the code makes them
-  pub session-length : (length ws ≡ 73 → ⊥) → isSession ws ≡ false
+  pub session-length : (length ws ≡ 73 → ⊥) → false ≡ isSession ws
   unfolding isSession
   session-length h = simp (ne-eqb _ _ h)
 
-  pub session-opened : length ws ≡ 73 → 1 < getD ws 6 0 → isSession ws ≡ false
+  pub session-opened : length ws ≡ 73 → 1 < getD ws 6 0 → false ≡ isSession ws
   unfolding isSession
   session-opened h a = simp (eq-eqb _ _ h, lt-leb _ _ a)
 
-  pub session-flag : length ws ≡ 73 → getD ws 6 0 ≤ 1 → 1 < getD ws 8 0 → isSession ws ≡ false
+  pub session-flag : length ws ≡ 73 → getD ws 6 0 ≤ 1 → 1 < getD ws 8 0 → false ≡ isSession ws
   unfolding isSession
   session-flag h a b = simp (eq-eqb _ _ h, le-leb _ _ a, lt-leb _ _ b)
 
-  pub session-placed : length ws ≡ 73 → getD ws 6 0 ≤ 1 → getD ws 8 0 ≤ 1 → isSession ws ≡ leb (getD ws 9 0) 1
+  pub session-placed : length ws ≡ 73 → getD ws 6 0 ≤ 1 → getD ws 8 0 ≤ 1 → leb (getD ws 9 0) 1 ≡ isSession ws
   unfolding isSession
   session-placed h a b = simp (eq-eqb _ _ h, le-leb _ _ a, le-leb _ _ b)
 
@@ -74,9 +75,29 @@ module _ (ws : List ℕ) where
       ∙ ap (λ (z : List ℕ). getD ws 7 0 ∷ z) (part-cons 8 64 ws (omega arith)
       ∙ ap (λ (z : List ℕ). getD ws 8 0 ∷ z) (part-cons 9 63 ws (omega arith))))))))))
 
-  -- the position copied over as many words
-  pub position-read : (l ps : List ℕ) → length ws ≡ 73 → length l ≡ 63 → ps ≡ put l 0 (part 10 63 ws) → ps ≡ part 10 63 ws
-  position-read l ps h k e = e ∙ put-all l (part 10 63 ws) (length-part 10 63 ws (omega arith) ∙ sym k)
+  -- the parameters read one by one
+  pub parameters-by : (a b c d e f : ℕ) → a ≡ getD ws 0 0 → b ≡ getD ws 1 0 → c ≡ getD ws 2 0 → d ≡ getD ws 3 0 → e ≡ getD ws 4 0 → f ≡ getD ws 5 0
+      → _≡_ {A = Description} (record { wpb = a; wpr = b; k = c; space = d; control = e; n = f }) (parametersIn ws)
+  unfolding parametersIn
+  parameters-by a b c d e f u v w x y z = λ j. record { wpb = u j; wpr = v j; k = w j; space = x j; control = y j; n = z j }
+
+  -- the session read so, its position copied over the words l
+  pub session-by : (d : Description) (x : ℕ) (l ps : List ℕ) → ps ≡ put l 0 (part 10 63 ws) → d ≡ parametersIn ws → x ≡ getD ws 7 0
+      → length ws ≡ 73 → length l ≡ 63
+      → _≡_ {A = Session}
+      (record { desc = d; opened = eqb (getD ws 6 0) 1; current = x; flag = eqb (getD ws 8 0) 1; placed = eqb (getD ws 9 0) 1; position = ps })
+      (sessionOf ws)
+  unfolding sessionOf
+  session-by d x l ps e p c h k =
+      let q = e ∙ put-all l (part 10 63 ws) (length-part 10 63 ws (omega arith) ∙ sym k) in
+      λ j. record {
+        desc = p j;
+        opened = eqb (getD ws 6 0) 1;
+        current = c j;
+        flag = eqb (getD ws 8 0) 1;
+        placed = eqb (getD ws 9 0) 1;
+        position = q j;
+      }
 
 -- a word that is 0 or 1
 bit-is : (x : ℕ) → x ≤ 1 → bit (eqb x 1) ≡ x

@@ -1,3 +1,6 @@
 pub mod Words
 pub mod Calls
 pub mod View
+pub mod Plan
+pub mod OneResult
+pub mod Runs

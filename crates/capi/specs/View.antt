@@ -1,14 +1,18 @@
 -- `nasturakh_view(session, file, buffer, block)`: where the part lies that VIEW lends back.
 use Prim.Native.Nat.{ℕ, _+_, _-_}
 use mathlib.Core.Bool.{cond, _&&_}
+use mathlib.Core.Path.{_≡_}
 use mathlib.Core.List.{List, []}
+use denote.Ref.{ptr, now}
 use lib.Dec.{eqb, ltb}
 use lib.ListN.{length}
 use Rattle.numbers.specs.Numbers.{wrongSize}
 use Rattle.numbers.specs.Checked.{between}
 use Rattle.words.specs.Words.{part}
 use Rattle.drum.specs.Params.{sized, start}
-use Rattle.rules.specs.State.{State, desc, lent}
+use Rattle.rules.specs.State.{Session, State, desc, lent}
+use Rattle.rules.specs.Close.{view}
+use Rattle.searchfile.specs.Parts.{Borrowed, wordOf, viewAt}
 use Rattle.capi.specs.Words.{isSession, sessionOf, packed}
 
 -- "2^32 plus the word offset of the part in the file"
@@ -19,7 +23,7 @@ inFile = 4294967296
 abbrev pub inBuffer : ℕ
 inBuffer = 8589934592
 
--- "returns 0 for an empty part, 2^32 plus the word offset of the part in the file, or 2^33 for the buffer"
+-- "returns 0 for an empty part, 2^32 plus the word offset of the part in the file, or 2^33 for the buffer" [S5]
 unfoldable pub placeOf : State → ℕ → ℕ
 placeOf st b =
     cond (st .session .opened && (sized (desc st) (length (st .file)) (length (st .buffer)) && between 1 (desc st .n) b))
@@ -35,3 +39,12 @@ unfoldable pub partAt : State → ℕ → List ℕ
 partAt st x =
     cond (ltb x inFile) []
     (cond (eqb x inBuffer) (st .buffer) (part (x - inFile) (desc st .wpb) (st .file)))
+
+-- the address that such a number names in the slices lent
+unfoldable pub addressAt : Borrowed → Borrowed → ℕ → ℕ × ℕ
+addressAt file buffer x = cond (ltb x inFile) (ptr file) (cond (eqb x inBuffer) (ptr buffer) (wordOf file (x - inFile)))
+
+-- the number names the part that VIEW lends back: its words, and where they lie
+pub record Named (s : Session) (file buffer : Borrowed) (block : ℕ) : Type 0 where
+  pub words : let st = lent s (now file) (now buffer) [] in partAt st (placeOf st block) ≡ view st block
+  pub address : addressAt file buffer (placeOf (lent s (now file) (now buffer) []) block) ≡ viewAt s file buffer block

@@ -1,10 +1,14 @@
 // The calls for programs in other languages. A session is lent as 73 words (module `session`), every slice is a pointer and a length, and
 // a call's answer is one number: its transfers times 2^32, plus its number. A session slice that is none answers 020007 and changes nothing.
 mod place;
+mod plan;
 mod session;
 
 use numbers::WRONG_SIZE;
 use place::place_of;
+use plan::NO_PLAN;
+use plan::PLAN_WORDS;
+use plan::plan_in;
 use session::is_session;
 use session::packed;
 use session::parameters_in;
@@ -20,11 +24,13 @@ ghost use Rattle.rules.specs.XtendDone.{xtend};
 ghost use Rattle.rules.specs.Seek.{seek, updat};
 ghost use Rattle.capi.specs.Calls.{returned, called, creating, marked, calledOpen};
 ghost use Rattle.capi.specs.View.{viewed};
+ghost use Rattle.capi.specs.Plan.{mostIn};
+ghost use Rattle.words.specs.Slices.{was, became};
 
 // CREATE with the session's parameters; the session stays as it is.
 #[no_mangle]
 pub extern "C" fn nasturakh_create(session: &[u32], file: &mut [u32]) -> u64
-    ensures { λ r. ⌜ returned r (now (session .entry)) (now (file .exit)) [] [] ≡ called creating (now (session .entry)) (now (file .entry)) [] [] ⌝ }
+    ensures { λ r. ⌜ returned r (was session) (became file) [] [] ≡ called creating (was session) (was file) [] [] ⌝ }
 {
     if !is_session(session) {
         return packed(0, WRONG_SIZE);
@@ -41,7 +47,10 @@ pub extern "C" fn nasturakh_open(
     buffer: &[u32],
     marks: &mut [u8],
 ) -> u64
-    ensures { λ r. ⌜ marked (returned r (now (session .exit)) (now (file .entry)) (now (buffer .entry)) []) (now (marks .exit)) ≡ calledOpen (now (session .entry)) (now (file .entry)) (now (buffer .entry)) (now (marks .entry)) ⌝ }
+    ensures { λ r. ⌜
+        marked (returned r (became session) (was file) (was buffer) []) (became marks)
+        ≡ calledOpen (was session) (was file) (was buffer) (was marks)
+        ⌝ }
 {
     if !is_session(session) {
         return packed(0, WRONG_SIZE);
@@ -53,7 +62,10 @@ pub extern "C" fn nasturakh_open(
 // CLOSE.
 #[no_mangle]
 pub extern "C" fn nasturakh_close(session: &mut [u32], file: &mut [u32], buffer: &[u32]) -> u64
-    ensures { λ r. ⌜ returned r (now (session .exit)) (now (file .exit)) (now (buffer .entry)) [] ≡ called close (now (session .entry)) (now (file .entry)) (now (buffer .entry)) [] ⌝ }
+    ensures { λ r. ⌜
+        returned r (became session) (became file) (was buffer) []
+        ≡ called close (was session) (was file) (was buffer) []
+        ⌝ }
 {
     if !is_session(session) {
         return packed(0, WRONG_SIZE);
@@ -70,7 +82,10 @@ pub extern "C" fn nasturakh_seek(
     buffer: &mut [u32],
     work: &mut [u32],
 ) -> u64
-    ensures { λ r. ⌜ returned r (now (session .exit)) (now (file .exit)) (now (buffer .exit)) (now (work .exit)) ≡ called seek (now (session .entry)) (now (file .entry)) (now (buffer .entry)) (now (work .entry)) ⌝ }
+    ensures { λ r. ⌜
+        returned r (became session) (became file) (became buffer) (became work)
+        ≡ called seek (was session) (was file) (was buffer) (was work)
+        ⌝ }
 {
     if !is_session(session) {
         return packed(0, WRONG_SIZE);
@@ -87,7 +102,10 @@ pub extern "C" fn nasturakh_adv(
     buffer: &mut [u32],
     work: &mut [u32],
 ) -> u64
-    ensures { λ r. ⌜ returned r (now (session .exit)) (now (file .exit)) (now (buffer .exit)) (now (work .exit)) ≡ called adv (now (session .entry)) (now (file .entry)) (now (buffer .entry)) (now (work .entry)) ⌝ }
+    ensures { λ r. ⌜
+        returned r (became session) (became file) (became buffer) (became work)
+        ≡ called adv (was session) (was file) (was buffer) (was work)
+        ⌝ }
 {
     if !is_session(session) {
         return packed(0, WRONG_SIZE);
@@ -104,7 +122,10 @@ pub extern "C" fn nasturakh_nsert(
     buffer: &mut [u32],
     work: &[u32],
 ) -> u64
-    ensures { λ r. ⌜ returned r (now (session .exit)) (now (file .exit)) (now (buffer .exit)) (now (work .entry)) ≡ called nsert (now (session .entry)) (now (file .entry)) (now (buffer .entry)) (now (work .entry)) ⌝ }
+    ensures { λ r. ⌜
+        returned r (became session) (became file) (became buffer) (was work)
+        ≡ called nsert (was session) (was file) (was buffer) (was work)
+        ⌝ }
 {
     if !is_session(session) {
         return packed(0, WRONG_SIZE);
@@ -121,7 +142,10 @@ pub extern "C" fn nasturakh_dlete(
     buffer: &mut [u32],
     work: &[u32],
 ) -> u64
-    ensures { λ r. ⌜ returned r (now (session .exit)) (now (file .exit)) (now (buffer .exit)) (now (work .entry)) ≡ called dlete (now (session .entry)) (now (file .entry)) (now (buffer .entry)) (now (work .entry)) ⌝ }
+    ensures { λ r. ⌜
+        returned r (became session) (became file) (became buffer) (was work)
+        ≡ called dlete (was session) (was file) (was buffer) (was work)
+        ⌝ }
 {
     if !is_session(session) {
         return packed(0, WRONG_SIZE);
@@ -138,7 +162,10 @@ pub extern "C" fn nasturakh_updat(
     buffer: &mut [u32],
     work: &[u32],
 ) -> u64
-    ensures { λ r. ⌜ returned r (now (session .exit)) (now (file .exit)) (now (buffer .exit)) (now (work .entry)) ≡ called updat (now (session .entry)) (now (file .entry)) (now (buffer .entry)) (now (work .entry)) ⌝ }
+    ensures { λ r. ⌜
+        returned r (became session) (became file) (became buffer) (was work)
+        ≡ called updat (was session) (was file) (was buffer) (was work)
+        ⌝ }
 {
     if !is_session(session) {
         return packed(0, WRONG_SIZE);
@@ -155,7 +182,10 @@ pub extern "C" fn nasturakh_xtend(
     buffer: &mut [u32],
     work: &[u32],
 ) -> u64
-    ensures { λ r. ⌜ returned r (now (session .exit)) (now (file .exit)) (now (buffer .exit)) (now (work .entry)) ≡ called xtend (now (session .entry)) (now (file .entry)) (now (buffer .entry)) (now (work .entry)) ⌝ }
+    ensures { λ r. ⌜
+        returned r (became session) (became file) (became buffer) (was work)
+        ≡ called xtend (was session) (was file) (was buffer) (was work)
+        ⌝ }
 {
     if !is_session(session) {
         return packed(0, WRONG_SIZE);
@@ -167,11 +197,29 @@ pub extern "C" fn nasturakh_xtend(
 // VIEW: where the current text of the block lies.
 #[no_mangle]
 pub extern "C" fn nasturakh_view(session: &[u32], file: &[u32], buffer: &[u32], block: usize) -> u64
-    ensures { λ r. ⌜ r ≡ viewed (now (session .entry)) (now (file .entry)) (now (buffer .entry)) block ⌝ }
+    ensures { λ r. ⌜ r ≡ viewed (was session) (was file) (was buffer) block ⌝ }
 {
     if !is_session(session) {
         return packed(0, WRONG_SIZE);
     }
     let s = session_of(session);
     place_of(s, file, buffer, block)
+}
+
+// The most transfers that a planned session can cost; 2^64 - 1 where there is no session or no plan.
+#[no_mangle]
+pub extern "C" fn nasturakh_most_transfers(session: &[u32], plan: &[u32]) -> u64
+    ensures { λ r. ⌜ r ≡ mostIn (was session) (was plan) ⌝ }
+{
+    if !is_session(session) {
+        return NO_PLAN;
+    }
+    let p = parameters_in(session);
+    if !p.is_good() {
+        return NO_PLAN;
+    }
+    if plan.len() != PLAN_WORDS {
+        return NO_PLAN;
+    }
+    demands::most_transfers(p, plan_in(plan))
 }

@@ -8,6 +8,7 @@ ghost use Prim.Native.Nat.{_+_, _≤_};
 ghost use Rattle.drum.specs.Params.{goodParams, start};
 ghost use Rattle.searchfile.specs.Promise.{given};
 ghost use Rattle.capi.specs.View.{inFile, placeOf};
+ghost use Rattle.words.specs.Slices.{was};
 
 const IN_FILE: u64 = 4294967296;
 
@@ -23,7 +24,7 @@ fn in_file(p: Description, b: usize) -> u64
 
 // The number for block b as the session sees it: 0 where VIEW lends an empty part.
 pub fn place_of(s: Session, file: &[u32], buffer: &[u32], b: usize) -> u64
-    ensures { λ r. ⌜ r ≡ placeOf (given s (now (file .entry)) (now (buffer .entry)) []) b ⌝ }
+    ensures { λ r. ⌜ r ≡ placeOf (given s (was file) (was buffer) []) b ⌝ }
 {
     let p = s.desc;
     if !s.opened {

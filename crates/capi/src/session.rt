@@ -8,12 +8,13 @@ ghost use lib.ListN.{length};
 ghost use Rattle.searchfile.specs.Promise.{held};
 ghost use Rattle.capi.specs.Words.{isSession, parametersIn, sessionOf, wordsOf, mostWord, bit as bitOf, packed as packedNumber};
 ghost use Rattle.capi.specs.Calls.{Tellable};
+ghost use Rattle.words.specs.Slices.{was, became};
 
 const SESSION_WORDS: usize = 73;
 
 // Whether the words are a session's.
 pub fn is_session(words: &[u32]) -> bool
-    ensures { λ r. ⌜ r ≡ isSession (now (words .entry)) ⌝ }
+    ensures { λ r. ⌜ r ≡ isSession (was words) ⌝ }
 {
     if words.len() != SESSION_WORDS {
         return false;
@@ -30,7 +31,7 @@ pub fn is_session(words: &[u32]) -> bool
 // The parameters that stand in a session's words.
 pub fn parameters_in(words: &[u32]) -> Description
     requires { ⌜ length (now words) ≡ 73 ⌝ }
-    ensures { λ r. ⌜ r ≡ parametersIn (now (words .entry)) ⌝ }
+    ensures { λ r. ⌜ r ≡ parametersIn (was words) ⌝ }
 {
     Description {
         wpb: words::word_at(words, 0),
@@ -45,7 +46,7 @@ pub fn parameters_in(words: &[u32]) -> Description
 // The session that the words are.
 pub fn session_of(words: &[u32]) -> Session
     requires { ⌜ length (now words) ≡ 73 ⌝ }
-    ensures { λ r. ⌜ held r ≡ sessionOf (now (words .entry)) ⌝ }
+    ensures { λ r. ⌜ held r ≡ sessionOf (was words) ⌝ }
 {
     let mut position = [0; 63];
     words::copy_words(&mut position, 0, words, 10, 63);
@@ -69,7 +70,7 @@ fn bit(x: bool) -> u32
 // Writes a session over the words of one with the same parameters.
 fn put_session(words: &mut [u32], s: Session)
     requires { ⌜ (length (now words) ≡ 73) × (parametersIn (now words) ≡ s .desc) × (s .current ≤ mostWord) ⌝ }
-    ensures { λ _. ⌜ now (words .exit) ≡ wordsOf (held s) ⌝ }
+    ensures { λ _. ⌜ became words ≡ wordsOf (held s) ⌝ }
 {
     let position = s.position;
     words::copy_words(words, 10, &position, 0, 63);
@@ -96,7 +97,7 @@ pub fn packed(transfers: usize, number: u32) -> u64
 // Tells what a session call answered: its session over the words, its number and transfers as the result.
 pub fn told(words: &mut [u32], a: Answer) -> u64
     requires { ⌜ Tellable (now words) a ⌝ }
-    ensures { λ r. ⌜ (r ≡ packedNumber (a .transfers) (a .number)) × (now (words .exit) ≡ wordsOf (held (a .session))) ⌝ }
+    ensures { λ r. ⌜ (r ≡ packedNumber (a .transfers) (a .number)) × (became words ≡ wordsOf (held (a .session))) ⌝ }
 {
     put_session(words, a.session);
     packed(a.transfers, a.number)

@@ -1,2 +1,4 @@
 pub mod Promise
 pub mod Checks
+pub mod Parts
+pub mod OneResult

@@ -9,7 +9,7 @@ use Rattle.rules.specs.Open.{Opened, Created}
 use Rattle.searchfile.specs.declared.Session as code
 use Rattle.searchfile.specs.declared.Answer.{Answer}
 
--- a session of the code, field by field as "The session" names them
+-- a session of the code, field by field as "The session" names them [S1]
 abbrev pub held : code.Session → Session
 held s = record {
   desc = s .desc;
@@ -24,12 +24,13 @@ held s = record {
 abbrev pub given : code.Session → List ℕ → List ℕ → List ℕ → State
 given s f b w = lent (held s) f b w
 
--- an outcome as a caller can see it: "Each result carries its count, which is the length of the list"
+-- an outcome as a caller can see it: "Each result carries its count, which is the length of the list" [T3]
 pub record Counted : Type 0 where
   pub number : ℕ
   pub transfers : ℕ
   pub after : State
 
+-- the outcome so seen [T3]
 abbrev pub counted : Outcome → Counted
 counted o = record { number = o .number; transfers = length (o .transfers); after = o .after }
 
@@ -42,9 +43,11 @@ pub record CountedOpen : Type 0 where
   pub outcome : Counted
   pub marks : List ℕ
 
+-- OPEN's outcome so seen [T3]
 abbrev pub countedOpen : Opened → CountedOpen
 countedOpen o = record { outcome = counted (o .outcome); marks = o .marks }
 
+-- what OPEN gives back, with the marks it leaves
 abbrev pub answeredOpen : Answer → List ℕ → List ℕ → List ℕ → CountedOpen
 answeredOpen r f b m = record { outcome = answered r f b []; marks = m }
 

@@ -15,9 +15,10 @@ ghost use Prim.Native.Nat.{_≤_};
 ghost use lib.ListN.{length, replicate};
 ghost use Rattle.words.specs.Words.{part, put};
 ghost use Rattle.drum.specs.Params.{goodParams};
+ghost use Rattle.drum.specs.Blocks.{Fitting, Block};
 ghost use Rattle.rules.specs.State.{holding, positioned, atRest, keyIn};
 ghost use Rattle.rules.specs.Open.{create as creation, openFile};
-ghost use Rattle.rules.specs.Close.{close as closed, view as viewed};
+ghost use Rattle.rules.specs.Close.{close as closed};
 ghost use Rattle.rules.specs.Adv.{adv as advanced};
 ghost use Rattle.rules.specs.NsertDone.{nsert as inserted};
 ghost use Rattle.rules.specs.Dlete.{dlete as deleted};
@@ -25,6 +26,8 @@ ghost use Rattle.rules.specs.XtendDone.{xtend as extended};
 ghost use Rattle.rules.specs.Seek.{seek as sought, updat as updated};
 ghost use Rattle.searchfile.specs.Promise.{held, given, counted, answered, countedOpen, answeredOpen, made, refusing};
 ghost use Rattle.searchfile.specs.Checks.{plainChecks, keyedChecks};
+ghost use Rattle.searchfile.specs.Parts.{partOf, textPart, viewPart};
+ghost use Rattle.words.specs.Slices.{was, became};
 
 // "A value handed in and back": the parameters, open or closed, the current block (0 none), the write flag, and the position: a key in its
 // first K words, which means nothing unless `placed`.
@@ -70,7 +73,7 @@ fn refused_key(
     reads: usize,
 ) -> u32
     requires { ⌜ (goodParams p ≡ true → reads ≤ p .wpr) ⌝ }
-    ensures { λ r. ⌜ refusing r ≡ keyedChecks p opened file buffer (now (work .entry)) reads ⌝ }
+    ensures { λ r. ⌜ refusing r ≡ keyedChecks p opened file buffer (was work) reads ⌝ }
 {
     let number = refused_plain(p, opened, file, buffer, work.len());
     if number != 0 {
@@ -88,14 +91,34 @@ fn refused_key(
 // Writes the key of k words that stands first in the workspace over the first words of a position.
 fn put_key(position: &mut [u32; 63], work: &[u32], k: usize)
     requires { ⌜ (k ≤ 63) × (k ≤ length (now work)) ⌝ }
-    ensures { λ _. ⌜ now (position .exit) ≡ put (now (position .entry)) 0 (part 0 k (now (work .entry))) ⌝ }
+    ensures { λ _. ⌜ became position ≡ put (was position) 0 (part 0 k (was work)) ⌝ }
 {
     words::copy_words(position, 0, work, 0, k);
 }
 
+// The current text of block b: the buffer itself, or the block's words in the file.
+fn text_part<'a>(
+    p: Description,
+    current: usize,
+    file: &'a [u32],
+    buffer: &'a [u32],
+    b: usize,
+) -> &'a [u32]
+    requires { ⌜ Fitting p (now file) (now buffer) × Block p b ⌝ }
+    ensures { λ r. ⌜ partOf r ≡ textPart p current (file .entry) (buffer .entry) b ⌝ }
+{
+    if b == current {
+        return buffer;
+    }
+    let wpb = p.wpb;
+    let start = p.start(b);
+    let end = start + wpb;
+    &file[start..end]
+}
+
 // CREATE: writes a new file, every word of it. It has no session: one that is open on the file stays as it is.
 pub fn create(p: Description, file: &mut [u32]) -> u32
-    ensures { λ r. ⌜ made r (now (file .exit)) ≡ creation p (now (file .entry)) ⌝ }
+    ensures { λ r. ⌜ made r (became file) ≡ creation p (was file) ⌝ }
 {
     if !p.is_good() {
         return WRONG_SIZE;
@@ -110,7 +133,11 @@ pub fn create(p: Description, file: &mut [u32]) -> u32
 impl Session {
     // A closed session with these parameters.
     pub fn new(desc: Description) -> Self
-        ensures { λ r. ⌜ held r ≡ record { desc = desc; opened = false; current = 0; flag = false; placed = false; position = replicate 63 0 } ⌝ }
+        ensures { λ r. ⌜
+            held r
+            ≡ record
+            { desc = desc; opened = false; current = 0; flag = false; placed = false; position = replicate 63 0 }
+            ⌝ }
     {
         Self {
             desc,
@@ -146,34 +173,40 @@ impl Session {
         rest
     }
 
-    // The answer of a call whose steps are done; position is the key that stands first in the workspace, where they say so.
+    // The answer of a call whose steps are done; position is the key that stands first in the workspace, where they say so. The answer is
+    // changed where it stands: a session put in later would be copied once more.
     fn after(self, done: Done, work: &[u32]) -> Answer
         requires { ⌜ (self .desc .k ≤ 63) × (self .desc .k ≤ length (now work)) ⌝ }
-        ensures { λ r. ⌜ (r .number ≡ done .number) × (r .transfers ≡ done .transfers) × (held (r .session) ≡ cond (done .keyed) (positioned (keyIn (self .desc) (now (work .entry))) (holding (done .current) (done .flag) (held self))) (holding (done .current) (done .flag) (held self))) ⌝ }
+        ensures { λ r. ⌜
+            (r .number ≡ done .number)
+            × (r .transfers ≡ done .transfers)
+            × (held (r .session)
+            ≡ cond (done .keyed)
+            (positioned (keyIn (self .desc) (was work)) (holding (done .current) (done .flag) (held self)))
+            (holding (done .current) (done .flag) (held self)))
+            ⌝ }
     {
         let k = self.desc.k;
-        let mut next = self;
-        next.current = done.current;
-        next.flag = done.flag;
-        if !done.keyed {
-            return Answer {
-                number: done.number,
-                transfers: done.transfers,
-                session: next,
-            };
-        }
-        put_key(&mut next.position, work, k);
-        next.placed = true;
-        Answer {
+        let mut next = Answer {
             number: done.number,
             transfers: done.transfers,
-            session: next,
+            session: self,
+        };
+        next.session.current = done.current;
+        next.session.flag = done.flag;
+        if done.keyed {
+            put_key(&mut next.session.position, work, k);
+            next.session.placed = true;
         }
+        next
     }
 
     // OPEN: the file is inspected, and every block marked: 1 reached from the master, 2 chained, 0 never used.
     pub fn open_file(self, file: &[u32], buffer: &[u32], marks: &mut [u8]) -> Answer
-        ensures { λ r. ⌜ answeredOpen r (now (file .entry)) (now (buffer .entry)) (now (marks .exit)) ≡ countedOpen (openFile (given self (now (file .entry)) (now (buffer .entry)) []) (now (marks .entry))) ⌝ }
+        ensures { λ r. ⌜
+            answeredOpen r (was file) (was buffer) (became marks)
+            ≡ countedOpen (openFile (given self (was file) (was buffer) []) (was marks))
+            ⌝ }
     {
         let p = self.desc;
         if !p.is_sized(file.len(), buffer.len()) {
@@ -198,7 +231,9 @@ impl Session {
 
     // CLOSE: writes a flagged buffer to its block; the session is closed.
     pub fn close(self, file: &mut [u32], buffer: &[u32]) -> Answer
-        ensures { λ r. ⌜ answered r (now (file .exit)) (now (buffer .entry)) [] ≡ counted (closed (given self (now (file .entry)) (now (buffer .entry)) [])) ⌝ }
+        ensures { λ r. ⌜
+            answered r (became file) (was buffer) [] ≡ counted (closed (given self (was file) (was buffer) []))
+            ⌝ }
     {
         let p = self.desc;
         let current = self.current;
@@ -224,7 +259,7 @@ impl Session {
     // VIEW: the current text of block b, a part of the buffer or of the file; an empty part for a closed session, wrong sizes, or a block
     // outside 1..N.
     pub fn view<'a>(self, file: &'a [u32], buffer: &'a [u32], b: usize) -> &'a [u32]
-        ensures { λ r. ⌜ now r ≡ viewed (given self (now (file .entry)) (now (buffer .entry)) []) b ⌝ }
+        ensures { λ r. ⌜ partOf r ≡ viewPart (held self) (file .entry) (buffer .entry) b ⌝ }
     {
         let p = self.desc;
         let current = self.current;
@@ -240,12 +275,15 @@ impl Session {
         if p.n < b {
             return &file[..0];
         }
-        drum::text_of(p, current, file, buffer, b)
+        text_part(p, current, file, buffer, b)
     }
 
     // SEEK: the record with the workspace's key to the workspace.
     pub fn seek(self, file: &mut [u32], buffer: &mut [u32], work: &mut [u32]) -> Answer
-        ensures { λ r. ⌜ answered r (now (file .exit)) (now (buffer .exit)) (now (work .exit)) ≡ counted (sought (given self (now (file .entry)) (now (buffer .entry)) (now (work .entry)))) ⌝ }
+        ensures { λ r. ⌜
+            answered r (became file) (became buffer) (became work)
+            ≡ counted (sought (given self (was file) (was buffer) (was work)))
+            ⌝ }
     {
         let p = self.desc;
         let k = p.k;
@@ -259,7 +297,10 @@ impl Session {
 
     // UPDAT: the record with the workspace's key replaced by the workspace.
     pub fn updat(self, file: &mut [u32], buffer: &mut [u32], work: &[u32]) -> Answer
-        ensures { λ r. ⌜ answered r (now (file .exit)) (now (buffer .exit)) (now (work .entry)) ≡ counted (updated (given self (now (file .entry)) (now (buffer .entry)) (now (work .entry)))) ⌝ }
+        ensures { λ r. ⌜
+            answered r (became file) (became buffer) (was work)
+            ≡ counted (updated (given self (was file) (was buffer) (was work)))
+            ⌝ }
     {
         let p = self.desc;
         let wpr = p.wpr;
@@ -273,7 +314,10 @@ impl Session {
 
     // ADV: the record with the least key above position to the workspace.
     pub fn adv(self, file: &mut [u32], buffer: &mut [u32], work: &mut [u32]) -> Answer
-        ensures { λ r. ⌜ answered r (now (file .exit)) (now (buffer .exit)) (now (work .exit)) ≡ counted (advanced (given self (now (file .entry)) (now (buffer .entry)) (now (work .entry)))) ⌝ }
+        ensures { λ r. ⌜
+            answered r (became file) (became buffer) (became work)
+            ≡ counted (advanced (given self (was file) (was buffer) (was work)))
+            ⌝ }
     {
         let p = self.desc;
         let number = refused_plain(p, self.opened, file.len(), buffer.len(), work.len());
@@ -296,7 +340,10 @@ impl Session {
 
     // NSERT: the workspace's record put in, unless its key is there.
     pub fn nsert(self, file: &mut [u32], buffer: &mut [u32], work: &[u32]) -> Answer
-        ensures { λ r. ⌜ answered r (now (file .exit)) (now (buffer .exit)) (now (work .entry)) ≡ counted (inserted (given self (now (file .entry)) (now (buffer .entry)) (now (work .entry)))) ⌝ }
+        ensures { λ r. ⌜
+            answered r (became file) (became buffer) (was work)
+            ≡ counted (inserted (given self (was file) (was buffer) (was work)))
+            ⌝ }
     {
         let p = self.desc;
         let wpr = p.wpr;
@@ -310,7 +357,10 @@ impl Session {
 
     // DLETE: the record with the workspace's key taken out.
     pub fn dlete(self, file: &mut [u32], buffer: &mut [u32], work: &[u32]) -> Answer
-        ensures { λ r. ⌜ answered r (now (file .exit)) (now (buffer .exit)) (now (work .entry)) ≡ counted (deleted (given self (now (file .entry)) (now (buffer .entry)) (now (work .entry)))) ⌝ }
+        ensures { λ r. ⌜
+            answered r (became file) (became buffer) (was work)
+            ≡ counted (deleted (given self (was file) (was buffer) (was work)))
+            ⌝ }
     {
         let p = self.desc;
         let k = p.k;
@@ -324,7 +374,10 @@ impl Session {
 
     // XTEND: the workspace's record put in after all others, in ascending order.
     pub fn xtend(self, file: &mut [u32], buffer: &mut [u32], work: &[u32]) -> Answer
-        ensures { λ r. ⌜ answered r (now (file .exit)) (now (buffer .exit)) (now (work .entry)) ≡ counted (extended (given self (now (file .entry)) (now (buffer .entry)) (now (work .entry)))) ⌝ }
+        ensures { λ r. ⌜
+            answered r (became file) (became buffer) (was work)
+            ≡ counted (extended (given self (was file) (was buffer) (was work)))
+            ⌝ }
     {
         let p = self.desc;
         let wpr = p.wpr;

@@ -1,20 +1,27 @@
 -- `searchfile::Session::after` meets its contract: position is written only where the steps say so.
 use mathlib.Core.Path.{_≡_, refl}
-use borrow.Author.Tests.{not-true, not-false}
+use mathlib.Core.Bool.{Bool, true, false, cond}
 use Rattle.rules.specs.State.{holding, positioned}
 use Rattle.searchfile.proofs.Session.after.Statement.{statement}
 use Rattle.searchfile.proofs.Session.after.Tie as tie
 
-returns : tie.Need-returns
-unfolding holding positioned
-returns c = (refl, refl, simp (not-true (c .before .before .before .args .done .keyed) (c .if1 .taken)))
+-- one of two values, told by a test that is known
+when-true : {A : Type 0} (t : Bool) (x p h : A) → t ≡ true → x ≡ p → x ≡ cond t p h
+when-true t x p h e q = rw e q
+
+when-false : {A : Type 0} (t : Bool) (x p h : A) → t ≡ false → x ≡ h → x ≡ cond t p h
+when-false t x p h e q = rw e q
 
 put-key-requires : tie.Need-put-key-requires
-put-key-requires c κs = c .before .before .before .before .pre
+put-key-requires c κs = c .before .before .before .before .before .pre
+
+returns : tie.Need-returns
+unfolding holding positioned
+returns c = (refl, refl, when-true _ _ _ _ (c .before .before .before .if1 .taken) (rw (c .before .put-key .ensures)))
 
 returns-2 : tie.Need-returns-2
 unfolding holding positioned
-returns-2 c = (refl, refl, simp (not-false (c .before .before .before .before .before .args .done .keyed) (c .before .before .if1 .left), c .put-key .ensures))
+returns-2 c = (refl, refl, when-false _ _ _ _ (c .if1 .left) refl)
 
 pub after-spec : {M : Type 1} → statement M
-after-spec = tie.close (tie.spec returns put-key-requires returns-2)
+after-spec = tie.close (tie.spec put-key-requires returns returns-2)
