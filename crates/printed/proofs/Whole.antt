@@ -97,13 +97,13 @@ call-lines name numbers st h (l ∷ ls) =
     ∙ ap (λ (t : List ℕ). played st (parse (desc st) l) .text ++ cond (played st (parse (desc st) l) .over) [] t) (call-lines (k .name) (k .numbers) (played st (parse (desc st) l) .after) next ls)
 
 -- a start that is good has good parameters, for which 2,048 numbers are room enough
-abbrev Fit : Start → Type 0
+abbrev pub Fit : Start → Type 0
 Fit BadLine = Unit {0}
 Fit OutOfRange = Unit {0}
 Fit TooLarge = Unit {0}
 Fit (Good p) = goodParams p ≡ true
 
-start-fits : (o : Option Description) → Fit (startOf o)
+pub start-fits : (o : Option Description) → Fit (startOf o)
 unfolding startOf startWith
 start-fits none = tt
 start-fits (some p) = go (goodParams p) refl (ltb mostWords (fileSize p))

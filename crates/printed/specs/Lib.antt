@@ -1,2 +1,5 @@
 pub mod Output
 pub mod Promise
+pub mod Rows
+pub mod Formula
+pub mod Found

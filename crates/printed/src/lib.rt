@@ -19,6 +19,7 @@ ghost use Rattle.lines.specs.Lines.{named};
 ghost use Rattle.lines.specs.Reading.{callOf, parsedAs, parametersIn};
 ghost use Rattle.printed.specs.Output.{startWith, startOf, startText, played, refusal};
 ghost use Rattle.printed.specs.Promise.{told, shown, shownAt, said, saidAt};
+ghost use Rattle.words.specs.Slices.{was, became};
 
 // What the first line makes of the program.
 pub enum Start {
@@ -56,7 +57,7 @@ fn start_with(p: Description) -> Start
 // The first line, of what was kept of it.
 pub fn start_of(r: Reading, numbers: &[u32]) -> Start
     requires { ⌜ 6 ≤ length (now numbers) ⌝ }
-    ensures { λ s. ⌜ s ≡ startOf (parametersIn r (now (numbers .entry))) ⌝ }
+    ensures { λ s. ⌜ s ≡ startOf (parametersIn r (was numbers)) ⌝ }
 {
     let given = lines::parameters_of(r, numbers);
     match given {
@@ -68,7 +69,9 @@ pub fn start_of(r: Reading, numbers: &[u32]) -> Start
 // What the first line prints.
 pub fn put_start(start: Start, out: &mut [u8], at: usize) -> usize
     requires { ⌜ at + 16 ≤ length (now out) ⌝ }
-    ensures { λ r. ⌜ (now (out .exit) ≡ put (now (out .entry)) at (startText start)) × (r ≡ at + length (startText start)) × (r ≤ at + 16) ⌝ }
+    ensures { λ r. ⌜
+        (became out ≡ put (was out) at (startText start)) × (r ≡ at + length (startText start)) × (r ≤ at + 16)
+        ⌝ }
 {
     match start {
         Start::BadLine => texts::put_bytes(out, at, b"BAD LINE\n"),
@@ -81,7 +84,7 @@ pub fn put_start(start: Start, out: &mut [u8], at: usize) -> usize
 // A line that ends the program.
 fn bad_line(out: &mut [u8], at: usize) -> Told
     requires { ⌜ at + 16 ≤ length (now out) ⌝ }
-    ensures { λ r. ⌜ said r (now (out .exit)) ≡ saidAt (now (out .entry)) at (refusal none) ⌝ }
+    ensures { λ r. ⌜ said r (became out) ≡ saidAt (was out) at (refusal none) ⌝ }
     ensures { λ r. ⌜ r .at ≤ at + 16 ⌝ }
 {
     let end = texts::put_bytes(out, at, b"BAD LINE\n");
@@ -94,7 +97,7 @@ fn bad_line(out: &mut [u8], at: usize) -> Told
 // A line with parameters out of range, of what was kept of it.
 pub fn refuse_line(r: Reading, name: &[u8], out: &mut [u8], at: usize) -> Told
     requires { ⌜ at + 16 ≤ length (now out) ⌝ }
-    ensures { λ t. ⌜ said t (now (out .exit)) ≡ saidAt (now (out .entry)) at (refusal (named (part 0 (r .spelled) (now (name .entry))))) ⌝ }
+    ensures { λ t. ⌜ said t (became out) ≡ saidAt (was out) at (refusal (named (part 0 (r .spelled) (was name)))) ⌝ }
     ensures { λ t. ⌜ t .at ≤ at + 16 ⌝ }
 {
     let kind = lines::call_named(name, r.spelled);
@@ -130,7 +133,11 @@ fn shows(call: Call, number: u32) -> bool
 // The line of a call that was performed.
 fn tell(call: Call, number: u32, transfers: usize, work: &[u32], out: &mut [u8], at: usize) -> usize
     requires { ⌜ at + 35 + 21 * length (now work) ≤ length (now out) ⌝ }
-    ensures { λ r. ⌜ (now (out .exit) ≡ put (now (out .entry)) at (told call number transfers (now (work .entry)))) × (r ≡ at + length (told call number transfers (now (work .entry)))) × (r ≤ at + 35 + 21 * length (now (work .entry))) ⌝ }
+    ensures { λ r. ⌜
+        (became out ≡ put (was out) at (told call number transfers (was work)))
+        × (r ≡ at + length (told call number transfers (was work)))
+        × (r ≤ at + 35 + 21 * length (was work))
+        ⌝ }
 {
     if shows(call, number) {
         return texts::put_result(out, at, call, number, transfers, work);
@@ -151,9 +158,20 @@ pub fn call_line(
     out: &mut [u8],
     at: usize,
 ) -> Turn
-    requires { ⌜ (s .desc .k ≤ length (now numbers)) × (s .desc .wpr ≤ length (now numbers)) × (s .desc .k ≤ length (now work)) × (s .desc .wpr ≤ length (now work)) × (length (now marks) ≡ s .desc .n) × (at + 35 + 21 * length (now work) ≤ length (now out)) ⌝ }
-    ensures { λ t. ⌜ shown t (now (file .exit)) (now (buffer .exit)) (now (work .exit)) (now (out .exit)) ≡ shownAt (now (out .entry)) at (played (given s (now (file .entry)) (now (buffer .entry)) (now (work .entry))) (parsedAs (s .desc) (callOf (s .desc) r (now (name .entry))) (now (numbers .entry)))) ⌝ }
-    ensures { λ t. ⌜ (t .session .desc ≡ s .desc) × (t .at ≤ at + 35 + 21 * length (now (work .entry))) ⌝ }
+    requires { ⌜
+        (s .desc .k ≤ length (now numbers))
+        × (s .desc .wpr ≤ length (now numbers))
+        × (s .desc .k ≤ length (now work))
+        × (s .desc .wpr ≤ length (now work))
+        × (length (now marks) ≡ s .desc .n)
+        × (at + 35 + 21 * length (now work) ≤ length (now out))
+        ⌝ }
+    ensures { λ t. ⌜
+        shown t (became file) (became buffer) (became work) (became out)
+        ≡ shownAt (was out) at
+        (played (given s (was file) (was buffer) (was work)) (parsedAs (s .desc) (callOf (s .desc) r (was name)) (was numbers)))
+        ⌝ }
+    ensures { λ t. ⌜ (t .session .desc ≡ s .desc) × (t .at ≤ at + 35 + 21 * length (was work)) ⌝ }
 {
     let parsed = lines::call_of(s.desc, r, name);
     match parsed {
