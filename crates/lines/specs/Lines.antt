@@ -11,11 +11,11 @@ use Rattle.rules.specs.declared.Call.{Call}
 use Rattle.rules.specs.declared.Call.the-variants.{Create, Open, Close, Seek, Adv, Nsert, Dlete, Updat, Xtend}
 use Rattle.texts.specs.Results.{spelling}
 
--- what stands between words: space, tab, carriage return, form feed
+-- what stands between words: space, tab, carriage return, form feed [O3]
 unfoldable pub isBlank : ℕ → Bool
 isBlank b = eqb b 32 || (eqb b 9 || (eqb b 13 || eqb b 12))
 
--- what ends a line
+-- what ends a line [O2]
 unfoldable pub isLineFeed : ℕ → Bool
 isLineFeed b = eqb b 10
 
@@ -35,18 +35,18 @@ filled [] = []
 filled ([] ∷ ws) = filled ws
 filled ((b ∷ w) ∷ ws) = (b ∷ w) ∷ filled ws
 
--- "Words of a line are separated by one or more blanks", which may also stand before and after
+-- "Words of a line are separated by one or more blanks", which may also stand before and after [O3]
 unfoldable pub wordsOf : List ℕ → List (List ℕ)
 wordsOf line = filled (pieces isBlank line)
 
--- "the line feed that ends the last line starts no new line; a last line without one counts"
+-- "the line feed that ends the last line starts no new line; a last line without one counts" [O2]
 unfoldable pub ended : List (List ℕ) → List (List ℕ)
 ended [] = []
 ended ([] ∷ []) = []
 ended ((b ∷ l) ∷ []) = (b ∷ l) ∷ []
 ended (l ∷ (m ∷ ls)) = l ∷ ended (m ∷ ls)
 
--- the lines of an input
+-- the lines of an input [O2]
 unfoldable pub linesOf : List ℕ → List (List ℕ)
 linesOf input = ended (pieces isLineFeed input)
 
@@ -54,7 +54,7 @@ linesOf input = ended (pieces isLineFeed input)
 unfoldable pub isDigit : ℕ → Bool
 isDigit b = leb 48 b && leb b 57
 
--- a word of digits: "A number is one or more digits 0-9 .. no sign"; that a word has at least one byte is `filled`'s
+-- a word of digits: "A number is one or more digits 0-9 .. no sign"; that a word has at least one byte is `filled`'s [O3]
 unfoldable pub allDigits : List ℕ → Bool
 allDigits [] = true
 allDigits (b ∷ w) = isDigit b && allDigits w
@@ -64,15 +64,15 @@ unfoldable pub valueFrom : ℕ → List ℕ → ℕ
 valueFrom v [] = v
 valueFrom v (b ∷ w) = valueFrom (v * 10 + (b - 48)) w
 
--- "decimal numbers": the number that a word of digits is
+-- "decimal numbers": the number that a word of digits is [O3]
 unfoldable pub valueOf : List ℕ → ℕ
 valueOf w = valueFrom 0 w
 
--- "A number above 4294967295 makes its line a bad one"
+-- "A number above 4294967295 makes its line a bad one" [O6]
 abbrev pub topNumber : ℕ
 topNumber = 4294967295
 
--- a good number: digits, and not above the greatest
+-- a good number: digits, and not above the greatest [O3, O6]
 unfoldable pub isNumber : List ℕ → Bool
 isNumber w = allDigits w && leb (valueOf w) topNumber
 
@@ -86,7 +86,7 @@ unfoldable pub values : List (List ℕ) → List ℕ
 values [] = []
 values (w ∷ ws) = valueOf w ∷ values ws
 
--- the calls that a line may name, "nor is VIEW" one; a key or record begins at word 0 of the numbers beside
+-- the calls that a line may name, "nor is VIEW" one; a key or record begins at word 0 of the numbers beside [O1, O6]
 unfoldable pub kinds : List Call
 kinds = Create ∷ Open ∷ Close ∷ Seek 0 ∷ Adv ∷ Nsert 0 ∷ Dlete 0 ∷ Updat 0 ∷ Xtend 0 ∷ []
 
@@ -99,7 +99,7 @@ namedIn (c ∷ cs) w = cond (sameKey w (spelling c)) (some c) (namedIn cs w)
 unfoldable pub named : List ℕ → Option Call
 named w = namedIn kinds w
 
--- "the key or record that kind carries": so many numbers stand on its line
+-- "the key or record that kind carries": so many numbers stand on its line [O4]
 unfoldable pub carries : Description → Call → ℕ
 carries p Create = 0
 carries p Open = 0
@@ -111,7 +111,7 @@ carries p (Dlete at) = p .k
 carries p (Updat at) = p .wpr
 carries p (Xtend at) = p .wpr
 
--- what a line of calls is: "no such call", or a call with its numbers beside
+-- what a line of calls is: "no such call", or a call with its numbers beside [O6]
 pub data Parsed : Type 0 where
   noCall : Parsed
   aCall : Call → List ℕ → Parsed
@@ -126,16 +126,16 @@ unfoldable pub parsedWords : Description → List (List ℕ) → Parsed
 parsedWords p [] = noCall
 parsedWords p (w ∷ ws) = withNumbers p (named w) ws
 
--- "then a call a line"
+-- "then a call a line" [O1]
 unfoldable pub parse : Description → List ℕ → Parsed
 parse p line = parsedWords p (wordsOf line)
 
--- with parameters out of range "every line whose first word names a call": that call
+-- with parameters out of range "every line whose first word names a call": that call [O7]
 unfoldable pub firstNamed : List (List ℕ) → Option Call
 firstNamed [] = none
 firstNamed (w ∷ ws) = named w
 
--- "WPB WPR K SPACE CONTROL N"
+-- "WPB WPR K SPACE CONTROL N" [O1]
 unfoldable pub described : List ℕ → Description
 described v = record {
   wpb = getD v 0 0;
@@ -146,6 +146,6 @@ described v = record {
   n = getD v 5 0;
 }
 
--- "a first line not of six numbers, prints `BAD LINE`"
+-- "a first line not of six numbers, prints `BAD LINE`" [O6]
 unfoldable pub parameters : List (List ℕ) → Option Description
 parameters ws = cond (allNumbers ws && eqb (length ws) 6) (some (described (values ws))) none

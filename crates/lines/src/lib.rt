@@ -2,21 +2,25 @@
 mod bytes;
 mod names;
 
-use bytes::is_blank;
-use bytes::is_digit;
+pub use bytes::is_blank;
+pub use bytes::is_digit;
 use bytes::long;
 use bytes::wide;
 use drum::Description;
 pub use names::call_named;
 pub use names::call_of;
+pub use names::carries;
+pub use names::is_name;
 pub use names::parameters_of;
 use rules::Call;
 ghost use mathlib.Core.Path.{_≡_};
 ghost use mathlib.Core.List.{List};
 ghost use Prim.Native.Nat.{ℕ, _≤_};
 ghost use lib.ListN.{length, drop};
-ghost use Rattle.lines.specs.Reading.{unread, wordRead, letter as letterRead, resting as restingAt, counted as wordCounted, another, rested, step};
+ghost use Rattle.lines.specs.Reading.{unread, wordRead, letter as letterRead, resting as restingAt};
+ghost use Rattle.lines.specs.Reading.{counted as wordCounted, another, rested, step};
 ghost use Rattle.lines.specs.Promise.{took, read, toLineFeed};
+ghost use Rattle.words.specs.Slices.{was, became};
 
 // What is kept of the bytes of a line: whether there were any; whether a word is being read; whether it is a number so far, and its value;
 // how many words were no numbers (2 stands for more), how many were, and how many bytes of the first one are kept.
@@ -105,7 +109,9 @@ impl Reading {
 
     // A byte of a word; those of the first word are kept, as far as there is room.
     fn letter(self, b: u8, name: &mut [u8]) -> Self
-        ensures { λ r. ⌜ ((numbers : List ℕ) → read r (now (name .exit)) numbers ≡ letterRead (read self (now (name .entry)) numbers) b) ⌝ }
+        ensures { λ r. ⌜
+            ((numbers : List ℕ) → read r (became name) numbers ≡ letterRead (read self (was name) numbers) b)
+            ⌝ }
     {
         let mut next = self.with_byte(b);
         let spelled = self.spelled;
@@ -136,7 +142,9 @@ impl Reading {
 
     // The word that was read counts as a number, which is kept, or as another word.
     fn counted(self, numbers: &mut [u32]) -> Self
-        ensures { λ r. ⌜ ((name : List ℕ) → read r name (now (numbers .exit)) ≡ wordCounted (read self name (now (numbers .entry)))) ⌝ }
+        ensures { λ r. ⌜
+            ((name : List ℕ) → read r name (became numbers) ≡ wordCounted (read self name (was numbers)))
+            ⌝ }
     {
         let at = self.numbers;
         if !self.number {
@@ -151,7 +159,7 @@ impl Reading {
 
     // A blank, or the line's end.
     pub fn rest(self, numbers: &mut [u32]) -> Self
-        ensures { λ r. ⌜ ((name : List ℕ) → read r name (now (numbers .exit)) ≡ rested (read self name (now (numbers .entry)))) ⌝ }
+        ensures { λ r. ⌜ ((name : List ℕ) → read r name (became numbers) ≡ rested (read self name (was numbers))) ⌝ }
     {
         if self.inside {
             return self.counted(numbers);
@@ -161,7 +169,7 @@ impl Reading {
 
     // A byte of the line.
     fn push(self, b: u8, name: &mut [u8], numbers: &mut [u32]) -> Self
-        ensures { λ r. ⌜ read r (now (name .exit)) (now (numbers .exit)) ≡ step (read self (now (name .entry)) (now (numbers .entry))) b ⌝ }
+        ensures { λ r. ⌜ read r (became name) (became numbers) ≡ step (read self (was name) (was numbers)) b ⌝ }
     {
         if is_blank(b) {
             return self.rest(numbers);
@@ -173,7 +181,10 @@ impl Reading {
 // Reads bytes from place `from` on, up to and with the first line feed.
 pub fn take(r: Reading, bytes: &[u8], from: usize, name: &mut [u8], numbers: &mut [u32]) -> Taken
     requires { ⌜ from ≤ length (now bytes) ⌝ }
-    ensures { λ t. ⌜ took t (now (name .exit)) (now (numbers .exit)) ≡ toLineFeed (read r (now (name .entry)) (now (numbers .entry))) from (drop from (now (bytes .entry))) ⌝ }
+    ensures { λ t. ⌜
+        took t (became name) (became numbers)
+        ≡ toLineFeed (read r (was name) (was numbers)) from (drop from (was bytes))
+        ⌝ }
 {
     let mut reading = r;
     let mut at = from;

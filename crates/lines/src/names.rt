@@ -13,11 +13,12 @@ ghost use Rattle.words.specs.Keys.{sameKey};
 ghost use Rattle.lines.specs.Lines.{named, carries as carried};
 ghost use Rattle.lines.specs.Reading.{callOf, parametersIn};
 ghost use Rattle.lines.specs.Promise.{namedAs, givenAs};
+ghost use Rattle.words.specs.Slices.{was};
 
 // Whether the first n bytes of name are those of text.
-fn is_name(name: &[u8], n: usize, text: &[u8]) -> bool
+pub fn is_name(name: &[u8], n: usize, text: &[u8]) -> bool
     requires { ⌜ n ≤ length (now name) ⌝ }
-    ensures { λ r. ⌜ r ≡ sameKey (part 0 n (now (name .entry))) (now (text .entry)) ⌝ }
+    ensures { λ r. ⌜ r ≡ sameKey (part 0 n (was name)) (was text) ⌝ }
 {
     if n != text.len() {
         return false;
@@ -42,7 +43,7 @@ fn kind(call: Call) -> Named
 // The call that the first n bytes of `name` name.
 fn call_spelled(name: &[u8], n: usize) -> Named
     requires { ⌜ n ≤ length (now name) ⌝ }
-    ensures { λ r. ⌜ namedAs r ≡ named (part 0 n (now (name .entry))) ⌝ }
+    ensures { λ r. ⌜ namedAs r ≡ named (part 0 n (was name)) ⌝ }
 {
     if is_name(name, n, b"CREATE") {
         return kind(Call::Create);
@@ -76,7 +77,7 @@ fn call_spelled(name: &[u8], n: usize) -> Named
 
 // The same, of all bytes of `name` if there are no n.
 pub fn call_named(name: &[u8], n: usize) -> Named
-    ensures { λ r. ⌜ namedAs r ≡ named (part 0 n (now (name .entry))) ⌝ }
+    ensures { λ r. ⌜ namedAs r ≡ named (part 0 n (was name)) ⌝ }
 {
     if name.len() < n {
         return call_spelled(name, name.len());
@@ -85,7 +86,7 @@ pub fn call_named(name: &[u8], n: usize) -> Named
 }
 
 // How many numbers stand on the line of such a call.
-fn carries(p: Description, call: Call) -> usize
+pub fn carries(p: Description, call: Call) -> usize
     ensures { λ r. ⌜ r ≡ carried p call ⌝ }
 {
     match call {
@@ -103,7 +104,7 @@ fn carries(p: Description, call: Call) -> usize
 
 // The call that a line is, of what was kept of it.
 pub fn call_of(p: Description, r: Reading, name: &[u8]) -> Named
-    ensures { λ c. ⌜ namedAs c ≡ callOf p r (now (name .entry)) ⌝ }
+    ensures { λ c. ⌜ namedAs c ≡ callOf p r (was name) ⌝ }
 {
     let kind = call_named(name, r.spelled);
     match kind {
@@ -123,7 +124,7 @@ pub fn call_of(p: Description, r: Reading, name: &[u8]) -> Named
 // The parameters that a first line gives, of what was kept of it.
 pub fn parameters_of(r: Reading, numbers: &[u32]) -> Parameters
     requires { ⌜ 6 ≤ length (now numbers) ⌝ }
-    ensures { λ g. ⌜ givenAs g ≡ parametersIn r (now (numbers .entry)) ⌝ }
+    ensures { λ g. ⌜ givenAs g ≡ parametersIn r (was numbers) ⌝ }
 {
     if r.others != 0 {
         return Parameters::Nothing;

@@ -1,42 +1,47 @@
 // The lines of calls.
+use super::Ending;
+use super::input::Found;
 use super::input::Place;
 use super::input::left_after;
 use super::input::next_line;
 use super::input::with_room;
-use super::input::write_filled;
-use lines::Reading;
+use super::told::ended;
+use super::told::tell_call;
 use searchfile::Session;
 ghost use mathlib.Core.Path.{_≡_};
 ghost use Prim.Native.Nat.{_<_};
-ghost use lib.ListN.{length};
 ghost use Rattle.terminal.specs.Places.{Within, Lent};
 
-// What follows a line of calls: at most `left` lines more.
+// What follows a line of calls: whether it was a bad one, and at most `left` lines more.
 pub struct Going {
     pub place: Place,
     pub session: Session,
+    pub bad: bool,
     pub left: u64,
 }
 
 // A line of calls of which everything was read.
 fn call_read(
-    r: Reading,
+    line: Found,
     going: Going,
     file: &mut [u32],
     buffer: &mut [u32],
     work: &mut [u32],
     marks: &mut [u8],
-    name: &[u8],
-    numbers: &[u32],
-    out: &mut [u8],
+    name: &[u8; 8],
+    numbers: &[u32; 2048],
+    out: &mut [u8; 65536],
 ) -> Going
-    requires { ⌜ (Within (going .place) 65536 16384) × (Lent going (now work) (now marks)) × (0 < going .left) × (length (now numbers) ≡ 2048) × (length (now out) ≡ 65536) ⌝ }
-    ensures { λ g. ⌜ (Within (g .place) 65536 16384) × (g .session .desc ≡ going .session .desc) × (g .left < going .left) ⌝ }
+    requires { ⌜ (Within (line .place) 65536 16384) × (Lent going (now work) (now marks)) × (0 < going .left) ⌝ }
+    ensures { λ g. ⌜
+        (Within (g .place) 65536 16384) × (g .session .desc ≡ going .session .desc) × (g .left < going .left)
+        ⌝ }
 {
-    let place = going.place;
+    let mut place = line.place;
     let session = going.session;
+    let reading = line.reading;
     let turn = printed::call_line(
-        r,
+        reading,
         name,
         numbers,
         session,
@@ -48,14 +53,22 @@ fn call_read(
         place.filled,
     );
     let after = turn.session;
+    if turn.over {
+        let over = tell_call(place, turn.at, session.desc, reading, line.watch, name, out);
+        return Going {
+            place: over,
+            session: after,
+            bad: true,
+            left: 0,
+        };
+    }
+    place.filled = turn.at;
+    let next = with_room(out, place);
     Going {
-        place: Place {
-            at: place.at,
-            end: place.end,
-            filled: with_room(out, turn.at),
-        },
+        place: next,
         session: after,
-        left: left_after(turn.over, going.left),
+        bad: false,
+        left: left_after(next.failed, going.left),
     }
 }
 
@@ -73,18 +86,19 @@ fn call_turn(
     out: &mut [u8; 65536],
 ) -> Going
     requires { ⌜ (Within (going .place) 65536 16384) × (Lent going (now work) (now marks)) × (0 < going .left) ⌝ }
-    ensures { λ g. ⌜ (Within (g .place) 65536 16384) × (g .session .desc ≡ going .session .desc) × (g .left < going .left) ⌝ }
+    ensures { λ g. ⌜
+        (Within (g .place) 65536 16384) × (g .session .desc ≡ going .session .desc) × (g .left < going .left)
+        ⌝ }
 {
     let line = next_line(fd, going.place, input, name, numbers, out);
-    let place = line.place;
-    let mut next = going;
-    next.place = place;
     if !line.is_line {
+        let place = line.place;
+        let mut next = going;
+        next.place = place;
         next.left = 0;
         return next;
     }
-    let reading = line.reading;
-    call_read(reading, next, file, buffer, work, marks, name, numbers, out)
+    call_read(line, going, file, buffer, work, marks, name, numbers, out)
 }
 
 // All lines of calls.
@@ -99,7 +113,7 @@ pub fn call_lines(
     name: &mut [u8; 8],
     numbers: &mut [u32; 2048],
     out: &mut [u8; 65536],
-)
+) -> Ending
     requires { ⌜ (Within (start .place) 65536 16384) × (Lent start (now work) (now marks)) ⌝ }
 {
     let mut going = start;
@@ -118,5 +132,5 @@ pub fn call_lines(
         );
     }
     let place = going.place;
-    write_filled(out, place.filled);
+    ended(place, going.bad, out)
 }

@@ -65,7 +65,7 @@ digits-one : (b n : ℕ) → getD (digits b 1 n) 0 0 ≡ 48 + n % b
 unfolding digits
 digits-one b n = refl
 
-places-some : (k n : ℕ) → 0 < places k n
+pub places-some : (k n : ℕ) → 0 < places k n
 unfolding places
 places-some zero n = omega arith
 places-some (suc k) n = go (decLt n 10)

@@ -29,7 +29,7 @@ places (suc k) n = cond (ltb n 10) 1 (suc (places k (n / 10)))
 unfoldable pub decimal : ℕ → List ℕ
 decimal n = digits 10 (places 19 n) n
 
--- "number as six octal digits"
+-- "number as six octal digits" [O5]
 unfoldable pub octal : ℕ → List ℕ
 octal n = digits 8 6 n
 

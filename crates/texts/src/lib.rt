@@ -8,11 +8,12 @@ ghost use lib.ListN.{length};
 ghost use Rattle.words.specs.Words.{put};
 ghost use Rattle.texts.specs.Texts.{digits, places as placesOf, decimal, octal, listed};
 ghost use Rattle.texts.specs.Results.{spelling, resultText, refusedText};
+ghost use Rattle.words.specs.Slices.{was, became};
 
 // The bytes of `text`.
 pub fn put_bytes(out: &mut [u8], at: usize, text: &[u8]) -> usize
     requires { ⌜ at + length (now text) ≤ length (now out) ⌝ }
-    ensures { λ r. ⌜ (now (out .exit) ≡ put (now (out .entry)) at (now (text .entry))) × (r ≡ at + length (now (text .entry))) ⌝ }
+    ensures { λ r. ⌜ (became out ≡ put (was out) at (was text)) × (r ≡ at + length (was text)) ⌝ }
 {
     let mut i = 0;
     while i < text.len() {
@@ -38,7 +39,7 @@ fn places(n: u64) -> usize
 // The last k digits of n to the base `base`, the last one first: each is what is left of n.
 fn put_digits(out: &mut [u8], at: usize, base: u64, k: usize, n: u64) -> usize
     requires { ⌜ (at + k ≤ length (now out)) × (2 ≤ base) × (base ≤ 10) ⌝ }
-    ensures { λ r. ⌜ (now (out .exit) ≡ put (now (out .entry)) at (digits base k n)) × (r ≡ at + k) ⌝ }
+    ensures { λ r. ⌜ (became out ≡ put (was out) at (digits base k n)) × (r ≡ at + k) ⌝ }
 {
     let mut i = k;
     let mut rest = n;
@@ -56,7 +57,7 @@ fn long(x: u32) -> u64
     x as u64
 }
 
-fn count(x: usize) -> u64
+pub fn count(x: usize) -> u64
     ensures { λ r. ⌜ r ≡ x ⌝ }
 {
     x as u64
@@ -65,16 +66,20 @@ fn count(x: usize) -> u64
 // A result's number as six octal digits, after a space.
 fn put_number(out: &mut [u8], at: usize, n: u32) -> usize
     requires { ⌜ at + 7 ≤ length (now out) ⌝ }
-    ensures { λ r. ⌜ (now (out .exit) ≡ put (now (out .entry)) at (32 ∷ octal n)) × (r ≡ at + length (32 ∷ octal n)) × (r ≤ at + 7) ⌝ }
+    ensures { λ r. ⌜
+        (became out ≡ put (was out) at (32 ∷ octal n)) × (r ≡ at + length (32 ∷ octal n)) × (r ≤ at + 7)
+        ⌝ }
 {
     out[at] = b' ';
     put_digits(out, at + 1, 8, 6, long(n))
 }
 
 // A number in decimal, after a space.
-fn put_decimal(out: &mut [u8], at: usize, n: u64) -> usize
+pub fn put_decimal(out: &mut [u8], at: usize, n: u64) -> usize
     requires { ⌜ at + 21 ≤ length (now out) ⌝ }
-    ensures { λ r. ⌜ (now (out .exit) ≡ put (now (out .entry)) at (32 ∷ decimal n)) × (r ≡ at + length (32 ∷ decimal n)) × (r ≤ at + 21) ⌝ }
+    ensures { λ r. ⌜
+        (became out ≡ put (was out) at (32 ∷ decimal n)) × (r ≡ at + length (32 ∷ decimal n)) × (r ≤ at + 21)
+        ⌝ }
 {
     out[at] = b' ';
     let k = places(n);
@@ -84,7 +89,11 @@ fn put_decimal(out: &mut [u8], at: usize, n: u64) -> usize
 // Words in decimal, each after a space.
 fn put_listed(out: &mut [u8], at: usize, words: &[u32]) -> usize
     requires { ⌜ at + 21 * length (now words) ≤ length (now out) ⌝ }
-    ensures { λ r. ⌜ (now (out .exit) ≡ put (now (out .entry)) at (listed (now (words .entry)))) × (r ≡ at + length (listed (now (words .entry)))) × (r ≤ at + 21 * length (now (words .entry))) ⌝ }
+    ensures { λ r. ⌜
+        (became out ≡ put (was out) at (listed (was words)))
+        × (r ≡ at + length (listed (was words)))
+        × (r ≤ at + 21 * length (was words))
+        ⌝ }
 {
     let mut end = at;
     let mut i = 0;
@@ -96,9 +105,11 @@ fn put_listed(out: &mut [u8], at: usize, words: &[u32]) -> usize
 }
 
 // A call's name.
-fn put_name(out: &mut [u8], at: usize, call: Call) -> usize
+pub fn put_name(out: &mut [u8], at: usize, call: Call) -> usize
     requires { ⌜ at + 6 ≤ length (now out) ⌝ }
-    ensures { λ r. ⌜ (now (out .exit) ≡ put (now (out .entry)) at (spelling call)) × (r ≡ at + length (spelling call)) × (r ≤ at + 6) ⌝ }
+    ensures { λ r. ⌜
+        (became out ≡ put (was out) at (spelling call)) × (r ≡ at + length (spelling call)) × (r ≤ at + 6)
+        ⌝ }
 {
     match call {
         Call::Create => put_bytes(out, at, b"CREATE"),
@@ -123,7 +134,12 @@ pub fn put_result(
     shown: &[u32],
 ) -> usize
     requires { ⌜ at + 35 + 21 * length (now shown) ≤ length (now out) ⌝ }
-    ensures { λ r. ⌜ (now (out .exit) ≡ put (now (out .entry)) at (resultText call (record { number = number; count = transfers; shown = now (shown .entry) }))) × (r ≡ at + length (resultText call (record { number = number; count = transfers; shown = now (shown .entry) }))) × (r ≤ at + 35 + 21 * length (now (shown .entry))) ⌝ }
+    ensures { λ r. ⌜
+        (became out
+        ≡ put (was out) at (resultText call (record { number = number; count = transfers; shown = was shown })))
+        × (r ≡ at + length (resultText call (record { number = number; count = transfers; shown = was shown })))
+        × (r ≤ at + 35 + 21 * length (was shown))
+        ⌝ }
 {
     let named = put_name(out, at, call);
     let numbered = put_number(out, named, number);
@@ -136,7 +152,9 @@ pub fn put_result(
 // The line of a call whose parameters are out of range.
 pub fn put_refused(out: &mut [u8], at: usize, call: Call) -> usize
     requires { ⌜ at + 16 ≤ length (now out) ⌝ }
-    ensures { λ r. ⌜ (now (out .exit) ≡ put (now (out .entry)) at (refusedText call)) × (r ≡ at + length (refusedText call)) × (r ≤ at + 16) ⌝ }
+    ensures { λ r. ⌜
+        (became out ≡ put (was out) at (refusedText call)) × (r ≡ at + length (refusedText call)) × (r ≤ at + 16)
+        ⌝ }
 {
     let named = put_name(out, at, call);
     put_bytes(out, named, b" 020007 0\n")

@@ -43,7 +43,7 @@ array-borrow-prefix-file c =
 
 slice-aggregate-call-lines : tie.Need-slice-aggregate-call-lines
 slice-aggregate-call-lines c =
-    let l : length (c .before .before .before .before .before .before .file-words .result) ≡ 8192 = search needs in
+    let l : length (c .before .before .before .before .before .before .file-words .result) ≡ 8192 = sym (c .before .before .before .before .before .before .file-words .ensures) in
     simp length-take (omega (arith, c .before .before .before .before .before .before .before .pre .2, c .before .before .file-size .ensures))
 
 array-borrow-prefix-buffer : tie.Need-array-borrow-prefix-buffer
@@ -54,7 +54,7 @@ array-borrow-prefix-buffer c =
 slice-aggregate-call-lines-2 : tie.Need-slice-aggregate-call-lines-2
 slice-aggregate-call-lines-2 c =
     let s = c .before .before .before .before .before .before .before .before in
-    let l : length (c .before .before .before .before .before .before .block-words .result) ≡ 4096 = search needs in
+    let l : length (c .before .before .before .before .before .before .block-words .result) ≡ 4096 = sym (c .before .before .before .before .before .before .block-words .ensures) in
     simp length-take (omega (arith, rooms (s .args .p) (s .pre .1) .block))
 
 array-borrow-prefix-work : tie.Need-array-borrow-prefix-work
@@ -65,7 +65,7 @@ array-borrow-prefix-work c =
 slice-aggregate-call-lines-3 : tie.Need-slice-aggregate-call-lines-3
 slice-aggregate-call-lines-3 c =
     let s = c .before .before .before .before .before .before .before .before .before in
-    let l : length (c .before .before .before .before .before .before .record-words .result) ≡ 2048 = search needs in
+    let l : length (c .before .before .before .before .before .before .record-words .result) ≡ 2048 = sym (c .before .before .before .before .before .before .record-words .ensures) in
     simp length-take (omega (arith, rooms (s .args .p) (s .pre .1) .record-most))
 
 array-borrow-prefix-marks : tie.Need-array-borrow-prefix-marks
@@ -76,13 +76,13 @@ array-borrow-prefix-marks c =
 slice-aggregate-call-lines-4 : tie.Need-slice-aggregate-call-lines-4
 slice-aggregate-call-lines-4 c =
     let s = c .before .before .before .before .before .before .before .before .before .before in
-    let l : length (c .before .before .before .before .before .before .buffer .result) ≡ 4096 = search needs in
+    let l : length (c .before .before .before .before .before .before .buffer .result) ≡ 4096 = sym (c .before .before .before .before .before .before .buffer .ensures) in
     simp length-take (omega (arith, blocks (s .args .p) (s .pre .1) (s .pre .2)))
 
 call-lines-requires : tie.Need-call-lines-requires
 call-lines-requires c κs =
-    let w : length (c .before .before .before .before .before .before .before .before .before .before .before .record-words .result) ≡ 2048 = search needs in
-    let m : length (c .before .before .before .before .before .before .before .before .before .before .buffer .result) ≡ 4096 = search needs in
+    let w : length (c .before .before .before .before .before .before .before .before .before .before .before .record-words .result) ≡ 2048 = sym (c .before .before .before .before .before .before .before .before .before .before .before .record-words .ensures) in
+    let m : length (c .before .before .before .before .before .before .before .before .before .before .buffer .result) ≡ 4096 = sym (c .before .before .before .before .before .before .before .before .before .before .buffer .ensures) in
     let s = c .before .before .before .before .before .before .before .before .before .before .before .before .before .before in
     let d : c .before .before .before .before .before .before .before .before .new .result .desc ≡ s .args .p = ap (λ (z : Session). z .desc) (c .before .before .before .before .before .before .before .before .new .ensures) in
     let r : length (take (s .args .p .wpr) (c .before .before .before .before .before .before .before .before .before .before .before .record-words .result)) ≡ s .args .p .wpr = simp length-take (omega (arith, rooms (s .args .p) (s .pre .1) .record-most)) in

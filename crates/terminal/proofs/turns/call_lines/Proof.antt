@@ -2,17 +2,13 @@
 -- The measure is the lines left. Assumes nothing.
 use mathlib.Core.Path.{_≡_, refl, sym, ap, _∙_}
 use native.Mathlib.Omega.{arith}
-use borrow.Author.Needs.{needs}
 use lib.ListN.{length}
 use Rattle.drum.specs.declared.Description.{Description}
 use Rattle.drum.specs.Params.{goodParams}
 use Rattle.terminal.specs.Places.{Within, Lent}
+use borrow.Author.Needs.{needs}
 use Rattle.terminal.proofs.turns.call_lines.Statement.{statement}
 use Rattle.terminal.proofs.turns.call_lines.Tie as tie
-use Rattle.terminal.proofs.turns.call_lines.Reads as reads
-use Rattle.terminal.proofs.turns.call_lines.Lts as lts
-use Rattle.terminal.proofs.turns.call_turn.Reads as call-turn-reads
-use Rattle.terminal.proofs.input.write_filled.Reads as write-filled-reads
 
 abbrev Inv-loop : tie.InvT-loop
 Inv-loop fd file₀ buffer₀ work₀ marks₀ input₀ name₀ numbers₀ out₀ going₀ file buffer work marks input name numbers out going =
@@ -28,9 +24,7 @@ abbrev μ-loop : tie.MeasureT-loop
 μ-loop fd file₀ buffer₀ work₀ marks₀ input₀ name₀ numbers₀ out₀ going₀ file buffer work marks input name numbers out going = going .left
 
 loop-holds : tie.Need-loop-holds Inv-loop μ-loop
-loop-holds c =
-    let s = c .before .before .before .before in
-    (s .pre .0, refl, s .pre .1, refl, refl, refl, refl)
+loop-holds c = (c .before .before .before .before .pre .0, refl, c .before .before .before .before .pre .1, refl, refl, refl, refl)
 
 call-turn-requires : tie.Need-call-turn-requires Inv-loop μ-loop
 call-turn-requires c κs =
@@ -50,25 +44,20 @@ loop-again c =
     let k = c .before .before .before .before .before .before .before .before .call-turn .kept in
     (e .0, e .1 ∙ i .1, i .2, k .1 .1 .0 ∙ i .3, k .1 .1 .1 .0 ∙ i .4, k .1 .1 .1 .1 .0 ∙ i .5, k .1 .1 .1 .1 .1 .0 ∙ i .6)
 
-write-filled-requires : tie.Need-write-filled-requires Inv-loop μ-loop
-write-filled-requires c κs =
-    let o : length (c .before .before .before .before .before .loop .out) ≡ 65536 = search needs in
-    omega (arith, c .before .before .before .before .before .loop .inv)
+ended-requires : tie.Need-ended-requires Inv-loop μ-loop
+ended-requires c κs = omega (arith, c .before .before .before .before .loop .inv)
 
 same-length : tie.Need-same-length Inv-loop μ-loop
-same-length c = c .before .before .before .before .before .before .loop .inv .3
+same-length c = c .before .before .before .before .before .loop .inv .3
 
 same-length-2 : tie.Need-same-length-2 Inv-loop μ-loop
-same-length-2 c = c .before .before .before .before .before .before .loop .inv .4
+same-length-2 c = c .before .before .before .before .before .loop .inv .4
 
 same-length-3 : tie.Need-same-length-3 Inv-loop μ-loop
-same-length-3 c = c .before .before .before .before .before .before .loop .inv .5
+same-length-3 c = c .before .before .before .before .before .loop .inv .5
 
 same-length-4 : tie.Need-same-length-4 Inv-loop μ-loop
-same-length-4 c = c .before .before .before .before .before .before .loop .inv .6
-
-returns : tie.Need-returns Inv-loop μ-loop
-returns c = tt
+same-length-4 c = c .before .before .before .before .before .loop .inv .6
 
 pub call-lines-spec : {M : Type 1} → statement M
 call-lines-spec =
@@ -80,9 +69,9 @@ call-lines-spec =
     call-turn-requires
     loop-less
     loop-again
-    write-filled-requires
+    ended-requires
     same-length
     same-length-2
     same-length-3
     same-length-4
-    returns)
+    (λ c. search needs))

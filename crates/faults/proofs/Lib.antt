@@ -1,0 +1,5 @@
+pub mod Cases
+pub mod Ranges
+pub mod Turns
+pub mod Three
+pub mod Outside

@@ -1,0 +1,22 @@
+-- `first::most_space` meets its contract.
+use borrow.Author.Needs.{needs}
+use Rattle.faults.proofs.Ranges.{space-details, space-entries}
+use Rattle.faults.proofs.first.most_space.Statement.{statement}
+use Rattle.faults.proofs.first.most_space.Tie as tie
+
+returns : tie.Need-returns
+returns c = search space-details
+
+returns-2 : tie.Need-returns-2
+returns-2 c = search space-entries
+
+pub most-space-spec : {M : Type 1} → statement M
+most-space-spec =
+    tie.close
+    (tie.spec
+    (λ c κs. search needs)
+    (λ c κs. search needs)
+    (λ c κs. search needs)
+    returns
+    (λ c κs. search needs)
+    returns-2)
