@@ -14,8 +14,10 @@ pub record Come : Type 0 where
   pub buffer : List ℕ
   pub transfers : ℕ
 
+-- what the steps came to, so counted [T3]
 abbrev pub come : Reached → Come
 come r = record { file = r .file; current = r .current; flag = r .flag; buffer = r .buffer; transfers = length (r .moves) }
 
+-- what the code gave back of it, with the words it left [T3]
 abbrev pub came : Arrived → List ℕ → List ℕ → Come
 came r f b = record { file = f; current = r .current; flag = r .flag; buffer = b; transfers = r .transfers }

@@ -10,7 +10,7 @@ ghost use lib.ListN.{length};
 ghost use Rattle.words.specs.Words.{part};
 ghost use Rattle.table.specs.Tables.{count, place, row, inserted, laid};
 ghost use Rattle.drum.specs.Params.{goodParams, fileSize, detailShape};
-ghost use Rattle.drum.specs.Blocks.{Fitting, Block, blockAt, putBlock, written, seen, textOf};
+ghost use Rattle.drum.specs.Blocks.{Fitting, Block, blockAt, putBlock, written, seen, textOf, atEntry};
 ghost use Rattle.rules.specs.Lookup.{flushMoves, reached, stopping};
 ghost use Rattle.rules.specs.Told.{gave, told};
 ghost use Rattle.numbers.specs.Checked.{passed};
@@ -18,6 +18,7 @@ ghost use mathlib.Core.List.{[]};
 ghost use Rattle.rules.specs.Free.{withFree};
 ghost use Rattle.rules.specs.Fits.{FlushFits, WayFits};
 ghost use Rattle.acts.specs.Reach.{come, came};
+ghost use Rattle.words.specs.Slices.{was, became};
 
 // A block reached: the transfers made for it, and the current block and flag then.
 pub struct Arrived {
@@ -29,7 +30,10 @@ pub struct Arrived {
 // Writes the buffer over its block if it is flagged, and counts it.
 pub fn flush(p: Description, current: usize, flag: bool, file: &mut [u32], buffer: &[u32]) -> usize
     requires { ⌜ Fitting p (now file) (now buffer) × FlushFits (seen p current (now file) (now buffer)) flag ⌝ }
-    ensures { λ r. ⌜ (r ≡ length (flushMoves (seen p current (now (file .entry)) (now (buffer .entry))) flag)) × (now (file .exit) ≡ written p (flushMoves (seen p current (now (file .entry)) (now (buffer .entry))) flag) (now (file .entry))) ⌝ }
+    ensures { λ r. ⌜
+        (r ≡ length (flushMoves (atEntry p current file buffer) flag))
+        × (became file ≡ written p (flushMoves (atEntry p current file buffer) flag) (was file))
+        ⌝ }
 {
     if !flag {
         return 0;
@@ -41,7 +45,7 @@ pub fn flush(p: Description, current: usize, flag: bool, file: &mut [u32], buffe
 // Lets the file have the current text of block b.
 pub fn stage(p: Description, current: usize, file: &mut [u32], buffer: &[u32], b: usize)
     requires { ⌜ Fitting p (now file) (now buffer) × Block p b ⌝ }
-    ensures { λ _. ⌜ now (file .exit) ≡ putBlock p (now (file .entry)) b (textOf (seen p current (now (file .entry)) (now (buffer .entry))) b) ⌝ }
+    ensures { λ _. ⌜ became file ≡ putBlock p (was file) b (textOf (atEntry p current file buffer) b) ⌝ }
 {
     if b != current {
         return;
@@ -52,7 +56,7 @@ pub fn stage(p: Description, current: usize, file: &mut [u32], buffer: &[u32], b
 // Brings the current text of block b into the buffer.
 pub fn load(p: Description, current: usize, file: &[u32], buffer: &mut [u32], b: usize)
     requires { ⌜ Fitting p (now file) (now buffer) × Block p b ⌝ }
-    ensures { λ _. ⌜ now (buffer .exit) ≡ textOf (seen p current (now (file .entry)) (now (buffer .entry))) b ⌝ }
+    ensures { λ _. ⌜ became buffer ≡ textOf (atEntry p current file buffer) b ⌝ }
 {
     if b == current {
         return;
@@ -70,8 +74,14 @@ pub fn bring(
     buffer: &mut [u32],
     b: usize,
 ) -> usize
-    requires { ⌜ Fitting p (now file) (now buffer) × FlushFits (seen p current (now file) (now buffer)) flag × Block p b ⌝ }
-    ensures { λ r. ⌜ (r ≡ length (flushMoves (seen p current (now (file .entry)) (now (buffer .entry))) flag)) × (now (file .exit) ≡ written p (flushMoves (seen p current (now (file .entry)) (now (buffer .entry))) flag) (now (file .entry))) × (now (buffer .exit) ≡ textOf (seen p current (now (file .entry)) (now (buffer .entry))) b) ⌝ }
+    requires { ⌜
+        Fitting p (now file) (now buffer) × FlushFits (seen p current (now file) (now buffer)) flag × Block p b
+        ⌝ }
+    ensures { λ r. ⌜
+        (r ≡ length (flushMoves (atEntry p current file buffer) flag))
+        × (became file ≡ written p (flushMoves (atEntry p current file buffer) flag) (was file))
+        × (became buffer ≡ textOf (atEntry p current file buffer) b)
+        ⌝ }
 {
     let wrote = flush(p, current, flag, file, buffer);
     load(p, current, file, buffer, b);
@@ -88,7 +98,9 @@ pub fn reach(
     way: Way,
 ) -> Arrived
     requires { ⌜ Fitting p (now file) (now buffer) × WayFits (seen p current (now file) (now buffer)) flag way ⌝ }
-    ensures { λ r. ⌜ came r (now (file .exit)) (now (buffer .exit)) ≡ come (reached (seen p current (now (file .entry)) (now (buffer .entry))) flag way) ⌝ }
+    ensures { λ r. ⌜
+        came r (became file) (became buffer) ≡ come (reached (atEntry p current file buffer) flag way)
+        ⌝ }
 {
     match way {
         Way::Here => Arrived {
@@ -118,7 +130,10 @@ pub fn follow(
     way: Way,
 ) -> usize
     requires { ⌜ Fitting p (now file) (now buffer) × WayFits (seen p current (now file) (now buffer)) flag way ⌝ }
-    ensures { λ r. ⌜ (r ≡ length (reached (seen p current (now (file .entry)) (now (buffer .entry))) flag way .moves)) × (now (file .exit) ≡ written p (reached (seen p current (now (file .entry)) (now (buffer .entry))) flag way .moves) (now (file .entry))) ⌝ }
+    ensures { λ r. ⌜
+        (r ≡ length (reached (atEntry p current file buffer) flag way .moves))
+        × (became file ≡ written p (reached (atEntry p current file buffer) flag way .moves) (was file))
+        ⌝ }
 {
     match way {
         Way::Here => 0,
@@ -140,7 +155,11 @@ pub fn stop(
     number: u32,
 ) -> Done
     requires { ⌜ Fitting p (now file) (now buffer) × WayFits (seen p current (now file) (now buffer)) flag way ⌝ }
-    ensures { λ r. ⌜ gave r (now (file .exit)) (now (buffer .exit)) [] ≡ told (seen p current (now (file .entry)) (now (buffer .entry))) flag [] (passed (stopping number [] (reached (seen p current (now (file .entry)) (now (buffer .entry))) flag way))) ⌝ }
+    ensures { λ r. ⌜
+        gave r (became file) (became buffer) []
+        ≡ told (atEntry p current file buffer) flag []
+        (passed (stopping number [] (reached (atEntry p current file buffer) flag way)))
+        ⌝ }
 {
     let here = reach(p, current, flag, file, buffer, way);
     Done {
@@ -162,7 +181,10 @@ pub fn land(
     transfers: usize,
 ) -> Done
     requires { ⌜ Fitting p (now file) (now buffer) × Block p b ⌝ }
-    ensures { λ r. ⌜ (r ≡ record { number = number; transfers = transfers; current = b; flag = false; keyed = true }) × (now (buffer .exit) ≡ blockAt p (now (file .entry)) b) ⌝ }
+    ensures { λ r. ⌜
+        (r ≡ record { number = number; transfers = transfers; current = b; flag = false; keyed = true })
+        × (became buffer ≡ blockAt p (was file) b)
+        ⌝ }
 {
     drum::read_block(p, file, buffer, b);
     Done {
@@ -177,7 +199,7 @@ pub fn land(
 // Record i of the buffer to the workspace.
 pub fn give(p: Description, buffer: &[u32], work: &mut [u32], i: usize)
     requires { ⌜ (place (detailShape p) i + p .wpr ≤ length (now buffer)) × (length (now work) ≡ p .wpr) ⌝ }
-    ensures { λ _. ⌜ now (work .exit) ≡ row (detailShape p) (now (buffer .entry)) i ⌝ }
+    ensures { λ _. ⌜ became work ≡ row (detailShape p) (was buffer) i ⌝ }
 {
     let wpr = p.wpr;
     words::copy_words(work, 0, buffer, 1 + i * wpr, wpr);
@@ -186,7 +208,7 @@ pub fn give(p: Description, buffer: &[u32], work: &mut [u32], i: usize)
 // Words 1 and 2 of the master.
 pub fn set_free(file: &mut [u32], head: usize, lowest: u32)
     requires { ⌜ (3 ≤ length (now file)) × (head ≤ 262143) ⌝ }
-    ensures { λ _. ⌜ now (file .exit) ≡ withFree head lowest (now (file .entry)) ⌝ }
+    ensures { λ _. ⌜ became file ≡ withFree head lowest (was file) ⌝ }
 {
     words::put_word(file, 1, head);
     file[2] = lowest;
@@ -202,8 +224,15 @@ pub fn lay_block(
     from: usize,
     n: usize,
 )
-    requires { ⌜ (goodParams p ≡ true) × (length (now file) ≡ fileSize p) × Block p b × (1 + n ≤ p .wpb) × (from + n ≤ length (now src)) × (count ≤ 262143) ⌝ }
-    ensures { λ _. ⌜ now (file .exit) ≡ putBlock p (now (file .entry)) b (laid (p .wpb) count (part from n (now (src .entry)))) ⌝ }
+    requires { ⌜
+        (goodParams p ≡ true)
+        × (length (now file) ≡ fileSize p)
+        × Block p b
+        × (1 + n ≤ p .wpb)
+        × (from + n ≤ length (now src))
+        × (count ≤ 262143)
+        ⌝ }
+    ensures { λ _. ⌜ became file ≡ putBlock p (was file) b (laid (p .wpb) count (part from n (was src))) ⌝ }
 {
     let start = p.start(b);
     let end = start + p.wpb;
@@ -213,7 +242,7 @@ pub fn lay_block(
 // A count, n words of src, and zeros, over all words of a text.
 fn lay_rows(dst: &mut [u32], count: usize, src: &[u32], from: usize, n: usize)
     requires { ⌜ (1 + n ≤ length (now dst)) × (from + n ≤ length (now src)) × (count ≤ 262143) ⌝ }
-    ensures { λ _. ⌜ now (dst .exit) ≡ laid (length (now (dst .entry))) count (part from n (now (src .entry))) ⌝ }
+    ensures { λ _. ⌜ became dst ≡ laid (length (was dst)) count (part from n (was src)) ⌝ }
 {
     words::put_word(dst, 0, count);
     words::copy_words(dst, 1, src, from, n);
@@ -231,8 +260,20 @@ pub fn insert_in(
     row: &[u32],
     from: usize,
 )
-    requires { ⌜ (goodParams p ≡ true) × (length (now file) ≡ fileSize p) × Block p b × (1 ≤ h .base) × (place h (count (blockAt p (now file) b)) + h .stride ≤ p .wpb) × (i ≤ count (blockAt p (now file) b)) × (count (blockAt p (now file) b) < 262143) × (from + h .stride ≤ length (now row)) ⌝ }
-    ensures { λ _. ⌜ now (file .exit) ≡ putBlock p (now (file .entry)) b (inserted h i (part from (h .stride) (now (row .entry))) (blockAt p (now (file .entry)) b)) ⌝ }
+    requires { ⌜
+        (goodParams p ≡ true)
+        × (length (now file) ≡ fileSize p)
+        × Block p b
+        × (1 ≤ h .base)
+        × (place h (count (blockAt p (now file) b)) + h .stride ≤ p .wpb)
+        × (i ≤ count (blockAt p (now file) b))
+        × (count (blockAt p (now file) b) < 262143)
+        × (from + h .stride ≤ length (now row))
+        ⌝ }
+    ensures { λ _. ⌜
+        became file
+        ≡ putBlock p (was file) b (inserted h i (part from (h .stride) (was row)) (blockAt p (was file) b))
+        ⌝ }
 {
     let start = p.start(b);
     let end = start + p.wpb;

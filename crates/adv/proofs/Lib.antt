@@ -1,3 +1,5 @@
+pub mod Sizes
+pub mod Rows
 pub mod Fits
 pub mod Steps
 pub mod Given

@@ -1,9 +1,13 @@
 -- A row taken out of a table; an entry taken out of an index block's text: its count and its length on the way.
-use mathlib.Core.Path.{_≡_, refl, ap, _∙_}
+use mathlib.Core.Path.{_≡_, refl, sym, ap, _∙_}
 use mathlib.Core.Bool.{Bool, true, false, cond}
 use mathlib.Core.List.{List}
 use Prim.Native.Nat.{ℕ, _+_, _-_, _*_, _≤_, _<_}
 use native.Mathlib.Omega.{arith}
+use mir.Syntax.{w64}
+use mir.Val.{Fits}
+use borrow.Author.Tests.{eq-eqb, ne-eqb}
+use borrow.Rule.Slice.PartMut.{putMid, midOf}
 use lib.Dec.{eqb}
 use lib.ListN.{length}
 use Rattle.words.specs.Words.{part, put}
@@ -13,14 +17,37 @@ use Rattle.table.specs.Tables.{count, place, keyAt, removed, replaced}
 use Rattle.table.proofs.Places.{row-le, row-lt}
 use Rattle.table.proofs.Lengths.{length-removed}
 use Rattle.drum.specs.declared.Description.{Description}
-use Rattle.drum.specs.Params.{I, goodParams, indexShape}
+use Rattle.drum.specs.Params.{I, start, masterShape, indexShape, detailShape}
+use Rattle.drum.specs.Blocks.{blockAt, putBlock}
 use Rattle.drum.proofs.Good.{caps}
+use Rattle.drum.proofs.Blocks.{block-within}
+use Rattle.acts.proofs.Lent.{lent, given-back}
 use Rattle.rules.specs.Dlete.{entryGone}
+use Rattle.dlete.specs.Fits.{HasEntry, EntryIn}
 use Rattle.dlete.specs.Freed.{handed}
 
 -- a row taken out of a table, the shape and the words known by equations
 pub removed-from : (h g : Shape) (i : ℕ) (t u r : List ℕ) → h ≡ g → t ≡ u → r ≡ removed h i t → r ≡ removed g i u
 removed-from h g i t u r eh et er = rw (er, eh, et)
+
+-- a row that can be taken out
+pub record Removable (h : Shape) (t : List ℕ) (i : ℕ) : Type 0 where
+  pub within : place h (count t) ≤ length t
+  pub below : i < count t
+  pub most : count t ≤ 262143
+
+-- the rows of each table begin behind its count
+pub master-base : (p : Description) (h : Shape) → h ≡ masterShape p → 1 ≤ h .base
+unfolding masterShape
+master-base p h e = rw e (omega arith)
+
+pub index-base : (p : Description) (h : Shape) → h ≡ indexShape p → 1 ≤ h .base
+unfolding indexShape
+index-base p h e = rw e (omega arith)
+
+pub detail-base : (p : Description) (h : Shape) → h ≡ detailShape p → 1 ≤ h .base
+unfolding detailShape
+detail-base p h e = rw e (omega arith)
 
 -- a key written over the one of the entry before
 module _ (k j : ℕ) (t key : List ℕ) (l : length key ≡ k) (h : 1 + j * (k + 1) + k ≤ length t) where
@@ -34,51 +61,126 @@ module _ (k j : ℕ) (t key : List ℕ) (l : length key ≡ k) (h : 1 + j * (k +
       let r = row-le (j - 1) j (k + 1) (omega arith) in
       getD-put-before t (1 + (j - 1) * (k + 1)) key 0 (omega arith) (omega arith)
 
-pub gone-is : (p : Description) (j : ℕ) (t : List ℕ) → entryGone p j t ≡ removed (indexShape p) j (handed p j t)
-unfolding entryGone handed
-gone-is p j t = refl
-
-module _ (p : Description) (good : goodParams p ≡ true) (j : ℕ) (t : List ℕ) (h : length t ≡ p .wpb) (most : count t ≤ I p) (below : j < count t) where
+module _ (p : Description) (t : List ℕ) (j : ℕ) (h : HasEntry p t j) where
   -- the entries lie in the text
   entries-within : 1 + count t * (p .k + 1) ≤ p .wpb
   entries-within =
-      let g = caps p good in
-      let r = row-le (count t) (I p) (p .k + 1) most in
+      let g = caps p (h .good) in
+      let r = row-le (count t) (I p) (p .k + 1) (h .most) in
       omega arith
 
-  entry-within : 1 + j * (p .k + 1) + (p .k + 1) ≤ p .wpb
+  entry-within : 1 + j * (p .k + 1) + (p .k + 1) ≤ length t
   entry-within =
-      let r = row-lt j (count t) (p .k + 1) below in
-      omega (arith, entries-within)
+      let e = entries-within in
+      let r = row-lt j (count t) (p .k + 1) (h .below) in
+      omega arith
 
-  -- the two keys of `hand_bound`
-  pub handing : (1 + (j - 1) * (p .k + 1) ≤ 1 + j * (p .k + 1)) × (1 + j * (p .k + 1) + p .k ≤ length t) × (length t ≤ 4096)
-  handing =
-      let g = caps p good in
-      let q = g .facts in
-      let r = row-le (j - 1) j (p .k + 1) (omega arith) in
+  -- the text has a count and is not long; the entry's key lies in it, behind the key of the entry before
+  pub entry-text : 1 ≤ length t
+  entry-text =
       let e = entry-within in
-      (omega arith, omega arith, omega arith)
+      omega arith
 
-  pub length-handed : length (handed p j t) ≡ p .wpb
+  pub entry-text-most : length t ≤ 4096
+  entry-text-most =
+      let g = caps p (h .good) in
+      let q = g .facts in
+      omega arith
+
+  pub key-end : 1 + j * (p .k + 1) + p .k ≤ length t
+  key-end =
+      let e = entry-within in
+      omega arith
+
+  pub key-before : 1 + (j - 1) * (p .k + 1) ≤ 1 + j * (p .k + 1)
+  key-before =
+      let r = row-le (j - 1) j (p .k + 1) (omega arith) in
+      omega arith
+
+  pub row-before-fits : Fits w64 ((j - 1) * (p .k + 1))
+  row-before-fits =
+      let a = key-before in
+      let e = key-end in
+      let m = entry-text-most in
+      record { fits = omega arith }
+
+  pub key-before-fits : Fits w64 (1 + (j - 1) * (p .k + 1))
+  key-before-fits =
+      let a = key-before in
+      let e = key-end in
+      let m = entry-text-most in
+      record { fits = omega arith }
+
+  length-handed : length (handed p j t) ≡ p .wpb
   unfolding handed replaced keyAt indexShape
   length-handed = go (eqb (j + 1) (count t))
     where
       go : (b : Bool) → length (cond b (put t (1 + (j - 1) * (p .k + 1)) (part (1 + j * (p .k + 1)) (p .k) t)) t) ≡ p .wpb
-      go true = over-length (p .k) j t _ (length-part (1 + j * (p .k + 1)) (p .k) t (omega (arith, entry-within))) (omega (arith, entry-within)) ∙ h
-      go false = h
+      go true = over-length (p .k) j t _ (length-part (1 + j * (p .k + 1)) (p .k) t key-end) key-end ∙ h .text-is
+      go false = h .text-is
 
-  pub count-handed : count (handed p j t) ≡ count t
+  count-handed : count (handed p j t) ≡ count t
   unfolding handed replaced keyAt indexShape
   count-handed = go (eqb (j + 1) (count t))
     where
       go : (b : Bool) → count (cond b (put t (1 + (j - 1) * (p .k + 1)) (part (1 + j * (p .k + 1)) (p .k) t)) t) ≡ count t
-      go true = over-count (p .k) j t _ (length-part (1 + j * (p .k + 1)) (p .k) t (omega (arith, entry-within))) (omega (arith, entry-within))
+      go true = over-count (p .k) j t _ (length-part (1 + j * (p .k + 1)) (p .k) t key-end) key-end
       go false = refl
 
-  pub handed-within : place (indexShape p) (count (handed p j t)) ≤ length (handed p j t)
+  handed-removable : Removable (indexShape p) (handed p j t) j
   unfolding indexShape
-  handed-within = rw (count-handed, length-handed) entries-within
+  handed-removable =
+      let g = caps p (h .good) in
+      let n = count-handed in
+      let e = entries-within in
+      record { within = rw (count-handed, length-handed) e; below = rw n (h .below); most = omega arith }
 
-  pub length-gone : length (entryGone p j t) ≡ p .wpb
-  length-gone = ap length (gone-is p j t) ∙ length-removed (indexShape p) j (handed p j t) (rw count-handed below) handed-within ∙ length-handed
+module _ (p : Description) (t : List ℕ) (j : ℕ) where
+  gone-is : entryGone p j t ≡ removed (indexShape p) j (handed p j t)
+  unfolding entryGone handed
+  gone-is = refl
+
+  pub length-gone : HasEntry p t j → length (entryGone p j t) ≡ p .wpb
+  length-gone h =
+      let r = handed-removable p t j h in
+      ap length gone-is ∙ length-removed (indexShape p) j (handed p j t) (r .below) (r .within) ∙ length-handed p t j h
+
+  -- an entry that is not the last hands nothing on; the last one's key is moved to the one before
+  pub not-last : (n : ℕ) → n ≡ count t → (j + 1 ≡ n → ⊥) → t ≡ handed p j t
+  unfolding handed
+  not-last n e ne = simp (← e, ne-eqb _ _ ne)
+
+  pub last-handed : (r : List ℕ) (n : ℕ) → r ≡ put t (1 + (j - 1) * (p .k + 1)) (part (1 + j * (p .k + 1)) (p .k) t)
+      → n ≡ count t → j + 1 ≡ n → r ≡ handed p j t
+  unfolding handed replaced keyAt indexShape
+  last-handed r n er e l = simp (← e, eq-eqb _ _ l) er
+
+  -- then its row can be taken out, and is
+  module _ (h : Shape) (u : List ℕ) (has : HasEntry p t j) (eu : u ≡ handed p j t) where
+    pub handed-within : h ≡ indexShape p → place h (count u) ≤ length u
+    handed-within eh = rw (eh, eu) (handed-removable p t j has .within)
+
+    pub handed-below : j < count u
+    handed-below = rw eu (handed-removable p t j has .below)
+
+    pub handed-most : count u ≤ 262143
+    handed-most = rw eu (handed-removable p t j has .most)
+
+  pub gone-by : (h : Shape) (u r : List ℕ) → r ≡ removed h j u → u ≡ handed p j t → h ≡ indexShape p → r ≡ entryGone p j t
+  gone-by h u r er eu eh = removed-from h (indexShape p) j u (handed p j t) r eh eu er ∙ sym gone-is
+
+-- the index block's own words are lent, and come back without the entry
+module _ (p : Description) (f : List ℕ) (b j : ℕ) where
+  pub block-end : EntryIn p f b j → start p b + p .wpb ≤ length f
+  block-end h =
+      let w = block-within p b (h .block) in
+      let l = h .file-is in
+      omega arith
+
+  pub lent-entry : (a : ℕ) → EntryIn p f b j → a ≡ start p b → HasEntry p (midOf a (a + p .wpb - a) f) j
+  lent-entry a h e = rw (lent p f b a e) (h .entry)
+
+  pub gone-back : (a : ℕ) (t : List ℕ) → EntryIn p f b j → a ≡ start p b → t ≡ entryGone p j (midOf a (a + p .wpb - a) f)
+      → length t ≡ length (midOf a (a + p .wpb - a) f) → putMid a (a + p .wpb - a) f t ≡ putBlock p f b (entryGone p j (blockAt p f b))
+  gone-back a t h e et k =
+      given-back p f b a (h .file-is) (h .block) e t k ∙ ap (putBlock p f b) (et ∙ ap (entryGone p j) (lent p f b a e))

@@ -7,9 +7,12 @@ use native.Mathlib.Omega.{arith}
 use borrow.Author.Tests.{eqb-false}
 use lib.Dec.{eqb}
 use Rattle.numbers.specs.Numbers.{badFile}
-use Rattle.numbers.specs.Checked.{passed, require, upTo}
+use Rattle.numbers.specs.Checked.{passed, _>>_, require, upTo}
 use Rattle.table.specs.Tables.{count}
-use Rattle.drum.specs.Blocks.{Texts, textOf, chainHead}
+use lib.ListN.{length}
+use Rattle.words.specs.Words.{part}
+use Rattle.drum.specs.declared.Description.{Description}
+use Rattle.drum.specs.Blocks.{Texts, seen, textOf, chainHead}
 use Rattle.rules.specs.declared.Which.the-variants.{Covering}
 use Rattle.rules.specs.declared.Path.{Path}
 use Rattle.rules.specs.declared.Way.{Way}
@@ -25,7 +28,7 @@ use Rattle.rules.specs.Dlete.{emptyDeed, emptyAt, deleteAfter, deleteDeed}
 use Rattle.numbers.proofs.Passed.{Passed, chain, by-refused, by-bind, by-then, by-test, by-passed, limited}
 use Rattle.lookup.proofs.Fits.{path-fits, look-fits}
 use Rattle.dlete.specs.Answers.{asDelete}
-use Rattle.dlete.specs.Fits.{EmptyFits, DeleteFits}
+use Rattle.dlete.specs.Fits.{RemoveFits, EmptyFits, DeleteFits}
 
 module _ (v : Texts) (flag : Bool) (key : List ℕ) where
   -- an emptied block
@@ -44,7 +47,7 @@ module _ (v : Texts) (flag : Bool) (key : List ℕ) where
         go false q =
             let n = eqb-false (count (textOf v (w .index))) 1 q in
             let l = path .entry-below in
-            (fits, omega arith)
+            record { emptied = fits; others = omega arith }
 
     empty-passed : Passed (DeleteFits v flag) (emptyDeed v way w)
     unfolding emptyDeed
@@ -52,7 +55,10 @@ module _ (v : Texts) (flag : Bool) (key : List ℕ) where
 
   here-passed : WayFits v flag Here → Passed (DeleteFits v flag) (emptyAt v key Here)
   unfolding emptyAt
-  here-passed h = by-bind (pathTo v key) _ (λ w e. by-then (require (eqb (w .detail) (v .current)) badFile) _ (λ x r. empty-passed Here w h (path-fits v Covering Covering key w e)))
+  here-passed h = by-bind (pathTo v key) _ led
+    where
+      led : (w : Path) → pathTo v key ≡ passed w → Passed (DeleteFits v flag) (require (eqb (w .detail) (v .current)) badFile >> emptyDeed v Here w)
+      led w e = by-then (require (eqb (w .detail) (v .current)) badFile) _ (λ x r. empty-passed Here w h (path-fits v Covering Covering key w e))
 
   at-passed : (way : Way) → WayFits v flag way → Passed (DeleteFits v flag) (emptyAt v key way)
   unfolding emptyAt
@@ -62,9 +68,10 @@ module _ (v : Texts) (flag : Bool) (key : List ℕ) where
   after-passed : (l : Look) → LookFits v flag l → Passed (DeleteFits v flag) (deleteAfter v key l)
   unfolding deleteAfter
   after-passed look-is.Bad h = by-refused badFile
-  after-passed (look-is.Missing w) h = by-passed (Stop w) h
+  after-passed (look-is.Missing w) h = by-passed (Stop w) (record { path = h .0; flushed = h .1 })
   after-passed (look-is.Found way i) h =
-      by-test (eqb (count (textAt v way)) 1) (emptyAt v key way) (passed (Remove way i)) (λ e. at-passed way (h .0)) (λ e. by-passed (Remove way i) h)
+      let gone : RemoveFits v flag way i = record { reached = h .0; below = h .1 } in
+      by-test (eqb (count (textAt v way)) 1) (emptyAt v key way) (passed (Remove way i)) (λ e. at-passed way (h .0)) (λ e. by-passed (Remove way i) gone)
 
   looked-fits : (l : Look) → look v flag key ≡ passed l → LookFits v flag l
   looked-fits look-is.Bad e = tt
@@ -75,9 +82,14 @@ module _ (v : Texts) (flag : Bool) (key : List ℕ) where
   unfolding deleteDeed
   deed-passed = by-bind (look v flag key) (deleteAfter v key) (λ l e. after-passed l (looked-fits l e))
 
-  pub delete-fits : (d : Delete) → asDelete d ≡ deleteDeed v flag key → DeleteFits v flag d
+  delete-fits : (d : Delete) → asDelete d ≡ deleteDeed v flag key → DeleteFits v flag d
   delete-fits Bad e = tt
   delete-fits (Stop w) e = deed-passed .holds (Stop w) (sym e)
   delete-fits (Remove way i) e = deed-passed .holds (Remove way i) (sym e)
   delete-fits (Empty way w head) e = deed-passed .holds (Empty way w head) (sym e)
   delete-fits (Both way w head) e = deed-passed .holds (Both way w head) (sym e)
+
+-- the same of the texts that the code has, and of the key in its workspace
+pub plan-fits : (p : Description) (cur : ℕ) (f b : List ℕ) (flag : Bool) (work : List ℕ) (d : Delete) → length work ≡ p .wpr
+    → asDelete d ≡ deleteDeed (seen p cur f b) flag (part 0 (p .k) work) → DeleteFits (seen p cur f b) flag d
+plan-fits p cur f b flag work d l e = delete-fits (seen p cur f b) flag (part 0 (p .k) work) d e

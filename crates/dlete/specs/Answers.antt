@@ -4,6 +4,7 @@ use Rattle.numbers.specs.Checked.{Checked, passed, refused}
 use Rattle.rules.specs.declared.Delete.{Delete}
 use Rattle.rules.specs.declared.Delete.the-variants.{Bad, Stop, Remove, Empty, Both}
 
+-- the code's answer as the checked plan of the rules
 abbrev pub asDelete : Delete → Checked Delete
 asDelete Bad = refused badFile
 asDelete (Stop w) = passed (Stop w)

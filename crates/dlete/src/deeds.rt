@@ -10,25 +10,25 @@ use rules::Way;
 ghost use mathlib.Core.Path.{_≡_};
 ghost use mathlib.Core.Bool.{true, false};
 ghost use mathlib.Core.List.{[]};
-ghost use Prim.Native.Nat.{_≤_, _<_};
+ghost use Prim.Native.Nat.{_≤_};
 ghost use lib.ListN.{length, set};
 ghost use Rattle.numbers.specs.Numbers.{done};
 ghost use Rattle.numbers.specs.Checked.{passed};
 ghost use Rattle.words.specs.Words.{zeros};
-ghost use Rattle.table.specs.Tables.{count, removed};
-ghost use Rattle.drum.specs.Params.{I, goodParams, fileSize, detailShape};
-ghost use Rattle.drum.specs.Blocks.{Fitting, Block, seen, textOf, blockAt, putBlock};
-ghost use Rattle.rules.specs.Lookup.{reached, textAt, storing};
-ghost use Rattle.rules.specs.Fits.{WayFits};
+ghost use Rattle.table.specs.Tables.{removed};
+ghost use Rattle.drum.specs.Params.{detailShape};
+ghost use Rattle.drum.specs.Blocks.{Fitting, seen, blockAt, putBlock, atEntry};
+ghost use Rattle.rules.specs.Lookup.{reached, storing};
 ghost use Rattle.rules.specs.Dlete.{entryGone, emptyAll, bothAll, emptyFile, bothFile, deleteDone};
 ghost use Rattle.rules.specs.Told.{gave, told};
-ghost use Rattle.dlete.specs.Fits.{EmptyFits, DeleteFits};
+ghost use Rattle.dlete.specs.Fits.{HasEntry, EntryIn, RemoveFits, EmptyFits, OneFits, DeleteFits};
 ghost use Rattle.dlete.specs.Freed.{handed, freed};
+ghost use Rattle.words.specs.Slices.{was, became};
 
 // If entry j is the last of an index block's text, the one before takes its bound.
 fn hand_bound(p: Description, t: &mut [u32], j: usize)
-    requires { ⌜ (goodParams p ≡ true) × (length (now t) ≡ p .wpb) × (1 < count (now t)) × (count (now t) ≤ I p) × (j < count (now t)) ⌝ }
-    ensures { λ _. ⌜ now (t .exit) ≡ handed p j (now (t .entry)) ⌝ }
+    requires { ⌜ HasEntry p (now t) j ⌝ }
+    ensures { λ _. ⌜ became t ≡ handed p j (was t) ⌝ }
 {
     let n = words::word_at(t, 0);
     if j + 1 != n {
@@ -40,8 +40,8 @@ fn hand_bound(p: Description, t: &mut [u32], j: usize)
 
 // Takes entry j out of an index block's text.
 fn entry_gone(p: Description, t: &mut [u32], j: usize)
-    requires { ⌜ (goodParams p ≡ true) × (length (now t) ≡ p .wpb) × (1 < count (now t)) × (count (now t) ≤ I p) × (j < count (now t)) ⌝ }
-    ensures { λ _. ⌜ now (t .exit) ≡ entryGone p j (now (t .entry)) ⌝ }
+    requires { ⌜ HasEntry p (now t) j ⌝ }
+    ensures { λ _. ⌜ became t ≡ entryGone p j (was t) ⌝ }
 {
     hand_bound(p, t, j);
     table::remove_row(p.index_shape(), t, j);
@@ -49,8 +49,8 @@ fn entry_gone(p: Description, t: &mut [u32], j: usize)
 
 // The same in index block b, where it lies in the file.
 fn gone_in(p: Description, file: &mut [u32], b: usize, j: usize)
-    requires { ⌜ (goodParams p ≡ true) × (length (now file) ≡ fileSize p) × Block p b × (1 < count (blockAt p (now file) b)) × (count (blockAt p (now file) b) ≤ I p) × (j < count (blockAt p (now file) b)) ⌝ }
-    ensures { λ _. ⌜ now (file .exit) ≡ putBlock p (now (file .entry)) b (entryGone p j (blockAt p (now (file .entry)) b)) ⌝ }
+    requires { ⌜ EntryIn p (now file) b j ⌝ }
+    ensures { λ _. ⌜ became file ≡ putBlock p (was file) b (entryGone p j (blockAt p (was file) b)) ⌝ }
 {
     let start = p.start(b);
     let end = start + p.wpb;
@@ -70,8 +70,15 @@ fn free_detail(
     link: usize,
     head: usize,
 ) -> usize
-    requires { ⌜ Fitting p (now file) (now buffer) × EmptyFits (seen p current (now file) (now buffer)) flag way w link × (head ≤ p .n) ⌝ }
-    ensures { λ r. ⌜ (r ≡ length (reached (seen p current (now (file .entry)) (now (buffer .entry))) flag way .moves)) × (now (file .exit) ≡ set (freed (seen p current (now (file .entry)) (now (buffer .entry))) flag way w link) 1 head) ⌝ }
+    requires { ⌜
+        Fitting p (now file) (now buffer)
+        × EmptyFits (seen p current (now file) (now buffer)) flag way w link
+        × (head ≤ p .n)
+        ⌝ }
+    ensures { λ r. ⌜
+        (r ≡ length (reached (atEntry p current file buffer) flag way .moves))
+        × (became file ≡ set (freed (atEntry p current file buffer) flag way w link) 1 head)
+        ⌝ }
 {
     let moved = acts::follow(p, current, flag, file, buffer, way);
     acts::stage(p, current, file, buffer, w.index);
@@ -91,8 +98,13 @@ fn empty_one(
     w: Path,
     head: usize,
 ) -> usize
-    requires { ⌜ Fitting p (now file) (now buffer) × EmptyFits (seen p current (now file) (now buffer)) flag way w head × (1 < count (textOf (seen p current (now file) (now buffer)) (w .index))) ⌝ }
-    ensures { λ r. ⌜ (r ≡ length (emptyAll (seen p current (now (file .entry)) (now (buffer .entry))) flag way w head)) × (now (file .exit) ≡ emptyFile (seen p current (now (file .entry)) (now (buffer .entry))) flag way w head) ⌝ }
+    requires { ⌜
+        Fitting p (now file) (now buffer) × OneFits (seen p current (now file) (now buffer)) flag way w head
+        ⌝ }
+    ensures { λ r. ⌜
+        (r ≡ length (emptyAll (atEntry p current file buffer) flag way w head))
+        × (became file ≡ emptyFile (atEntry p current file buffer) flag way w head)
+        ⌝ }
 {
     let moved = free_detail(p, current, flag, file, buffer, way, w, head, w.detail);
     gone_in(p, file, w.index, w.entry);
@@ -110,8 +122,13 @@ fn empty_both(
     w: Path,
     head: usize,
 ) -> usize
-    requires { ⌜ Fitting p (now file) (now buffer) × EmptyFits (seen p current (now file) (now buffer)) flag way w head ⌝ }
-    ensures { λ r. ⌜ (r ≡ length (bothAll (seen p current (now (file .entry)) (now (buffer .entry))) flag way w head)) × (now (file .exit) ≡ bothFile (seen p current (now (file .entry)) (now (buffer .entry))) flag way w head) ⌝ }
+    requires { ⌜
+        Fitting p (now file) (now buffer) × EmptyFits (seen p current (now file) (now buffer)) flag way w head
+        ⌝ }
+    ensures { λ r. ⌜
+        (r ≡ length (bothAll (atEntry p current file buffer) flag way w head))
+        × (became file ≡ bothFile (atEntry p current file buffer) flag way w head)
+        ⌝ }
 {
     let moved = free_detail(p, current, flag, file, buffer, way, w, head, w.index);
     acts::lay_block(p, file, w.index, w.detail, buffer, 0, 0);
@@ -121,7 +138,10 @@ fn empty_both(
 
 // What is left when the block was emptied: "buffer zeroed, current 0, flag off".
 fn none_held(buffer: &mut [u32], transfers: usize) -> Done
-    ensures { λ r. ⌜ (r ≡ record { number = done; transfers = transfers; current = 0; flag = false; keyed = true }) × (now (buffer .exit) ≡ zeros (length (now (buffer .entry)))) ⌝ }
+    ensures { λ r. ⌜
+        (r ≡ record { number = done; transfers = transfers; current = 0; flag = false; keyed = true })
+        × (became buffer ≡ zeros (length (was buffer)))
+        ⌝ }
 {
     let size = buffer.len();
     words::zero_words(buffer, 0, size);
@@ -144,8 +164,15 @@ fn remove_record(
     way: Way,
     i: usize,
 ) -> Done
-    requires { ⌜ Fitting p (now file) (now buffer) × WayFits (seen p current (now file) (now buffer)) flag way × (i < count (textAt (seen p current (now file) (now buffer)) way)) ⌝ }
-    ensures { λ r. ⌜ gave r (now (file .exit)) (now (buffer .exit)) [] ≡ told (seen p current (now (file .entry)) (now (buffer .entry))) flag [] (passed (storing done [] (reached (seen p current (now (file .entry)) (now (buffer .entry))) flag way) (removed (detailShape p) i (reached (seen p current (now (file .entry)) (now (buffer .entry))) flag way .buffer)))) ⌝ }
+    requires { ⌜
+        Fitting p (now file) (now buffer) × RemoveFits (seen p current (now file) (now buffer)) flag way i
+        ⌝ }
+    ensures { λ r. ⌜
+        gave r (became file) (became buffer) []
+        ≡ told (atEntry p current file buffer) flag []
+        (passed (storing done [] (reached (atEntry p current file buffer) flag way)
+        (removed (detailShape p) i (reached (atEntry p current file buffer) flag way .buffer))))
+        ⌝ }
 {
     let here = acts::reach(p, current, flag, file, buffer, way);
     table::remove_row(p.detail_shape(), buffer, i);
@@ -159,7 +186,7 @@ fn remove_record(
 }
 
 // Does what was planned.
-pub fn act_delete(
+pub fn do_dlete(
     deed: Delete,
     p: Description,
     current: usize,
@@ -168,7 +195,10 @@ pub fn act_delete(
     buffer: &mut [u32],
 ) -> Done
     requires { ⌜ Fitting p (now file) (now buffer) × DeleteFits (seen p current (now file) (now buffer)) flag deed ⌝ }
-    ensures { λ r. ⌜ gave r (now (file .exit)) (now (buffer .exit)) [] ≡ told (seen p current (now (file .entry)) (now (buffer .entry))) flag [] (deleteDone (seen p current (now (file .entry)) (now (buffer .entry))) flag [] deed) ⌝ }
+    ensures { λ r. ⌜
+        gave r (became file) (became buffer) []
+        ≡ told (atEntry p current file buffer) flag [] (deleteDone (atEntry p current file buffer) flag [] deed)
+        ⌝ }
 {
     match deed {
         Delete::Bad => Done::refused(BAD_FILE, current, flag),

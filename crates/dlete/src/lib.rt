@@ -6,9 +6,9 @@ use drum::Description;
 use rules::Done;
 ghost use mathlib.Core.Path.{_≡_};
 ghost use lib.ListN.{length};
-ghost use Rattle.drum.specs.Blocks.{Fitting, seen};
+ghost use Rattle.drum.specs.Blocks.{Fitting};
 ghost use Rattle.rules.specs.Dlete.{dleteSteps};
-ghost use Rattle.rules.specs.Told.{gave, told};
+ghost use Rattle.rules.specs.Told.{Follows};
 
 // Takes the record with the workspace's key out: planned from current texts, then done.
 pub fn dlete(
@@ -20,8 +20,8 @@ pub fn dlete(
     work: &[u32],
 ) -> Done
     requires { ⌜ Fitting p (now file) (now buffer) × (length (now work) ≡ p .wpr) ⌝ }
-    ensures { λ r. ⌜ gave r (now (file .exit)) (now (buffer .exit)) (now (work .entry)) ≡ told (seen p current (now (file .entry)) (now (buffer .entry))) flag (now (work .entry)) (dleteSteps (seen p current (now (file .entry)) (now (buffer .entry))) flag (now (work .entry))) ⌝ }
+    ensures { λ r. ⌜ Follows r dleteSteps p current flag file buffer work ⌝ }
 {
-    let deed = plan::plan_delete(p, current, flag, file, buffer, work);
-    deeds::act_delete(deed, p, current, flag, file, buffer)
+    let deed = plan::plan_dlete(p, current, flag, file, buffer, work);
+    deeds::do_dlete(deed, p, current, flag, file, buffer)
 }

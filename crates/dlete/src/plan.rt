@@ -11,12 +11,13 @@ ghost use mathlib.Core.List.{[]};
 ghost use Prim.Native.Nat.{_≤_};
 ghost use lib.ListN.{length};
 ghost use Rattle.words.specs.Words.{part};
-ghost use Rattle.drum.specs.Blocks.{Fitting, seen};
+ghost use Rattle.drum.specs.Blocks.{Fitting, seen, atEntry};
 ghost use Rattle.rules.specs.Fits.{PathFits};
 ghost use Rattle.rules.specs.Dlete.{emptyDeed, deleteAfter, deleteDeed};
 ghost use Rattle.rules.specs.declared.Way.the-variants as way-is;
 ghost use Rattle.rules.specs.declared.Look.the-variants as look-is;
 ghost use Rattle.dlete.specs.Answers.{asDelete};
+ghost use Rattle.words.specs.Slices.{was};
 
 // The block is left empty: the chain's head will be its link, and its index block may be emptied too.
 fn empty_deed<'a>(
@@ -28,7 +29,7 @@ fn empty_deed<'a>(
     w: Path,
 ) -> Delete
     requires { ⌜ Fitting p (now file) (now buffer) × PathFits (seen p current (now file) (now buffer)) w ⌝ }
-    ensures { λ r. ⌜ asDelete r ≡ emptyDeed (seen p current (now (file .entry)) (now (buffer .entry))) way w ⌝ }
+    ensures { λ r. ⌜ asDelete r ≡ emptyDeed (atEntry p current file buffer) way w ⌝ }
 {
     let head = words::word_at(file, 1);
     if p.n < head {
@@ -51,7 +52,10 @@ fn delete_here<'a>(
     i: usize,
 ) -> Delete
     requires { ⌜ Fitting p (now file) (now buffer) × (p .k ≤ length (now key)) ⌝ }
-    ensures { λ r. ⌜ asDelete r ≡ deleteAfter (seen p current (now (file .entry)) (now (buffer .entry))) (part 0 (p .k) (now (key .entry))) (look-is.Found way-is.Here i) ⌝ }
+    ensures { λ r. ⌜
+        asDelete r
+        ≡ deleteAfter (atEntry p current file buffer) (part 0 (p .k) (was key)) (look-is.Found way-is.Here i)
+        ⌝ }
 {
     if words::word_at(buffer, 0) != 1 {
         return Delete::Remove(Way::Here, i);
@@ -86,7 +90,7 @@ fn delete_by<'a>(
     i: usize,
 ) -> Delete
     requires { ⌜ Fitting p (now file) (now buffer) × PathFits (seen p current (now file) (now buffer)) w ⌝ }
-    ensures { λ r. ⌜ asDelete r ≡ deleteAfter (seen p current (now (file .entry)) (now (buffer .entry))) [] (look-is.Found (way-is.By w) i) ⌝ }
+    ensures { λ r. ⌜ asDelete r ≡ deleteAfter (atEntry p current file buffer) [] (look-is.Found (way-is.By w) i) ⌝ }
 {
     let t = drum::text_of(p, current, file, buffer, w.detail);
     if words::word_at(t, 0) != 1 {
@@ -96,7 +100,7 @@ fn delete_by<'a>(
 }
 
 // What DLETE will do.
-pub fn plan_delete<'a>(
+pub fn plan_dlete<'a>(
     p: Description,
     current: usize,
     flag: bool,
@@ -105,7 +109,7 @@ pub fn plan_delete<'a>(
     key: &[u32],
 ) -> Delete
     requires { ⌜ Fitting p (now file) (now buffer) × (p .k ≤ length (now key)) ⌝ }
-    ensures { λ r. ⌜ asDelete r ≡ deleteDeed (seen p current (now (file .entry)) (now (buffer .entry))) flag (part 0 (p .k) (now (key .entry))) ⌝ }
+    ensures { λ r. ⌜ asDelete r ≡ deleteDeed (atEntry p current file buffer) flag (part 0 (p .k) (was key)) ⌝ }
 {
     let l = lookup::look(p, current, flag, file, buffer, key);
     match l {

@@ -8,10 +8,12 @@ use Rattle.free.specs.declared.Grant.the-variants as grant-is
 use Rattle.free.specs.declared.Number.{Number}
 use Rattle.free.specs.declared.Number.the-variants as number-is
 
+-- the code's answer as the checked new block of the rules [C32]
 abbrev pub asGrant : Grant → Checked Taken
 asGrant grant-is.Bad = refused badFile
 asGrant (grant-is.Got t) = passed t
 
+-- the code's answer as the checked number of the rules [N9]
 abbrev pub asNumber : Number → Checked ℕ
 asNumber number-is.Bad = refused badFile
 asNumber (number-is.Is n) = passed n

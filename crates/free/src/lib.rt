@@ -7,7 +7,7 @@ ghost use mathlib.Core.Path.{_≡_};
 ghost use mathlib.Core.Bool.{true};
 ghost use Prim.Native.Nat.{_+_, _≤_};
 ghost use Rattle.drum.specs.Params.{goodParams};
-ghost use Rattle.drum.specs.Blocks.{Fitting, seen};
+ghost use Rattle.drum.specs.Blocks.{Fitting, atEntry};
 ghost use Rattle.rules.specs.Free.{granted, storedNumber, isNew};
 ghost use Rattle.free.specs.Lowest.{lowestGranted};
 ghost use Rattle.free.specs.Answers.{asGrant, asNumber};
@@ -64,7 +64,7 @@ pub fn take_block<'a>(
     lowest: u32,
 ) -> Grant
     requires { ⌜ Fitting p (now file) (now buffer) ⌝ }
-    ensures { λ r. ⌜ asGrant r ≡ granted (seen p current (now (file .entry)) (now (buffer .entry))) head lowest ⌝ }
+    ensures { λ r. ⌜ asGrant r ≡ granted (atEntry p current file buffer) head lowest ⌝ }
 {
     let n = p.n;
     if n < head {

@@ -13,19 +13,23 @@ use Rattle.lookup.specs.declared.Route.the-variants as route-is
 use Rattle.lookup.specs.declared.Test.{Test}
 use Rattle.lookup.specs.declared.Test.the-variants as test-is
 
+-- the code's answer as the checked entry of the rules [B1]
 abbrev pub asPick : Pick → Checked Entry
 asPick pick-is.Bad = refused badFile
 asPick (pick-is.At e) = passed e
 
+-- the code's answer as the checked path of the rules
 abbrev pub asRoute : Route → Checked Path
 asRoute route-is.Bad = refused badFile
 asRoute (route-is.To w) = passed w
 
+-- the code's answer as the checked test of the buffer [S3]
 abbrev pub asTest : Test → Checked Bool
 asTest test-is.Bad = refused badFile
 asTest test-is.No = passed false
 asTest test-is.Yes = passed true
 
+-- the code's answer as the checked lookup of the rules [C1, C2]
 abbrev pub asLook : Look → Checked Look
 asLook look-is.Bad = refused badFile
 asLook (look-is.Found way i) = passed (look-is.Found way i)

@@ -16,12 +16,12 @@ ghost use lib.ListN.{length};
 ghost use Rattle.numbers.specs.Checked.{passed};
 ghost use Rattle.words.specs.Words.{part};
 ghost use Rattle.table.specs.Tables.{count, place};
-ghost use Rattle.drum.specs.Params.{goodParams};
-ghost use Rattle.drum.specs.Blocks.{Fitting, Block, seen, textOf};
+ghost use Rattle.drum.specs.Blocks.{Fitting, Block, seen, atEntry};
 ghost use Rattle.rules.specs.Paths.{chosen, entryOf, pathAt, pathUnder, pathBy};
 ghost use Rattle.rules.specs.Lookup.{onBuffer, flushOk, lookAt, lookOutside, look as looked};
 ghost use Rattle.lookup.specs.Answers.{asPick, asRoute, asTest, asLook};
 ghost use Rattle.rules.specs.Fits.{PathFits, BufferFits};
+ghost use Rattle.words.specs.Slices.{was};
 
 pub enum Pick {
     Bad,
@@ -41,8 +41,14 @@ pub enum Test {
 
 // The place that is wanted in a table of n rows.
 fn place_of(which: Which, h: Shape, t: &[u32], n: usize, key: &[u32]) -> usize
-    requires { ⌜ (n ≡ count (now t)) × (1 ≤ n) × (place h n ≤ length (now t)) × (h .width ≤ h .stride) × (h .width ≤ length (now key)) ⌝ }
-    ensures { λ r. ⌜ r ≡ chosen which h (part 0 (h .width) (now (key .entry))) (now (t .entry)) ⌝ }
+    requires { ⌜
+        (n ≡ count (now t))
+        × (1 ≤ n)
+        × (place h n ≤ length (now t))
+        × (h .width ≤ h .stride)
+        × (h .width ≤ length (now key))
+        ⌝ }
+    ensures { λ r. ⌜ r ≡ chosen which h (part 0 (h .width) (was key)) (was t) ⌝ }
 {
     match which {
         Which::First => 0,
@@ -54,8 +60,14 @@ fn place_of(which: Which, h: Shape, t: &[u32], n: usize, key: &[u32]) -> usize
 
 // The entry that is wanted, of the master or of an index block.
 pub fn entry_of(p: Description, h: Shape, most: usize, which: Which, t: &[u32], key: &[u32]) -> Pick
-    requires { ⌜ (1 ≤ h .base) × (h .width ≡ p .k) × (h .stride ≡ p .k + 1) × (place h most ≤ length (now t)) × (p .k ≤ length (now key)) ⌝ }
-    ensures { λ r. ⌜ asPick r ≡ entryOf p h most which (part 0 (p .k) (now (key .entry))) (now (t .entry)) ⌝ }
+    requires { ⌜
+        (1 ≤ h .base)
+        × (h .width ≡ p .k)
+        × (h .stride ≡ p .k + 1)
+        × (place h most ≤ length (now t))
+        × (p .k ≤ length (now key))
+        ⌝ }
+    ensures { λ r. ⌜ asPick r ≡ entryOf p h most which (part 0 (p .k) (was key)) (was t) ⌝ }
 {
     let n = words::word_at(t, 0);
     if n < 1 {
@@ -88,7 +100,7 @@ fn path_at<'a>(
     e: Entry,
 ) -> Route
     requires { ⌜ Fitting p (now file) (now buffer) × Block p (e .block) ⌝ }
-    ensures { λ r. ⌜ asRoute r ≡ pathAt (seen p current (now (file .entry)) (now (buffer .entry))) m e ⌝ }
+    ensures { λ r. ⌜ asRoute r ≡ pathAt (atEntry p current file buffer) m e ⌝ }
 {
     let index = m.block;
     let detail = e.block;
@@ -122,7 +134,7 @@ fn path_under<'a>(
     m: Entry,
 ) -> Route
     requires { ⌜ Fitting p (now file) (now buffer) × (p .k ≤ length (now key)) × Block p (m .block) ⌝ }
-    ensures { λ r. ⌜ asRoute r ≡ pathUnder (seen p current (now (file .entry)) (now (buffer .entry))) which (part 0 (p .k) (now (key .entry))) m ⌝ }
+    ensures { λ r. ⌜ asRoute r ≡ pathUnder (atEntry p current file buffer) which (part 0 (p .k) (was key)) m ⌝ }
 {
     let index = m.block;
     let h = p.index_shape();
@@ -145,7 +157,7 @@ pub fn path_by<'a>(
     key: &[u32],
 ) -> Route
     requires { ⌜ Fitting p (now file) (now buffer) × (p .k ≤ length (now key)) ⌝ }
-    ensures { λ r. ⌜ asRoute r ≡ pathBy (seen p current (now (file .entry)) (now (buffer .entry))) top which (part 0 (p .k) (now (key .entry))) ⌝ }
+    ensures { λ r. ⌜ asRoute r ≡ pathBy (atEntry p current file buffer) top which (part 0 (p .k) (was key)) ⌝ }
 {
     let h = p.master_shape();
     let found = entry_of(p, h, p.control, top, file, key);
@@ -158,7 +170,7 @@ pub fn path_by<'a>(
 // Whether a block is buffered, so that a test of its keys can be made.
 pub fn on_buffer(p: Description, current: usize, buffer: &[u32]) -> Test
     requires { ⌜ 1 ≤ length (now buffer) ⌝ }
-    ensures { λ r. ⌜ asTest r ≡ onBuffer (seen p current [] (now (buffer .entry))) true ⌝ }
+    ensures { λ r. ⌜ asTest r ≡ onBuffer (seen p current [] (was buffer)) true ⌝ }
 {
     if current == 0 {
         return Test::No;
@@ -198,8 +210,12 @@ fn look_at<'a>(
     key: &[u32],
     w: Path,
 ) -> Look
-    requires { ⌜ Fitting p (now file) (now buffer) × (p .k ≤ length (now key)) × PathFits (seen p current (now file) (now buffer)) w ⌝ }
-    ensures { λ r. ⌜ asLook r ≡ passed (lookAt (seen p current (now (file .entry)) (now (buffer .entry))) (part 0 (p .k) (now (key .entry))) w) ⌝ }
+    requires { ⌜
+        Fitting p (now file) (now buffer)
+        × (p .k ≤ length (now key))
+        × PathFits (seen p current (now file) (now buffer)) w
+        ⌝ }
+    ensures { λ r. ⌜ asLook r ≡ passed (lookAt (atEntry p current file buffer) (part 0 (p .k) (was key)) w) ⌝ }
 {
     let t = drum::text_of(p, current, file, buffer, w.detail);
     let n = words::word_at(t, 0);
@@ -220,7 +236,7 @@ fn look_outside<'a>(
     key: &[u32],
 ) -> Look
     requires { ⌜ Fitting p (now file) (now buffer) × (p .k ≤ length (now key)) ⌝ }
-    ensures { λ r. ⌜ asLook r ≡ lookOutside (seen p current (now (file .entry)) (now (buffer .entry))) flag (part 0 (p .k) (now (key .entry))) ⌝ }
+    ensures { λ r. ⌜ asLook r ≡ lookOutside (atEntry p current file buffer) flag (part 0 (p .k) (was key)) ⌝ }
 {
     let route = path_by(
         p,
@@ -251,8 +267,12 @@ fn look_buffered<'a>(
     buffer: &'a [u32],
     key: &[u32],
 ) -> Look
-    requires { ⌜ Fitting p (now file) (now buffer) × (p .k ≤ length (now key)) × BufferFits (seen p current (now file) (now buffer)) ⌝ }
-    ensures { λ r. ⌜ asLook r ≡ looked (seen p current (now (file .entry)) (now (buffer .entry))) flag (part 0 (p .k) (now (key .entry))) ⌝ }
+    requires { ⌜
+        Fitting p (now file) (now buffer)
+        × (p .k ≤ length (now key))
+        × BufferFits (seen p current (now file) (now buffer))
+        ⌝ }
+    ensures { λ r. ⌜ asLook r ≡ looked (atEntry p current file buffer) flag (part 0 (p .k) (was key)) ⌝ }
 {
     let n = words::word_at(buffer, 0);
     let i = table::find(Want::Equal, p.detail_shape(), buffer, n, key, 0);
@@ -272,7 +292,7 @@ pub fn look<'a>(
     key: &[u32],
 ) -> Look
     requires { ⌜ Fitting p (now file) (now buffer) × (p .k ≤ length (now key)) ⌝ }
-    ensures { λ r. ⌜ asLook r ≡ looked (seen p current (now (file .entry)) (now (buffer .entry))) flag (part 0 (p .k) (now (key .entry))) ⌝ }
+    ensures { λ r. ⌜ asLook r ≡ looked (atEntry p current file buffer) flag (part 0 (p .k) (was key)) ⌝ }
 {
     let held = on_buffer(p, current, buffer);
     match held {

@@ -4,6 +4,7 @@ use Rattle.numbers.specs.Checked.{Checked, passed, refused}
 use Rattle.rules.specs.declared.Insert.{Insert}
 use Rattle.rules.specs.declared.Insert.the-variants.{Bad, Stop, Room, Split, Both}
 
+-- the code's answer as the checked plan of the rules [C10]
 abbrev pub asInsert : Insert → Checked Insert
 asInsert Bad = refused badFile
 asInsert (Stop way n) = passed (Stop way n)

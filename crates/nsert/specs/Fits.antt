@@ -17,6 +17,7 @@ pub record New (v : Texts) (w : Path) (b : ℕ) : Type 0 where
   pub not-index : w .index ≡ b → ⊥
   pub not-detail : w .detail ≡ b → ⊥
 
+-- what a plan to insert tells the code that carries it out [C11]
 pub record RoomFits (v : Texts) (flag : Bool) (w : Path) (i : ℕ) : Type 0 where
   pub flush : FlushFits v flag
   pub path : PathFits v w
@@ -31,16 +32,19 @@ pub record CutFits (v : Texts) (flag : Bool) (w : Path) (i : ℕ) (d : Taken) : 
   pub new : New v w (d .block)
   pub head : d .head ≤ v .desc .n
 
+-- what a plan to split tells it [C12]
 pub record SplitFits (v : Texts) (flag : Bool) (w : Path) (i : ℕ) (d : Taken) : Type 0 where
   pub cut : CutFits v flag w i d
   pub room : count (textOf v (w .index)) < I (v .desc)
 
+-- what a plan to split the index block too tells it [C15]
 pub record BothFits (v : Texts) (flag : Bool) (w : Path) (i b : ℕ) (x : Taken) : Type 0 where
   pub cut : CutFits v flag w i (record { block = b; head = x .head; lowest = x .lowest })
   pub index : New v w (x .block)
   pub two : b ≡ x .block → ⊥
   pub section : sections (v .file) < v .desc .control
 
+-- what any plan of NSERT tells it [C10]
 abbrev pub InsertFits : Texts → Bool → Insert → Type 0
 InsertFits v flag Bad = Unit {0}
 InsertFits v flag (Stop way n) = WayFits v flag way

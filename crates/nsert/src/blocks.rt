@@ -12,7 +12,7 @@ ghost use mathlib.Core.Bool.{true, _||_};
 ghost use Prim.Native.Nat.{_≤_};
 ghost use lib.Dec.{eqb, leb};
 ghost use Rattle.drum.specs.Params.{goodParams};
-ghost use Rattle.drum.specs.Blocks.{Fitting, seen};
+ghost use Rattle.drum.specs.Blocks.{Fitting, seen, atEntry};
 ghost use Rattle.rules.specs.Fits.{PathFits};
 ghost use Rattle.rules.specs.Nsert.{halfCount, roomDeed, splitWith, splitDeed, bothStored, bothWith, bothAfter, bothDeed};
 ghost use Rattle.nsert.specs.Answers.{asInsert};
@@ -39,7 +39,7 @@ pub fn room_deed<'a>(
     i: usize,
 ) -> Insert
     requires { ⌜ Fitting p (now file) (now buffer) × PathFits (seen p current (now file) (now buffer)) w ⌝ }
-    ensures { λ r. ⌜ asInsert r ≡ roomDeed (seen p current (now (file .entry)) (now (buffer .entry))) w i ⌝ }
+    ensures { λ r. ⌜ asInsert r ≡ roomDeed (atEntry p current file buffer) w i ⌝ }
 {
     let t = drum::text_of(p, current, file, buffer, w.detail);
     let n = words::word_at(t, 0);
@@ -80,7 +80,7 @@ pub fn split_deed<'a>(
     i: usize,
 ) -> Insert
     requires { ⌜ Fitting p (now file) (now buffer) ⌝ }
-    ensures { λ r. ⌜ asInsert r ≡ splitDeed (seen p current (now (file .entry)) (now (buffer .entry))) flag w i ⌝ }
+    ensures { λ r. ⌜ asInsert r ≡ splitDeed (atEntry p current file buffer) flag w i ⌝ }
 {
     let head = words::word_at(file, 1);
     let found = free::take_block(p, current, file, buffer, head, file[2]);
@@ -157,7 +157,7 @@ fn both_after<'a>(
     d: Taken,
 ) -> Insert
     requires { ⌜ Fitting p (now file) (now buffer) ⌝ }
-    ensures { λ r. ⌜ asInsert r ≡ bothAfter (seen p current (now (file .entry)) (now (buffer .entry))) flag w i d ⌝ }
+    ensures { λ r. ⌜ asInsert r ≡ bothAfter (atEntry p current file buffer) flag w i d ⌝ }
 {
     let used = words::word_at(file, 0);
     let found = free::take_block(p, current, file, buffer, d.head, d.lowest);
@@ -177,7 +177,7 @@ pub fn both_deed<'a>(
     i: usize,
 ) -> Insert
     requires { ⌜ Fitting p (now file) (now buffer) ⌝ }
-    ensures { λ r. ⌜ asInsert r ≡ bothDeed (seen p current (now (file .entry)) (now (buffer .entry))) flag w i ⌝ }
+    ensures { λ r. ⌜ asInsert r ≡ bothDeed (atEntry p current file buffer) flag w i ⌝ }
 {
     let head = words::word_at(file, 1);
     let found = free::take_block(p, current, file, buffer, head, file[2]);

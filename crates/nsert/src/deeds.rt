@@ -12,7 +12,7 @@ ghost use Prim.Native.Nat.{_≤_};
 ghost use lib.ListN.{length};
 ghost use Rattle.drum.specs.Blocks.{Fitting, seen};
 ghost use Rattle.rules.specs.NsertDone.{halfOf, insertDone};
-ghost use Rattle.rules.specs.Told.{gave, told};
+ghost use Rattle.rules.specs.Told.{Follows};
 ghost use Rattle.nsert.specs.Fits.{RoomFits, SplitFits, BothFits, InsertFits};
 
 // Of the two blocks of a split, the half with the record put in at place i of n.
@@ -38,8 +38,14 @@ fn store_room(
     i: usize,
     number: u32,
 ) -> Done
-    requires { ⌜ Fitting p (now file) (now buffer) × (length (now work) ≡ p .wpr) × RoomFits (seen p current (now file) (now buffer)) flag w i ⌝ }
-    ensures { λ r. ⌜ gave r (now (file .exit)) (now (buffer .exit)) (now (work .entry)) ≡ told (seen p current (now (file .entry)) (now (buffer .entry))) flag (now (work .entry)) (insertDone (seen p current (now (file .entry)) (now (buffer .entry))) flag (now (work .entry)) (Insert.Room w i number)) ⌝ }
+    requires { ⌜
+        Fitting p (now file) (now buffer)
+        × (length (now work) ≡ p .wpr)
+        × RoomFits (seen p current (now file) (now buffer)) flag w i
+        ⌝ }
+    ensures { λ r. ⌜
+        Follows r (λ v flag work. insertDone v flag work (Insert.Room w i number)) p current flag file buffer work
+        ⌝ }
 {
     let b = w.detail;
     let wrote = acts::bring(p, current, flag, file, buffer, b);
@@ -66,8 +72,14 @@ fn store_split(
     d: Taken,
     number: u32,
 ) -> Done
-    requires { ⌜ Fitting p (now file) (now buffer) × (length (now work) ≡ p .wpr) × SplitFits (seen p current (now file) (now buffer)) flag w i d ⌝ }
-    ensures { λ r. ⌜ gave r (now (file .exit)) (now (buffer .exit)) (now (work .entry)) ≡ told (seen p current (now (file .entry)) (now (buffer .entry))) flag (now (work .entry)) (insertDone (seen p current (now (file .entry)) (now (buffer .entry))) flag (now (work .entry)) (Insert.Split w i d number)) ⌝ }
+    requires { ⌜
+        Fitting p (now file) (now buffer)
+        × (length (now work) ≡ p .wpr)
+        × SplitFits (seen p current (now file) (now buffer)) flag w i d
+        ⌝ }
+    ensures { λ r. ⌜
+        Follows r (λ v flag work. insertDone v flag work (Insert.Split w i d number)) p current flag file buffer work
+        ⌝ }
 {
     let half = half_of(p.d(), i, w.detail, d.block);
     let wrote = write_split(p, current, flag, file, buffer, work, w, i, d);
@@ -88,8 +100,14 @@ fn store_both(
     x: Taken,
     number: u32,
 ) -> Done
-    requires { ⌜ Fitting p (now file) (now buffer) × (length (now work) ≡ p .wpr) × BothFits (seen p current (now file) (now buffer)) flag w i b x ⌝ }
-    ensures { λ r. ⌜ gave r (now (file .exit)) (now (buffer .exit)) (now (work .entry)) ≡ told (seen p current (now (file .entry)) (now (buffer .entry))) flag (now (work .entry)) (insertDone (seen p current (now (file .entry)) (now (buffer .entry))) flag (now (work .entry)) (Insert.Both w i b x number)) ⌝ }
+    requires { ⌜
+        Fitting p (now file) (now buffer)
+        × (length (now work) ≡ p .wpr)
+        × BothFits (seen p current (now file) (now buffer)) flag w i b x
+        ⌝ }
+    ensures { λ r. ⌜
+        Follows r (λ v flag work. insertDone v flag work (Insert.Both w i b x number)) p current flag file buffer work
+        ⌝ }
 {
     let half = half_of(p.d(), i, w.detail, b);
     let wrote = write_both(p, current, flag, file, buffer, work, w, i, b, x);
@@ -106,8 +124,12 @@ pub fn perform(
     buffer: &mut [u32],
     work: &[u32],
 ) -> Done
-    requires { ⌜ Fitting p (now file) (now buffer) × (length (now work) ≡ p .wpr) × InsertFits (seen p current (now file) (now buffer)) flag deed ⌝ }
-    ensures { λ r. ⌜ gave r (now (file .exit)) (now (buffer .exit)) (now (work .entry)) ≡ told (seen p current (now (file .entry)) (now (buffer .entry))) flag (now (work .entry)) (insertDone (seen p current (now (file .entry)) (now (buffer .entry))) flag (now (work .entry)) deed) ⌝ }
+    requires { ⌜
+        Fitting p (now file) (now buffer)
+        × (length (now work) ≡ p .wpr)
+        × InsertFits (seen p current (now file) (now buffer)) flag deed
+        ⌝ }
+    ensures { λ r. ⌜ Follows r (λ v flag work. insertDone v flag work deed) p current flag file buffer work ⌝ }
 {
     match deed {
         Insert::Bad => Done::refused(BAD_FILE, current, flag),

@@ -10,9 +10,9 @@ use plan::insert_deed;
 use rules::Done;
 ghost use mathlib.Core.Path.{_≡_};
 ghost use lib.ListN.{length};
-ghost use Rattle.drum.specs.Blocks.{Fitting, seen};
+ghost use Rattle.drum.specs.Blocks.{Fitting};
 ghost use Rattle.rules.specs.NsertDone.{nsertSteps};
-ghost use Rattle.rules.specs.Told.{gave, told};
+ghost use Rattle.rules.specs.Told.{Follows};
 
 // NSERT of the record in the workspace.
 pub fn nsert(
@@ -24,7 +24,7 @@ pub fn nsert(
     work: &[u32],
 ) -> Done
     requires { ⌜ Fitting p (now file) (now buffer) × (length (now work) ≡ p .wpr) ⌝ }
-    ensures { λ r. ⌜ gave r (now (file .exit)) (now (buffer .exit)) (now (work .entry)) ≡ told (seen p current (now (file .entry)) (now (buffer .entry))) flag (now (work .entry)) (nsertSteps (seen p current (now (file .entry)) (now (buffer .entry))) flag (now (work .entry))) ⌝ }
+    ensures { λ r. ⌜ Follows r nsertSteps p current flag file buffer work ⌝ }
 {
     let deed = insert_deed(p, current, flag, file, buffer, work);
     perform(deed, p, current, flag, file, buffer, work)

@@ -14,10 +14,11 @@ ghost use lib.ListN.{length};
 ghost use Rattle.words.specs.Words.{part};
 ghost use Rattle.table.specs.Tables.{rowAbove};
 ghost use Rattle.drum.specs.Params.{detailShape};
-ghost use Rattle.drum.specs.Blocks.{Fitting, seen, textOf};
+ghost use Rattle.drum.specs.Blocks.{Fitting, seen, textOf, atEntry};
 ghost use Rattle.rules.specs.Fits.{PathFits, LookFits};
 ghost use Rattle.rules.specs.Nsert.{insertAt, insertAfter, insertDeed};
 ghost use Rattle.nsert.specs.Answers.{asInsert};
+ghost use Rattle.words.specs.Slices.{was};
 
 // The record goes to place i of the block at the end of the way.
 fn insert_at<'a>(
@@ -30,7 +31,7 @@ fn insert_at<'a>(
     i: usize,
 ) -> Insert
     requires { ⌜ Fitting p (now file) (now buffer) × PathFits (seen p current (now file) (now buffer)) w ⌝ }
-    ensures { λ r. ⌜ asInsert r ≡ insertAt (seen p current (now (file .entry)) (now (buffer .entry))) flag w i ⌝ }
+    ensures { λ r. ⌜ asInsert r ≡ insertAt (atEntry p current file buffer) flag w i ⌝ }
 {
     let detail = drum::text_of(p, current, file, buffer, w.detail);
     if words::word_at(detail, 0) < p.d() {
@@ -52,8 +53,14 @@ fn place_of<'a>(
     key: &[u32],
     w: Path,
 ) -> usize
-    requires { ⌜ Fitting p (now file) (now buffer) × (p .k ≤ length (now key)) × PathFits (seen p current (now file) (now buffer)) w ⌝ }
-    ensures { λ r. ⌜ r ≡ rowAbove (detailShape p) (part 0 (p .k) (now (key .entry))) (textOf (seen p current (now (file .entry)) (now (buffer .entry))) (w .detail)) ⌝ }
+    requires { ⌜
+        Fitting p (now file) (now buffer)
+        × (p .k ≤ length (now key))
+        × PathFits (seen p current (now file) (now buffer)) w
+        ⌝ }
+    ensures { λ r. ⌜
+        r ≡ rowAbove (detailShape p) (part 0 (p .k) (was key)) (textOf (atEntry p current file buffer) (w .detail))
+        ⌝ }
 {
     let t = drum::text_of(p, current, file, buffer, w.detail);
     let n = words::word_at(t, 0);
@@ -70,8 +77,12 @@ fn insert_after<'a>(
     key: &[u32],
     found: Look,
 ) -> Insert
-    requires { ⌜ Fitting p (now file) (now buffer) × (p .k ≤ length (now key)) × LookFits (seen p current (now file) (now buffer)) flag found ⌝ }
-    ensures { λ r. ⌜ asInsert r ≡ insertAfter (seen p current (now (file .entry)) (now (buffer .entry))) flag (part 0 (p .k) (now (key .entry))) found ⌝ }
+    requires { ⌜
+        Fitting p (now file) (now buffer)
+        × (p .k ≤ length (now key))
+        × LookFits (seen p current (now file) (now buffer)) flag found
+        ⌝ }
+    ensures { λ r. ⌜ asInsert r ≡ insertAfter (atEntry p current file buffer) flag (part 0 (p .k) (was key)) found ⌝ }
 {
     match found {
         Look::Bad => Insert::Bad,
@@ -93,7 +104,7 @@ pub fn insert_deed<'a>(
     key: &[u32],
 ) -> Insert
     requires { ⌜ Fitting p (now file) (now buffer) × (p .k ≤ length (now key)) ⌝ }
-    ensures { λ r. ⌜ asInsert r ≡ insertDeed (seen p current (now (file .entry)) (now (buffer .entry))) flag (part 0 (p .k) (now (key .entry))) ⌝ }
+    ensures { λ r. ⌜ asInsert r ≡ insertDeed (atEntry p current file buffer) flag (part 0 (p .k) (was key)) ⌝ }
 {
     let found = lookup::look(p, current, flag, file, buffer, key);
     insert_after(p, current, flag, file, buffer, key, found)

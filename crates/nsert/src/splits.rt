@@ -7,13 +7,14 @@ ghost use Prim.Native.Nat.{_+_, _≤_, _<_};
 ghost use lib.ListN.{length};
 ghost use Rattle.words.specs.Words.{part};
 ghost use Rattle.drum.specs.Params.{I};
-ghost use Rattle.drum.specs.Blocks.{Fitting, Block, seen, textOf, sections};
+ghost use Rattle.drum.specs.Blocks.{Fitting, Block, seen, textOf, sections, atEntry};
 ghost use Rattle.rules.specs.Fits.{PathFits, FlushFits};
 ghost use Rattle.rules.specs.Lookup.{flushMoves};
 ghost use Rattle.rules.specs.NsertDone.{detailEntry, splitFile, bothFile};
 ghost use Rattle.rules.specs.State.{recordIn};
 ghost use Rattle.nsert.specs.Fits.{CutFits, SplitFits, BothFits};
 ghost use Rattle.nsert.specs.Steps.{readyFile, cutFile, aboveFile};
+ghost use Rattle.words.specs.Slices.{was, became};
 
 // Before a split: words 1 and 2 of the master set, the buffer written if it is flagged, the index block's current text in the file, and
 // the detail block's in the buffer.
@@ -27,8 +28,17 @@ fn prepare(
     head: usize,
     lowest: u32,
 ) -> usize
-    requires { ⌜ Fitting p (now file) (now buffer) × FlushFits (seen p current (now file) (now buffer)) flag × PathFits (seen p current (now file) (now buffer)) w × (head ≤ p .n) ⌝ }
-    ensures { λ r. ⌜ (r ≡ length (flushMoves (seen p current (now (file .entry)) (now (buffer .entry))) flag)) × (now (file .exit) ≡ readyFile (seen p current (now (file .entry)) (now (buffer .entry))) flag w head lowest) × (now (buffer .exit) ≡ textOf (seen p current (now (file .entry)) (now (buffer .entry))) (w .detail)) ⌝ }
+    requires { ⌜
+        Fitting p (now file) (now buffer)
+        × FlushFits (seen p current (now file) (now buffer)) flag
+        × PathFits (seen p current (now file) (now buffer)) w
+        × (head ≤ p .n)
+        ⌝ }
+    ensures { λ r. ⌜
+        (r ≡ length (flushMoves (atEntry p current file buffer) flag))
+        × (became file ≡ readyFile (atEntry p current file buffer) flag w head lowest)
+        × (became buffer ≡ textOf (atEntry p current file buffer) (w .detail))
+        ⌝ }
 {
     acts::set_free(file, head, lowest);
     let wrote = acts::flush(p, current, flag, file, buffer);
@@ -50,8 +60,17 @@ fn cut(
     d: Taken,
     entry: &mut [u32],
 ) -> usize
-    requires { ⌜ Fitting p (now file) (now buffer) × (length (now work) ≡ p .wpr) × CutFits (seen p current (now file) (now buffer)) flag w i d × (p .k + 1 ≤ length (now entry)) ⌝ }
-    ensures { λ r. ⌜ (r ≡ length (flushMoves (seen p current (now (file .entry)) (now (buffer .entry))) flag)) × (now (file .exit) ≡ cutFile (seen p current (now (file .entry)) (now (buffer .entry))) flag w i (recordIn p (now (work .entry))) d) × (part 0 (p .k + 1) (now (entry .exit)) ≡ detailEntry (seen p current (now (file .entry)) (now (buffer .entry))) w i (recordIn p (now (work .entry)))) ⌝ }
+    requires { ⌜
+        Fitting p (now file) (now buffer)
+        × (length (now work) ≡ p .wpr)
+        × CutFits (seen p current (now file) (now buffer)) flag w i d
+        × (p .k + 1 ≤ length (now entry))
+        ⌝ }
+    ensures { λ r. ⌜
+        (r ≡ length (flushMoves (atEntry p current file buffer) flag))
+        × (became file ≡ cutFile (atEntry p current file buffer) flag w i (recordIn p (was work)) d)
+        × (part 0 (p .k + 1) (became entry) ≡ detailEntry (atEntry p current file buffer) w i (recordIn p (was work)))
+        ⌝ }
 {
     let h = p.detail_shape();
     let n = p.d();
@@ -72,8 +91,15 @@ pub fn write_split(
     i: usize,
     d: Taken,
 ) -> usize
-    requires { ⌜ Fitting p (now file) (now buffer) × (length (now work) ≡ p .wpr) × SplitFits (seen p current (now file) (now buffer)) flag w i d ⌝ }
-    ensures { λ r. ⌜ (r ≡ length (flushMoves (seen p current (now (file .entry)) (now (buffer .entry))) flag)) × (now (file .exit) ≡ splitFile (seen p current (now (file .entry)) (now (buffer .entry))) flag w i (recordIn p (now (work .entry))) d) ⌝ }
+    requires { ⌜
+        Fitting p (now file) (now buffer)
+        × (length (now work) ≡ p .wpr)
+        × SplitFits (seen p current (now file) (now buffer)) flag w i d
+        ⌝ }
+    ensures { λ r. ⌜
+        (r ≡ length (flushMoves (atEntry p current file buffer) flag))
+        × (became file ≡ splitFile (atEntry p current file buffer) flag w i (recordIn p (was work)) d)
+        ⌝ }
 {
     let mut entry = [0u32; 64];
     let h = p.index_shape();
@@ -93,8 +119,18 @@ fn write_above(
     b: usize,
     x: usize,
 )
-    requires { ⌜ Fitting p (now file) (now buffer) × Block p (w .index) × Block p x × (w .index ≡ x → ⊥) × (w .entry < I p) × (p .k + 1 ≤ length (now entry)) × (b ≤ p .n) × (w .section < sections (now file)) × (sections (now file) < p .control) ⌝ }
-    ensures { λ _. ⌜ now (file .exit) ≡ aboveFile p w (part 0 (p .k + 1) (now (entry .entry))) b x (now (file .entry)) ⌝ }
+    requires { ⌜
+        Fitting p (now file) (now buffer)
+        × Block p (w .index)
+        × Block p x
+        × (w .index ≡ x → ⊥)
+        × (w .entry < I p)
+        × (p .k + 1 ≤ length (now entry))
+        × (b ≤ p .n)
+        × (w .section < sections (now file))
+        × (sections (now file) < p .control)
+        ⌝ }
+    ensures { λ _. ⌜ became file ≡ aboveFile p w (part 0 (p .k + 1) (was entry)) b x (was file) ⌝ }
 {
     let mut above = [0u32; 64];
     let h = p.index_shape();
@@ -128,8 +164,15 @@ pub fn write_both(
     b: usize,
     x: Taken,
 ) -> usize
-    requires { ⌜ Fitting p (now file) (now buffer) × (length (now work) ≡ p .wpr) × BothFits (seen p current (now file) (now buffer)) flag w i b x ⌝ }
-    ensures { λ r. ⌜ (r ≡ length (flushMoves (seen p current (now (file .entry)) (now (buffer .entry))) flag)) × (now (file .exit) ≡ bothFile (seen p current (now (file .entry)) (now (buffer .entry))) flag w i (recordIn p (now (work .entry))) b x) ⌝ }
+    requires { ⌜
+        Fitting p (now file) (now buffer)
+        × (length (now work) ≡ p .wpr)
+        × BothFits (seen p current (now file) (now buffer)) flag w i b x
+        ⌝ }
+    ensures { λ r. ⌜
+        (r ≡ length (flushMoves (atEntry p current file buffer) flag))
+        × (became file ≡ bothFile (atEntry p current file buffer) flag w i (recordIn p (was work)) b x)
+        ⌝ }
 {
     let mut entry = [0u32; 64];
     let d = Taken {

@@ -11,7 +11,7 @@ ghost use lib.ListN.{length};
 ghost use Rattle.drum.specs.Blocks.{Fitting, seen};
 ghost use Rattle.rules.specs.Fits.{LookFits};
 ghost use Rattle.rules.specs.Seek.{seekDone, seekSteps, updatDone, updatSteps};
-ghost use Rattle.rules.specs.Told.{gave, told};
+ghost use Rattle.rules.specs.Told.{Follows};
 
 // SEEK, once the key is looked up.
 fn act_seek(
@@ -23,8 +23,12 @@ fn act_seek(
     buffer: &mut [u32],
     work: &mut [u32],
 ) -> Done
-    requires { ⌜ Fitting p (now file) (now buffer) × (length (now work) ≡ p .wpr) × LookFits (seen p current (now file) (now buffer)) flag l ⌝ }
-    ensures { λ r. ⌜ gave r (now (file .exit)) (now (buffer .exit)) (now (work .exit)) ≡ told (seen p current (now (file .entry)) (now (buffer .entry))) flag (now (work .entry)) (seekDone (seen p current (now (file .entry)) (now (buffer .entry))) flag (now (work .entry)) l) ⌝ }
+    requires { ⌜
+        Fitting p (now file) (now buffer)
+        × (length (now work) ≡ p .wpr)
+        × LookFits (seen p current (now file) (now buffer)) flag l
+        ⌝ }
+    ensures { λ r. ⌜ Follows r (λ v flag work. seekDone v flag work l) p current flag file buffer work ⌝ }
 {
     match l {
         Look::Bad => Done::refused(BAD_FILE, current, flag),
@@ -53,7 +57,7 @@ pub fn seek(
     work: &mut [u32],
 ) -> Done
     requires { ⌜ Fitting p (now file) (now buffer) × (length (now work) ≡ p .wpr) ⌝ }
-    ensures { λ r. ⌜ gave r (now (file .exit)) (now (buffer .exit)) (now (work .exit)) ≡ told (seen p current (now (file .entry)) (now (buffer .entry))) flag (now (work .entry)) (seekSteps (seen p current (now (file .entry)) (now (buffer .entry))) flag (now (work .entry))) ⌝ }
+    ensures { λ r. ⌜ Follows r seekSteps p current flag file buffer work ⌝ }
 {
     let l = lookup::look(p, current, flag, file, buffer, work);
     act_seek(l, p, current, flag, file, buffer, work)
@@ -69,8 +73,12 @@ fn act_updat(
     buffer: &mut [u32],
     work: &[u32],
 ) -> Done
-    requires { ⌜ Fitting p (now file) (now buffer) × (length (now work) ≡ p .wpr) × LookFits (seen p current (now file) (now buffer)) flag l ⌝ }
-    ensures { λ r. ⌜ gave r (now (file .exit)) (now (buffer .exit)) (now (work .entry)) ≡ told (seen p current (now (file .entry)) (now (buffer .entry))) flag (now (work .entry)) (updatDone (seen p current (now (file .entry)) (now (buffer .entry))) flag (now (work .entry)) l) ⌝ }
+    requires { ⌜
+        Fitting p (now file) (now buffer)
+        × (length (now work) ≡ p .wpr)
+        × LookFits (seen p current (now file) (now buffer)) flag l
+        ⌝ }
+    ensures { λ r. ⌜ Follows r (λ v flag work. updatDone v flag work l) p current flag file buffer work ⌝ }
 {
     match l {
         Look::Bad => Done::refused(BAD_FILE, current, flag),
@@ -99,7 +107,7 @@ pub fn updat(
     work: &[u32],
 ) -> Done
     requires { ⌜ Fitting p (now file) (now buffer) × (length (now work) ≡ p .wpr) ⌝ }
-    ensures { λ r. ⌜ gave r (now (file .exit)) (now (buffer .exit)) (now (work .entry)) ≡ told (seen p current (now (file .entry)) (now (buffer .entry))) flag (now (work .entry)) (updatSteps (seen p current (now (file .entry)) (now (buffer .entry))) flag (now (work .entry))) ⌝ }
+    ensures { λ r. ⌜ Follows r updatSteps p current flag file buffer work ⌝ }
 {
     let l = lookup::look(p, current, flag, file, buffer, work);
     act_updat(l, p, current, flag, file, buffer, work)

@@ -21,6 +21,7 @@ pub record Full (p : Description) (h : Shape) (n i : ℕ) : Type 0 where
 abbrev pub staying : ℕ → Shape → ℕ → ℕ → ℕ → List ℕ → List ℕ → List ℕ
 staying w h n low i r t = laid w low (take (low * h .stride) (oneMore h n i r t))
 
+-- the words of the upper half [C12]
 abbrev pub leaving : ℕ → Shape → ℕ → ℕ → ℕ → List ℕ → List ℕ → List ℕ
 leaving w h n low i r t = laid w (n + 1 - low) (drop (low * h .stride) (oneMore h n i r t))
 
@@ -28,5 +29,6 @@ leaving w h n low i r t = laid w (n + 1 - low) (drop (low * h .stride) (oneMore 
 abbrev pub halved : Description → Shape → ℕ → ℕ → List ℕ → List ℕ → ℕ → ℕ → List ℕ → List ℕ
 halved p h n i r t old new f = putBlock p (putBlock p f old (lowText (p .wpb) h n i r t)) new (highText (p .wpb) h n i r t)
 
+-- the entry of the half that stays [C13]
 abbrev pub lowEntry : Description → Shape → ℕ → ℕ → List ℕ → List ℕ → ℕ → List ℕ
 lowEntry p h n i r t old = lowBound h n (lowText (p .wpb) h n i r t) ++ (old ∷ [])

@@ -13,6 +13,7 @@ ghost use Rattle.table.specs.Splits.{lowCount, renamed, entered};
 ghost use Rattle.drum.specs.Params.{goodParams, fileSize};
 ghost use Rattle.drum.specs.Blocks.{Fitting, Block, blockAt, putBlock};
 ghost use Rattle.split.specs.Halves.{Full, staying, leaving, halved, lowEntry};
+ghost use Rattle.words.specs.Slices.{was, became};
 
 // Of n rows and one more, how many stay in the old block.
 pub fn low_count(n: usize) -> usize
@@ -25,7 +26,7 @@ pub fn low_count(n: usize) -> usize
 // Keeps the first n words of a block's rows, under this count; the others become 0.
 fn keep(t: &mut [u32], count: usize, n: usize)
     requires { ⌜ (1 + n ≤ length (now t)) × (count ≤ 262143) ⌝ }
-    ensures { λ _. ⌜ now (t .exit) ≡ laid (length (now (t .entry))) count (part 1 n (now (t .entry))) ⌝ }
+    ensures { λ _. ⌜ became t ≡ laid (length (was t)) count (part 1 n (was t)) ⌝ }
 {
     let rest = t.len() - 1 - n;
     words::zero_words(t, 1 + n, rest);
@@ -35,7 +36,7 @@ fn keep(t: &mut [u32], count: usize, n: usize)
 // Makes an entry: a key of k words at word `at` of t, and a block's number.
 fn make_entry(entry: &mut [u32], t: &[u32], at: usize, k: usize, b: usize)
     requires { ⌜ (k + 1 ≤ length (now entry)) × (at + k ≤ length (now t)) × (b ≤ 262143) ⌝ }
-    ensures { λ _. ⌜ part 0 (k + 1) (now (entry .exit)) ≡ part at k (now (t .entry)) ++ (b ∷ []) ⌝ }
+    ensures { λ _. ⌜ part 0 (k + 1) (became entry) ≡ part at k (was t) ++ (b ∷ []) ⌝ }
 {
     words::copy_words(entry, 0, t, at, k);
     words::put_word(entry, k, b);
@@ -44,7 +45,7 @@ fn make_entry(entry: &mut [u32], t: &[u32], at: usize, k: usize, b: usize)
 // Lets entry i of a table name block b.
 fn rename(h: Shape, t: &mut [u32], i: usize, b: usize)
     requires { ⌜ (place h i + h .width < length (now t)) × (b ≤ 262143) ⌝ }
-    ensures { λ _. ⌜ now (t .exit) ≡ renamed h i b (now (t .entry)) ⌝ }
+    ensures { λ _. ⌜ became t ≡ renamed h i b (was t) ⌝ }
 {
     let at = h.base + i * h.stride + h.width;
     words::put_word(t, at, b);
@@ -52,8 +53,16 @@ fn rename(h: Shape, t: &mut [u32], i: usize, b: usize)
 
 // Lets entry i of a table that has room become two: the entry given, and after it the old one, which names block b.
 pub fn enter(h: Shape, t: &mut [u32], i: usize, entry: &[u32], b: usize)
-    requires { ⌜ (1 ≤ h .base) × (h .width < h .stride) × (place h (count (now t)) + h .stride ≤ length (now t)) × (i < count (now t)) × (count (now t) < 262143) × (h .stride ≤ length (now entry)) × (b ≤ 262143) ⌝ }
-    ensures { λ _. ⌜ now (t .exit) ≡ entered h i (part 0 (h .stride) (now (entry .entry))) b (now (t .entry)) ⌝ }
+    requires { ⌜
+        (1 ≤ h .base)
+        × (h .width < h .stride)
+        × (place h (count (now t)) + h .stride ≤ length (now t))
+        × (i < count (now t))
+        × (count (now t) < 262143)
+        × (h .stride ≤ length (now entry))
+        × (b ≤ 262143)
+        ⌝ }
+    ensures { λ _. ⌜ became t ≡ entered h i (part 0 (h .stride) (was entry)) b (was t) ⌝ }
 {
     rename(h, t, i, b);
     table::insert_row(h, t, i, entry, 0);
@@ -69,8 +78,22 @@ pub fn enter_in(
     entry: &[u32],
     b: usize,
 )
-    requires { ⌜ (goodParams p ≡ true) × (length (now file) ≡ fileSize p) × Block p x × (1 ≤ h .base) × (h .width < h .stride) × (place h (count (blockAt p (now file) x)) + h .stride ≤ p .wpb) × (i < count (blockAt p (now file) x)) × (count (blockAt p (now file) x) < 262143) × (h .stride ≤ length (now entry)) × (b ≤ 262143) ⌝ }
-    ensures { λ _. ⌜ now (file .exit) ≡ putBlock p (now (file .entry)) x (entered h i (part 0 (h .stride) (now (entry .entry))) b (blockAt p (now (file .entry)) x)) ⌝ }
+    requires { ⌜
+        (goodParams p ≡ true)
+        × (length (now file) ≡ fileSize p)
+        × Block p x
+        × (1 ≤ h .base)
+        × (h .width < h .stride)
+        × (place h (count (blockAt p (now file) x)) + h .stride ≤ p .wpb)
+        × (i < count (blockAt p (now file) x))
+        × (count (blockAt p (now file) x) < 262143)
+        × (h .stride ≤ length (now entry))
+        × (b ≤ 262143)
+        ⌝ }
+    ensures { λ _. ⌜
+        became file
+        ≡ putBlock p (was file) x (entered h i (part 0 (h .stride) (was entry)) b (blockAt p (was file) x))
+        ⌝ }
 {
     let start = p.start(x);
     let end = start + p.wpb;
@@ -89,8 +112,19 @@ fn keep_row(
     i: usize,
     row: &[u32],
 )
-    requires { ⌜ Fitting p (now file) (now buffer) × Block p new × Full p h n i × (h .stride ≤ length (now row)) × (low ≤ n) × (i < low) ⌝ }
-    ensures { λ _. ⌜ (now (file .exit) ≡ putBlock p (now (file .entry)) new (leaving (p .wpb) h n low i (part 0 (h .stride) (now (row .entry))) (now (buffer .entry)))) × (now (buffer .exit) ≡ staying (p .wpb) h n low i (part 0 (h .stride) (now (row .entry))) (now (buffer .entry))) ⌝ }
+    requires { ⌜
+        Fitting p (now file) (now buffer)
+        × Block p new
+        × Full p h n i
+        × (h .stride ≤ length (now row))
+        × (low ≤ n)
+        × (i < low)
+        ⌝ }
+    ensures { λ _. ⌜
+        (became file
+        ≡ putBlock p (was file) new (leaving (p .wpb) h n low i (part 0 (h .stride) (was row)) (was buffer)))
+        × (became buffer ≡ staying (p .wpb) h n low i (part 0 (h .stride) (was row)) (was buffer))
+        ⌝ }
 {
     let stride = h.stride;
     let kept = (low - 1) * stride;
@@ -119,8 +153,19 @@ fn send_row(
     i: usize,
     row: &[u32],
 )
-    requires { ⌜ Fitting p (now file) (now buffer) × Block p new × Full p h n i × (h .stride ≤ length (now row)) × (1 ≤ low) × (low ≤ i) ⌝ }
-    ensures { λ _. ⌜ (now (file .exit) ≡ putBlock p (now (file .entry)) new (leaving (p .wpb) h n low i (part 0 (h .stride) (now (row .entry))) (now (buffer .entry)))) × (now (buffer .exit) ≡ staying (p .wpb) h n low i (part 0 (h .stride) (now (row .entry))) (now (buffer .entry))) ⌝ }
+    requires { ⌜
+        Fitting p (now file) (now buffer)
+        × Block p new
+        × Full p h n i
+        × (h .stride ≤ length (now row))
+        × (1 ≤ low)
+        × (low ≤ i)
+        ⌝ }
+    ensures { λ _. ⌜
+        (became file
+        ≡ putBlock p (was file) new (leaving (p .wpb) h n low i (part 0 (h .stride) (was row)) (was buffer)))
+        × (became buffer ≡ staying (p .wpb) h n low i (part 0 (h .stride) (was row)) (was buffer))
+        ⌝ }
 {
     let stride = h.stride;
     let kept = low * stride;
@@ -141,8 +186,19 @@ fn share_rows(
     i: usize,
     row: &[u32],
 )
-    requires { ⌜ Fitting p (now file) (now buffer) × Block p new × Full p h n i × (h .stride ≤ length (now row)) × (1 ≤ low) × (low ≤ n) ⌝ }
-    ensures { λ _. ⌜ (now (file .exit) ≡ putBlock p (now (file .entry)) new (leaving (p .wpb) h n low i (part 0 (h .stride) (now (row .entry))) (now (buffer .entry)))) × (now (buffer .exit) ≡ staying (p .wpb) h n low i (part 0 (h .stride) (now (row .entry))) (now (buffer .entry))) ⌝ }
+    requires { ⌜
+        Fitting p (now file) (now buffer)
+        × Block p new
+        × Full p h n i
+        × (h .stride ≤ length (now row))
+        × (1 ≤ low)
+        × (low ≤ n)
+        ⌝ }
+    ensures { λ _. ⌜
+        (became file
+        ≡ putBlock p (was file) new (leaving (p .wpb) h n low i (part 0 (h .stride) (was row)) (was buffer)))
+        × (became buffer ≡ staying (p .wpb) h n low i (part 0 (h .stride) (was row)) (was buffer))
+        ⌝ }
 {
     if i < low {
         keep_row(p, h, file, buffer, new, n, low, i, row);
@@ -165,8 +221,20 @@ pub fn divide(
     i: usize,
     row: &[u32],
 )
-    requires { ⌜ Fitting p (now file) (now buffer) × Block p old × Block p new × (old ≡ new → ⊥) × Full p h n i × (h .width ≤ h .stride) × (h .stride ≤ length (now row)) × (h .width + 1 ≤ length (now entry)) ⌝ }
-    ensures { λ _. ⌜ (now (file .exit) ≡ halved p h n i (part 0 (h .stride) (now (row .entry))) (now (buffer .entry)) old new (now (file .entry))) × (part 0 (h .width + 1) (now (entry .exit)) ≡ lowEntry p h n i (part 0 (h .stride) (now (row .entry))) (now (buffer .entry)) old) ⌝ }
+    requires { ⌜
+        Fitting p (now file) (now buffer)
+        × Block p old
+        × Block p new
+        × (old ≡ new → ⊥)
+        × Full p h n i
+        × (h .width ≤ h .stride)
+        × (h .stride ≤ length (now row))
+        × (h .width + 1 ≤ length (now entry))
+        ⌝ }
+    ensures { λ _. ⌜
+        (became file ≡ halved p h n i (part 0 (h .stride) (was row)) (was buffer) old new (was file))
+        × (part 0 (h .width + 1) (became entry) ≡ lowEntry p h n i (part 0 (h .stride) (was row)) (was buffer) old)
+        ⌝ }
 {
     let low = low_count(n);
     share_rows(p, h, file, buffer, new, n, low, i, row);
@@ -188,8 +256,25 @@ pub fn divide_in(
     entry: &[u32],
     b: usize,
 )
-    requires { ⌜ Fitting p (now file) (now buffer) × Block p old × Block p new × (old ≡ new → ⊥) × Full p h n i × (i < n) × (h .width < h .stride) × (h .stride ≤ length (now entry)) × (h .width + 1 ≤ length (now above)) × (b ≤ 262143) ⌝ }
-    ensures { λ _. ⌜ (now (file .exit) ≡ halved p h n i (part 0 (h .stride) (now (entry .entry))) (renamed h i b (blockAt p (now (file .entry)) old)) old new (now (file .entry))) × (part 0 (h .width + 1) (now (above .exit)) ≡ lowEntry p h n i (part 0 (h .stride) (now (entry .entry))) (renamed h i b (blockAt p (now (file .entry)) old)) old) ⌝ }
+    requires { ⌜
+        Fitting p (now file) (now buffer)
+        × Block p old
+        × Block p new
+        × (old ≡ new → ⊥)
+        × Full p h n i
+        × (i < n)
+        × (h .width < h .stride)
+        × (h .stride ≤ length (now entry))
+        × (h .width + 1 ≤ length (now above))
+        × (b ≤ 262143)
+        ⌝ }
+    ensures { λ _. ⌜
+        (became file
+        ≡ halved p h n i (part 0 (h .stride) (was entry)) (renamed h i b (blockAt p (was file) old)) old new
+        (was file))
+        × (part 0 (h .width + 1) (became above)
+        ≡ lowEntry p h n i (part 0 (h .stride) (was entry)) (renamed h i b (blockAt p (was file) old)) old)
+        ⌝ }
 {
     drum::read_block(p, file, buffer, old);
     rename(h, buffer, i, b);

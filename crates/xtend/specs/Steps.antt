@@ -29,6 +29,7 @@ swapped p b old work t f =
     putBlock p (putBlock p f b (laid (p .wpb) 1 (row (detailShape p) t (count t - 1)))) old
     (replaced (detailShape p) (count t - 1) (recordIn p work) t)
 
+-- the file with the new block laid [C27]
 unfoldable pub startedFile : Texts → Bool → Way → Path → List ℕ → ℕ → ℕ → ℕ → List ℕ
 startedFile v flag way w work b head lowest = swapped (v .desc) b (w .detail) work (textAt v way) (readyFile v flag way w head lowest)
 

@@ -14,11 +14,12 @@ use rules::Way;
 ghost use mathlib.Core.Path.{_≡_};
 ghost use mathlib.Core.List.{_++_};
 ghost use lib.ListN.{length};
-ghost use Rattle.drum.specs.Blocks.{Fitting, seen};
+ghost use Rattle.drum.specs.Blocks.{Fitting, seen, atEntry};
 ghost use Rattle.rules.specs.Lookup.{reached};
-ghost use Rattle.rules.specs.Told.{gave, told};
+ghost use Rattle.rules.specs.Told.{Follows};
 ghost use Rattle.rules.specs.XtendDone.{newMoves, bothMoves, newFile, bothFile, extendDone};
 ghost use Rattle.xtend_plan.specs.Fits.{NewFits, BothFits, ExtendFits};
+ghost use Rattle.words.specs.Slices.{was, became};
 
 // All that is stored in the file for a new block whose index block has room.
 fn write_new(
@@ -32,8 +33,17 @@ fn write_new(
     w: Path,
     d: Taken,
 ) -> usize
-    requires { ⌜ Fitting p (now file) (now buffer) × (length (now work) ≡ p .wpr) × NewFits (seen p current (now file) (now buffer)) flag way w d ⌝ }
-    ensures { λ r. ⌜ (r ≡ length (reached (seen p current (now (file .entry)) (now (buffer .entry))) flag way .moves ++ newMoves (seen p current (now (file .entry)) (now (buffer .entry))) way w (now (work .entry)) (d .block))) × (now (file .exit) ≡ newFile (seen p current (now (file .entry)) (now (buffer .entry))) flag way w (now (work .entry)) d) ⌝ }
+    requires { ⌜
+        Fitting p (now file) (now buffer)
+        × (length (now work) ≡ p .wpr)
+        × NewFits (seen p current (now file) (now buffer)) flag way w d
+        ⌝ }
+    ensures { λ r. ⌜
+        (r
+        ≡ length
+        (reached (atEntry p current file buffer) flag way .moves ++ newMoves (atEntry p current file buffer) way w (was work) (d .block)))
+        × (became file ≡ newFile (atEntry p current file buffer) flag way w (was work) d)
+        ⌝ }
 {
     let b = d.block;
     let moved = start_block(
@@ -66,8 +76,17 @@ fn write_both(
     b: usize,
     x: Taken,
 ) -> usize
-    requires { ⌜ Fitting p (now file) (now buffer) × (length (now work) ≡ p .wpr) × BothFits (seen p current (now file) (now buffer)) flag way w b x ⌝ }
-    ensures { λ r. ⌜ (r ≡ length (reached (seen p current (now (file .entry)) (now (buffer .entry))) flag way .moves ++ bothMoves (seen p current (now (file .entry)) (now (buffer .entry))) way w (now (work .entry)) b (x .block))) × (now (file .exit) ≡ bothFile (seen p current (now (file .entry)) (now (buffer .entry))) flag way w (now (work .entry)) b x) ⌝ }
+    requires { ⌜
+        Fitting p (now file) (now buffer)
+        × (length (now work) ≡ p .wpr)
+        × BothFits (seen p current (now file) (now buffer)) flag way w b x
+        ⌝ }
+    ensures { λ r. ⌜
+        (r
+        ≡ length
+        (reached (atEntry p current file buffer) flag way .moves ++ bothMoves (atEntry p current file buffer) way w (was work) b (x .block)))
+        × (became file ≡ bothFile (atEntry p current file buffer) flag way w (was work) b x)
+        ⌝ }
 {
     let moved = start_block(
         p,
@@ -99,8 +118,14 @@ fn store_new(
     d: Taken,
     number: u32,
 ) -> Done
-    requires { ⌜ Fitting p (now file) (now buffer) × (length (now work) ≡ p .wpr) × NewFits (seen p current (now file) (now buffer)) flag way w d ⌝ }
-    ensures { λ r. ⌜ gave r (now (file .exit)) (now (buffer .exit)) (now (work .entry)) ≡ told (seen p current (now (file .entry)) (now (buffer .entry))) flag (now (work .entry)) (extendDone (seen p current (now (file .entry)) (now (buffer .entry))) flag (now (work .entry)) (Extend.New way w d number)) ⌝ }
+    requires { ⌜
+        Fitting p (now file) (now buffer)
+        × (length (now work) ≡ p .wpr)
+        × NewFits (seen p current (now file) (now buffer)) flag way w d
+        ⌝ }
+    ensures { λ r. ⌜
+        Follows r (λ v flag work. extendDone v flag work (Extend.New way w d number)) p current flag file buffer work
+        ⌝ }
 {
     let b = d.block;
     let transfers = write_new(p, current, flag, file, buffer, work, way, w, d);
@@ -121,8 +146,15 @@ fn store_both(
     x: Taken,
     number: u32,
 ) -> Done
-    requires { ⌜ Fitting p (now file) (now buffer) × (length (now work) ≡ p .wpr) × BothFits (seen p current (now file) (now buffer)) flag way w b x ⌝ }
-    ensures { λ r. ⌜ gave r (now (file .exit)) (now (buffer .exit)) (now (work .entry)) ≡ told (seen p current (now (file .entry)) (now (buffer .entry))) flag (now (work .entry)) (extendDone (seen p current (now (file .entry)) (now (buffer .entry))) flag (now (work .entry)) (Extend.Both way w b x number)) ⌝ }
+    requires { ⌜
+        Fitting p (now file) (now buffer)
+        × (length (now work) ≡ p .wpr)
+        × BothFits (seen p current (now file) (now buffer)) flag way w b x
+        ⌝ }
+    ensures { λ r. ⌜
+        Follows r (λ v flag work. extendDone v flag work (Extend.Both way w b x number)) p current flag file buffer
+        work
+        ⌝ }
 {
     let transfers = write_both(p, current, flag, file, buffer, work, way, w, b, x);
     acts::land(p, file, buffer, b, number, transfers)
@@ -138,8 +170,12 @@ pub fn perform(
     buffer: &mut [u32],
     work: &[u32],
 ) -> Done
-    requires { ⌜ Fitting p (now file) (now buffer) × (length (now work) ≡ p .wpr) × ExtendFits (seen p current (now file) (now buffer)) flag deed ⌝ }
-    ensures { λ r. ⌜ gave r (now (file .exit)) (now (buffer .exit)) (now (work .entry)) ≡ told (seen p current (now (file .entry)) (now (buffer .entry))) flag (now (work .entry)) (extendDone (seen p current (now (file .entry)) (now (buffer .entry))) flag (now (work .entry)) deed) ⌝ }
+    requires { ⌜
+        Fitting p (now file) (now buffer)
+        × (length (now work) ≡ p .wpr)
+        × ExtendFits (seen p current (now file) (now buffer)) flag deed
+        ⌝ }
+    ensures { λ r. ⌜ Follows r (λ v flag work. extendDone v flag work deed) p current flag file buffer work ⌝ }
 {
     match deed {
         Extend::Bad => Done::refused(BAD_FILE, current, flag),

@@ -13,6 +13,7 @@ ghost use Rattle.drum.specs.Params.{I, goodParams, fileSize, indexShape};
 ghost use Rattle.drum.specs.Blocks.{Block, blockAt, putBlock, sections};
 ghost use Rattle.rules.specs.XtendDone.{bounded, extended};
 ghost use Rattle.xtend.specs.Steps.{sectioned};
+ghost use Rattle.words.specs.Slices.{was, became};
 
 // The entry with the bound ONES for block b.
 fn ones_entry(k: usize, b: usize) -> [u32; 64]
@@ -26,8 +27,14 @@ fn ones_entry(k: usize, b: usize) -> [u32; 64]
 
 // The last bound of a table of entries becomes the key.
 fn set_bound(p: Description, h: Shape, t: &mut [u32], key: &[u32])
-    requires { ⌜ (1 ≤ h .base) × (p .k ≤ h .stride) × (1 ≤ count (now t)) × (place h (count (now t)) ≤ length (now t)) × (p .k ≤ length (now key)) ⌝ }
-    ensures { λ _. ⌜ now (t .exit) ≡ bounded h (part 0 (p .k) (now (key .entry))) (now (t .entry)) ⌝ }
+    requires { ⌜
+        (1 ≤ h .base)
+        × (p .k ≤ h .stride)
+        × (1 ≤ count (now t))
+        × (place h (count (now t)) ≤ length (now t))
+        × (p .k ≤ length (now key))
+        ⌝ }
+    ensures { λ _. ⌜ became t ≡ bounded h (part 0 (p .k) (was key)) (was t) ⌝ }
 {
     let last = words::word_at(t, 0) - 1;
     table::replace_row(h, t, last, key, 0, p.k);
@@ -35,8 +42,17 @@ fn set_bound(p: Description, h: Shape, t: &mut [u32], key: &[u32])
 
 // The last bound becomes the key, and an entry with the bound ONES for block b is put in behind it.
 fn extend(p: Description, h: Shape, t: &mut [u32], key: &[u32], b: usize)
-    requires { ⌜ (goodParams p ≡ true) × (1 ≤ h .base) × (h .stride ≡ p .k + 1) × (1 ≤ count (now t)) × (count (now t) < 262143) × (place h (count (now t)) + h .stride ≤ length (now t)) × (p .k ≤ length (now key)) × (b ≤ 262143) ⌝ }
-    ensures { λ _. ⌜ now (t .exit) ≡ extended p h (part 0 (p .k) (now (key .entry))) b (now (t .entry)) ⌝ }
+    requires { ⌜
+        (goodParams p ≡ true)
+        × (1 ≤ h .base)
+        × (h .stride ≡ p .k + 1)
+        × (1 ≤ count (now t))
+        × (count (now t) < 262143)
+        × (place h (count (now t)) + h .stride ≤ length (now t))
+        × (p .k ≤ length (now key))
+        × (b ≤ 262143)
+        ⌝ }
+    ensures { λ _. ⌜ became t ≡ extended p h (part 0 (p .k) (was key)) b (was t) ⌝ }
 {
     let entry = ones_entry(p.k, b);
     let n = words::word_at(t, 0);
@@ -46,8 +62,19 @@ fn extend(p: Description, h: Shape, t: &mut [u32], key: &[u32], b: usize)
 
 // The same in index block i, where it lies in the file.
 pub fn extend_in(p: Description, file: &mut [u32], i: usize, key: &[u32], b: usize)
-    requires { ⌜ (goodParams p ≡ true) × (length (now file) ≡ fileSize p) × Block p i × (1 ≤ count (blockAt p (now file) i)) × (count (blockAt p (now file) i) < I p) × (p .k ≤ length (now key)) × (b ≤ 262143) ⌝ }
-    ensures { λ _. ⌜ now (file .exit) ≡ putBlock p (now (file .entry)) i (extended p (indexShape p) (part 0 (p .k) (now (key .entry))) b (blockAt p (now (file .entry)) i)) ⌝ }
+    requires { ⌜
+        (goodParams p ≡ true)
+        × (length (now file) ≡ fileSize p)
+        × Block p i
+        × (1 ≤ count (blockAt p (now file) i))
+        × (count (blockAt p (now file) i) < I p)
+        × (p .k ≤ length (now key))
+        × (b ≤ 262143)
+        ⌝ }
+    ensures { λ _. ⌜
+        became file
+        ≡ putBlock p (was file) i (extended p (indexShape p) (part 0 (p .k) (was key)) b (blockAt p (was file) i))
+        ⌝ }
 {
     let h = p.index_shape();
     let start = p.start(i);
@@ -57,8 +84,18 @@ pub fn extend_in(p: Description, file: &mut [u32], i: usize, key: &[u32], b: usi
 
 // The last bound of index block i becomes the key, where it lies in the file.
 fn bound_in(p: Description, file: &mut [u32], i: usize, key: &[u32])
-    requires { ⌜ (goodParams p ≡ true) × (length (now file) ≡ fileSize p) × Block p i × (1 ≤ count (blockAt p (now file) i)) × (count (blockAt p (now file) i) ≤ I p) × (p .k ≤ length (now key)) ⌝ }
-    ensures { λ _. ⌜ now (file .exit) ≡ putBlock p (now (file .entry)) i (bounded (indexShape p) (part 0 (p .k) (now (key .entry))) (blockAt p (now (file .entry)) i)) ⌝ }
+    requires { ⌜
+        (goodParams p ≡ true)
+        × (length (now file) ≡ fileSize p)
+        × Block p i
+        × (1 ≤ count (blockAt p (now file) i))
+        × (count (blockAt p (now file) i) ≤ I p)
+        × (p .k ≤ length (now key))
+        ⌝ }
+    ensures { λ _. ⌜
+        became file
+        ≡ putBlock p (was file) i (bounded (indexShape p) (part 0 (p .k) (was key)) (blockAt p (was file) i))
+        ⌝ }
 {
     let h = p.index_shape();
     let start = p.start(i);
@@ -68,8 +105,19 @@ fn bound_in(p: Description, file: &mut [u32], i: usize, key: &[u32])
 
 // The entry for block b starts index block x, after index block i, and a section.
 pub fn start_section(p: Description, file: &mut [u32], key: &[u32], i: usize, b: usize, x: usize)
-    requires { ⌜ (goodParams p ≡ true) × (length (now file) ≡ fileSize p) × Block p i × Block p x × (b ≤ p .n) × (1 ≤ count (blockAt p (now file) i)) × (count (blockAt p (now file) i) ≤ I p) × (1 ≤ sections (now file)) × (sections (now file) < p .control) × (p .k ≤ length (now key)) ⌝ }
-    ensures { λ _. ⌜ now (file .exit) ≡ sectioned p (part 0 (p .k) (now (key .entry))) i b x (now (file .entry)) ⌝ }
+    requires { ⌜
+        (goodParams p ≡ true)
+        × (length (now file) ≡ fileSize p)
+        × Block p i
+        × Block p x
+        × (b ≤ p .n)
+        × (1 ≤ count (blockAt p (now file) i))
+        × (count (blockAt p (now file) i) ≤ I p)
+        × (1 ≤ sections (now file))
+        × (sections (now file) < p .control)
+        × (p .k ≤ length (now key))
+        ⌝ }
+    ensures { λ _. ⌜ became file ≡ sectioned p (part 0 (p .k) (was key)) i b x (was file) ⌝ }
 {
     let k = p.k;
     let entry = ones_entry(k, b);

@@ -10,13 +10,14 @@ ghost use mathlib.Core.List.{[], _∷_};
 ghost use lib.Dec.{eqb};
 ghost use lib.ListN.{length};
 ghost use Rattle.numbers.specs.Checked.{passed};
-ghost use Rattle.drum.specs.Blocks.{Fitting, Read, seen};
+ghost use Rattle.drum.specs.Blocks.{Fitting, Read, seen, atEntry};
 ghost use Rattle.rules.specs.Fits.{WayFits};
 ghost use Rattle.rules.specs.Lookup.{reached, stopping};
-ghost use Rattle.rules.specs.Told.{gave, told};
+ghost use Rattle.rules.specs.Told.{gave, told, Follows};
 ghost use Rattle.rules.specs.XtendDone.{reading, extendDone};
 ghost use Rattle.acts.specs.Reach.{come, came};
 ghost use Rattle.xtend_plan.specs.Fits.{RoomFits};
+ghost use Rattle.words.specs.Slices.{became};
 
 // How many transfers the read of block x is; 0 is no block.
 fn reads(x: usize) -> usize
@@ -39,7 +40,9 @@ fn reach_last(
     x: usize,
 ) -> Arrived
     requires { ⌜ Fitting p (now file) (now buffer) × WayFits (seen p current (now file) (now buffer)) flag way ⌝ }
-    ensures { λ r. ⌜ came r (now (file .exit)) (now (buffer .exit)) ≡ come (reading x (reached (seen p current (now (file .entry)) (now (buffer .entry))) flag way)) ⌝ }
+    ensures { λ r. ⌜
+        came r (became file) (became buffer) ≡ come (reading x (reached (atEntry p current file buffer) flag way))
+        ⌝ }
 {
     let more = reads(x);
     let here = acts::reach(p, current, flag, file, buffer, way);
@@ -62,7 +65,11 @@ pub fn stop_last(
     number: u32,
 ) -> Done
     requires { ⌜ Fitting p (now file) (now buffer) × WayFits (seen p current (now file) (now buffer)) flag way ⌝ }
-    ensures { λ r. ⌜ gave r (now (file .exit)) (now (buffer .exit)) [] ≡ told (seen p current (now (file .entry)) (now (buffer .entry))) flag [] (passed (stopping number [] (reading x (reached (seen p current (now (file .entry)) (now (buffer .entry))) flag way)))) ⌝ }
+    ensures { λ r. ⌜
+        gave r (became file) (became buffer) []
+        ≡ told (atEntry p current file buffer) flag []
+        (passed (stopping number [] (reading x (reached (atEntry p current file buffer) flag way))))
+        ⌝ }
 {
     let here = reach_last(p, current, flag, file, buffer, way, x);
     Done {
@@ -86,8 +93,14 @@ pub fn store_last(
     x: usize,
     number: u32,
 ) -> Done
-    requires { ⌜ Fitting p (now file) (now buffer) × (length (now work) ≡ p .wpr) × RoomFits (seen p current (now file) (now buffer)) flag way ⌝ }
-    ensures { λ r. ⌜ gave r (now (file .exit)) (now (buffer .exit)) (now (work .entry)) ≡ told (seen p current (now (file .entry)) (now (buffer .entry))) flag (now (work .entry)) (extendDone (seen p current (now (file .entry)) (now (buffer .entry))) flag (now (work .entry)) (Extend.Room way x number)) ⌝ }
+    requires { ⌜
+        Fitting p (now file) (now buffer)
+        × (length (now work) ≡ p .wpr)
+        × RoomFits (seen p current (now file) (now buffer)) flag way
+        ⌝ }
+    ensures { λ r. ⌜
+        Follows r (λ v flag work. extendDone v flag work (Extend.Room way x number)) p current flag file buffer work
+        ⌝ }
 {
     let h = p.detail_shape();
     let here = reach_last(p, current, flag, file, buffer, way, x);

@@ -9,8 +9,8 @@ use drum::Description;
 use rules::Done;
 ghost use mathlib.Core.Path.{_≡_};
 ghost use lib.ListN.{length};
-ghost use Rattle.drum.specs.Blocks.{Fitting, seen};
-ghost use Rattle.rules.specs.Told.{gave, told};
+ghost use Rattle.drum.specs.Blocks.{Fitting};
+ghost use Rattle.rules.specs.Told.{Follows};
 ghost use Rattle.rules.specs.XtendDone.{xtendSteps};
 
 // XTEND of the record in the workspace.
@@ -23,7 +23,7 @@ pub fn xtend(
     work: &[u32],
 ) -> Done
     requires { ⌜ Fitting p (now file) (now buffer) × (length (now work) ≡ p .wpr) ⌝ }
-    ensures { λ r. ⌜ gave r (now (file .exit)) (now (buffer .exit)) (now (work .entry)) ≡ told (seen p current (now (file .entry)) (now (buffer .entry))) flag (now (work .entry)) (xtendSteps (seen p current (now (file .entry)) (now (buffer .entry))) flag (now (work .entry))) ⌝ }
+    ensures { λ r. ⌜ Follows r xtendSteps p current flag file buffer work ⌝ }
 {
     let deed = xtend_plan::extend_deed(p, current, flag, file, buffer, work);
     perform(deed, p, current, flag, file, buffer, work)

@@ -7,11 +7,12 @@ ghost use Prim.Native.Nat.{_≤_};
 ghost use lib.ListN.{length};
 ghost use Rattle.table.specs.Tables.{count};
 ghost use Rattle.drum.specs.Params.{D};
-ghost use Rattle.drum.specs.Blocks.{Fitting, Block, seen};
+ghost use Rattle.drum.specs.Blocks.{Fitting, Block, seen, atEntry};
 ghost use Rattle.rules.specs.Fits.{WayFits};
 ghost use Rattle.rules.specs.Lookup.{reached, textAt};
 ghost use Rattle.xtend_plan.specs.Fits.{LastFits, StartFits};
 ghost use Rattle.xtend.specs.Steps.{readyFile, swapped, startedFile};
+ghost use Rattle.words.specs.Slices.{was, became};
 
 // Before a new block: the way followed, the index block's current text in the file, the last block's in the buffer, and words 1 and 2
 // of the master set.
@@ -26,8 +27,17 @@ fn prepare(
     head: usize,
     lowest: u32,
 ) -> usize
-    requires { ⌜ Fitting p (now file) (now buffer) × WayFits (seen p current (now file) (now buffer)) flag way × LastFits (seen p current (now file) (now buffer)) way w × (head ≤ p .n) ⌝ }
-    ensures { λ r. ⌜ (r ≡ length (reached (seen p current (now (file .entry)) (now (buffer .entry))) flag way .moves)) × (now (file .exit) ≡ readyFile (seen p current (now (file .entry)) (now (buffer .entry))) flag way w head lowest) × (now (buffer .exit) ≡ textAt (seen p current (now (file .entry)) (now (buffer .entry))) way) ⌝ }
+    requires { ⌜
+        Fitting p (now file) (now buffer)
+        × WayFits (seen p current (now file) (now buffer)) flag way
+        × LastFits (seen p current (now file) (now buffer)) way w
+        × (head ≤ p .n)
+        ⌝ }
+    ensures { λ r. ⌜
+        (r ≡ length (reached (atEntry p current file buffer) flag way .moves))
+        × (became file ≡ readyFile (atEntry p current file buffer) flag way w head lowest)
+        × (became buffer ≡ textAt (atEntry p current file buffer) way)
+        ⌝ }
 {
     let moved = acts::follow(p, current, flag, file, buffer, way);
     acts::stage(p, current, file, buffer, w.index);
@@ -45,8 +55,15 @@ fn swap_end(
     b: usize,
     old: usize,
 )
-    requires { ⌜ Fitting p (now file) (now buffer) × (length (now work) ≡ p .wpr) × Block p b × Block p old × (1 ≤ count (now buffer)) × (count (now buffer) ≤ D p) ⌝ }
-    ensures { λ _. ⌜ now (file .exit) ≡ swapped p b old (now (work .entry)) (now (buffer .entry)) (now (file .entry)) ⌝ }
+    requires { ⌜
+        Fitting p (now file) (now buffer)
+        × (length (now work) ≡ p .wpr)
+        × Block p b
+        × Block p old
+        × (1 ≤ count (now buffer))
+        × (count (now buffer) ≤ D p)
+        ⌝ }
+    ensures { λ _. ⌜ became file ≡ swapped p b old (was work) (was buffer) (was file) ⌝ }
 {
     let h = p.detail_shape();
     let wpr = p.wpr;
@@ -70,8 +87,15 @@ pub fn start_block(
     head: usize,
     lowest: u32,
 ) -> usize
-    requires { ⌜ Fitting p (now file) (now buffer) × (length (now work) ≡ p .wpr) × StartFits (seen p current (now file) (now buffer)) flag way w b head ⌝ }
-    ensures { λ r. ⌜ (r ≡ length (reached (seen p current (now (file .entry)) (now (buffer .entry))) flag way .moves)) × (now (file .exit) ≡ startedFile (seen p current (now (file .entry)) (now (buffer .entry))) flag way w (now (work .entry)) b head lowest) ⌝ }
+    requires { ⌜
+        Fitting p (now file) (now buffer)
+        × (length (now work) ≡ p .wpr)
+        × StartFits (seen p current (now file) (now buffer)) flag way w b head
+        ⌝ }
+    ensures { λ r. ⌜
+        (r ≡ length (reached (atEntry p current file buffer) flag way .moves))
+        × (became file ≡ startedFile (atEntry p current file buffer) flag way w (was work) b head lowest)
+        ⌝ }
 {
     let moved = prepare(p, current, flag, file, buffer, way, w, head, lowest);
     swap_end(p, file, buffer, work, b, w.detail);

@@ -7,10 +7,12 @@ use Rattle.rules.specs.declared.Extend.the-variants.{Bad, Stop, Room, New, Both
 use Rattle.xtend_plan.specs.declared.last.Last.{Last}
 use Rattle.xtend_plan.specs.declared.last.Last.the-variants as last-is
 
+-- the code's answer as the checked way to the last block [C23]
 abbrev pub asLast : Last → Checked Way
 asLast last-is.Bad = refused badFile
 asLast (last-is.At way) = passed way
 
+-- the code's answer as the checked plan of the rules [C23]
 abbrev pub asExtend : Extend → Checked Extend
 asExtend Bad = refused badFile
 asExtend (Stop way x n) = passed (Stop way x n)

@@ -24,6 +24,7 @@ pub record LastFits (v : Texts) (way : Way) (w : Path) : Type 0 where
   pub path : PathFits v w
   pub text : textAt v way ≡ textOf v (w .detail)
 
+-- what a plan to insert tells the code that carries it out [C26]
 pub record RoomFits (v : Texts) (flag : Bool) (way : Way) : Type 0 where
   pub reached : WayFits v flag way
   pub room : count (textAt v way) < D (v .desc)
@@ -41,15 +42,18 @@ pub record StartFits (v : Texts) (flag : Bool) (way : Way) (w : Path) (b head : 
   pub new : Fresh v w b
   pub head-most : head ≤ v .desc .n
 
+-- what a plan to start a block tells it [C27]
 pub record NewFits (v : Texts) (flag : Bool) (way : Way) (w : Path) (d : Taken) : Type 0 where
   pub start : StartFits v flag way w (d .block) (d .head)
   pub room : count (textOf v (w .index)) < I (v .desc)
 
+-- what a plan to start a section too tells it [C29]
 pub record BothFits (v : Texts) (flag : Bool) (way : Way) (w : Path) (b : ℕ) (x : Taken) : Type 0 where
   pub start : StartFits v flag way w b (x .head)
   pub index : Block (v .desc) (x .block)
   pub section : sections (v .file) < v .desc .control
 
+-- what any plan of XTEND tells it [C23]
 abbrev pub ExtendFits : Texts → Bool → Extend → Type 0
 ExtendFits v flag Bad = Unit {0}
 ExtendFits v flag (Stop way x n) = WayFits v flag way

@@ -12,13 +12,14 @@ ghost use Rattle.words.specs.Words.{part};
 ghost use Rattle.words.specs.Keys.{keyLt};
 ghost use Rattle.table.specs.Tables.{count, keyAt};
 ghost use Rattle.drum.specs.Params.{D, goodParams, detailShape};
-ghost use Rattle.drum.specs.Blocks.{Fitting, seen};
+ghost use Rattle.drum.specs.Blocks.{Fitting, seen, atEntry};
 ghost use Rattle.rules.specs.Lookup.{textAt};
 ghost use Rattle.rules.specs.Paths.{lastPath};
 ghost use Rattle.rules.specs.Xtend.{endsInOnes, lastOutside, lastWay, lastOf};
 ghost use Rattle.lookup.specs.Answers.{asRoute};
 ghost use Rattle.xtend_plan.specs.Answers.{asLast};
 ghost use Rattle.xtend_plan.specs.Fits.{AtFits};
+ghost use Rattle.words.specs.Slices.{was};
 
 // The way to the last block.
 pub enum Last {
@@ -29,7 +30,7 @@ pub enum Last {
 // Whether the last record of a detail block's text has the key ONES.
 fn ends_in_ones(p: Description, t: &[u32]) -> bool
     requires { ⌜ (goodParams p ≡ true) × (length (now t) ≡ p .wpb) × (1 ≤ count (now t)) × (count (now t) ≤ D p) ⌝ }
-    ensures { λ r. ⌜ r ≡ endsInOnes p (now (t .entry)) ⌝ }
+    ensures { λ r. ⌜ r ≡ endsInOnes p (was t) ⌝ }
 {
     let n = words::word_at(t, 0);
     words::all_are(t, 1 + (n - 1) * p.wpr, p.k, 262143)
@@ -37,8 +38,14 @@ fn ends_in_ones(p: Description, t: &[u32]) -> bool
 
 // Whether the key is above the highest ordinary key of a detail block's text, that of the record before the end record.
 pub fn is_above(p: Description, t: &[u32], key: &[u32]) -> bool
-    requires { ⌜ (goodParams p ≡ true) × (length (now t) ≡ p .wpb) × (2 ≤ count (now t)) × (count (now t) ≤ D p) × (p .k ≤ length (now key)) ⌝ }
-    ensures { λ r. ⌜ r ≡ keyLt (keyAt (detailShape p) (now (t .entry)) (count (now (t .entry)) - 2)) (part 0 (p .k) (now (key .entry))) ⌝ }
+    requires { ⌜
+        (goodParams p ≡ true)
+        × (length (now t) ≡ p .wpb)
+        × (2 ≤ count (now t))
+        × (count (now t) ≤ D p)
+        × (p .k ≤ length (now key))
+        ⌝ }
+    ensures { λ r. ⌜ r ≡ keyLt (keyAt (detailShape p) (was t) (count (was t) - 2)) (part 0 (p .k) (was key)) ⌝ }
 {
     let n = words::word_at(t, 0);
     words::key_below(t, 1 + (n - 2) * p.wpr, key, 0, p.k)
@@ -47,7 +54,7 @@ pub fn is_above(p: Description, t: &[u32], key: &[u32]) -> bool
 // The path by the last entries. It asks no key: the buffer's words stand for one.
 fn last_path<'a>(p: Description, current: usize, file: &'a [u32], buffer: &'a [u32]) -> Route
     requires { ⌜ Fitting p (now file) (now buffer) ⌝ }
-    ensures { λ r. ⌜ asRoute r ≡ lastPath (seen p current (now (file .entry)) (now (buffer .entry))) ⌝ }
+    ensures { λ r. ⌜ asRoute r ≡ lastPath (atEntry p current file buffer) ⌝ }
 {
     lookup::path_by(p, current, file, buffer, Which::Last, Which::Last, buffer)
 }
@@ -61,7 +68,7 @@ fn last_outside<'a>(
     buffer: &'a [u32],
 ) -> Last
     requires { ⌜ Fitting p (now file) (now buffer) ⌝ }
-    ensures { λ r. ⌜ asLast r ≡ lastOutside (seen p current (now (file .entry)) (now (buffer .entry))) flag ⌝ }
+    ensures { λ r. ⌜ asLast r ≡ lastOutside (atEntry p current file buffer) flag ⌝ }
 {
     let route = last_path(p, current, file, buffer);
     match route {
@@ -88,7 +95,7 @@ pub fn last_way<'a>(
     buffer: &'a [u32],
 ) -> Last
     requires { ⌜ Fitting p (now file) (now buffer) ⌝ }
-    ensures { λ r. ⌜ asLast r ≡ lastWay (seen p current (now (file .entry)) (now (buffer .entry))) flag ⌝ }
+    ensures { λ r. ⌜ asLast r ≡ lastWay (atEntry p current file buffer) flag ⌝ }
 {
     let held = lookup::on_buffer(p, current, buffer);
     match held {
@@ -106,7 +113,7 @@ pub fn last_way<'a>(
 // The path to the buffered block, if the last entries name it.
 fn last_here<'a>(p: Description, current: usize, file: &'a [u32], buffer: &'a [u32]) -> Route
     requires { ⌜ Fitting p (now file) (now buffer) ⌝ }
-    ensures { λ r. ⌜ asRoute r ≡ lastOf (seen p current (now (file .entry)) (now (buffer .entry))) Way.Here ⌝ }
+    ensures { λ r. ⌜ asRoute r ≡ lastOf (atEntry p current file buffer) Way.Here ⌝ }
 {
     let route = last_path(p, current, file, buffer);
     match route {
@@ -129,7 +136,7 @@ pub fn last_of<'a>(
     way: Way,
 ) -> Route
     requires { ⌜ Fitting p (now file) (now buffer) ⌝ }
-    ensures { λ r. ⌜ asRoute r ≡ lastOf (seen p current (now (file .entry)) (now (buffer .entry))) way ⌝ }
+    ensures { λ r. ⌜ asRoute r ≡ lastOf (atEntry p current file buffer) way ⌝ }
 {
     match way {
         Way::Here => last_here(p, current, file, buffer),
@@ -146,7 +153,7 @@ pub fn text_at<'a>(
     way: Way,
 ) -> &'a [u32]
     requires { ⌜ Fitting p (now file) (now buffer) × AtFits (seen p current (now file) (now buffer)) way ⌝ }
-    ensures { λ r. ⌜ now r ≡ textAt (seen p current (now (file .entry)) (now (buffer .entry))) way ⌝ }
+    ensures { λ r. ⌜ now r ≡ textAt (atEntry p current file buffer) way ⌝ }
 {
     match way {
         Way::Here => buffer,
@@ -163,7 +170,7 @@ pub fn count_at<'a>(
     way: Way,
 ) -> usize
     requires { ⌜ Fitting p (now file) (now buffer) × AtFits (seen p current (now file) (now buffer)) way ⌝ }
-    ensures { λ r. ⌜ r ≡ count (textAt (seen p current (now (file .entry)) (now (buffer .entry))) way) ⌝ }
+    ensures { λ r. ⌜ r ≡ count (textAt (atEntry p current file buffer) way) ⌝ }
 {
     let t = text_at(p, current, file, buffer, way);
     words::word_at(t, 0)

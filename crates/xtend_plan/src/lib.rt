@@ -19,10 +19,11 @@ ghost use mathlib.Core.Path.{_≡_};
 ghost use Prim.Native.Nat.{_≤_};
 ghost use lib.ListN.{length};
 ghost use Rattle.words.specs.Words.{part};
-ghost use Rattle.drum.specs.Blocks.{Fitting, seen};
+ghost use Rattle.drum.specs.Blocks.{Fitting, seen, atEntry};
 ghost use Rattle.rules.specs.Xtend.{extendAt, extendDeed};
 ghost use Rattle.xtend_plan.specs.Answers.{asExtend};
 ghost use Rattle.xtend_plan.specs.Fits.{AtFits};
+ghost use Rattle.words.specs.Slices.{was};
 
 // The record goes to the last block, which the way leads to.
 fn extend_at<'a>(
@@ -34,8 +35,12 @@ fn extend_at<'a>(
     key: &[u32],
     way: Way,
 ) -> Extend
-    requires { ⌜ Fitting p (now file) (now buffer) × (p .k ≤ length (now key)) × AtFits (seen p current (now file) (now buffer)) way ⌝ }
-    ensures { λ r. ⌜ asExtend r ≡ extendAt (seen p current (now (file .entry)) (now (buffer .entry))) flag (part 0 (p .k) (now (key .entry))) way ⌝ }
+    requires { ⌜
+        Fitting p (now file) (now buffer)
+        × (p .k ≤ length (now key))
+        × AtFits (seen p current (now file) (now buffer)) way
+        ⌝ }
+    ensures { λ r. ⌜ asExtend r ≡ extendAt (atEntry p current file buffer) flag (part 0 (p .k) (was key)) way ⌝ }
 {
     let n = count_at(p, current, file, buffer, way);
     if n == 1 {
@@ -61,7 +66,7 @@ pub fn extend_deed<'a>(
     key: &[u32],
 ) -> Extend
     requires { ⌜ Fitting p (now file) (now buffer) × (p .k ≤ length (now key)) ⌝ }
-    ensures { λ r. ⌜ asExtend r ≡ extendDeed (seen p current (now (file .entry)) (now (buffer .entry))) flag (part 0 (p .k) (now (key .entry))) ⌝ }
+    ensures { λ r. ⌜ asExtend r ≡ extendDeed (atEntry p current file buffer) flag (part 0 (p .k) (was key)) ⌝ }
 {
     let found = last_way(p, current, flag, file, buffer);
     match found {

@@ -15,7 +15,7 @@ ghost use mathlib.Core.Bool.{true, _||_};
 ghost use lib.Dec.{leb, ltb, eqb};
 ghost use Rattle.table.specs.Tables.{count};
 ghost use Rattle.drum.specs.Params.{FI, goodParams};
-ghost use Rattle.drum.specs.Blocks.{Fitting, seen, textOf};
+ghost use Rattle.drum.specs.Blocks.{Fitting, seen, textOf, atEntry};
 ghost use Rattle.rules.specs.Fits.{PathFits};
 ghost use Rattle.rules.specs.Xtend.{newWith, bothWith, bothAfter, newAt, newDeed};
 ghost use Rattle.xtend_plan.specs.Answers.{asExtend};
@@ -107,7 +107,7 @@ fn both_after<'a>(
     d: Taken,
 ) -> Extend
     requires { ⌜ Fitting p (now file) (now buffer) ⌝ }
-    ensures { λ r. ⌜ asExtend r ≡ bothAfter (seen p current (now (file .entry)) (now (buffer .entry))) flag way w n d ⌝ }
+    ensures { λ r. ⌜ asExtend r ≡ bothAfter (atEntry p current file buffer) flag way w n d ⌝ }
 {
     let used = words::word_at(file, 0);
     let found = free::take_block(p, current, file, buffer, d.head, d.lowest);
@@ -126,7 +126,7 @@ fn takes_entry<'a>(
     w: Path,
 ) -> bool
     requires { ⌜ Fitting p (now file) (now buffer) × PathFits (seen p current (now file) (now buffer)) w ⌝ }
-    ensures { λ r. ⌜ r ≡ ltb (count (textOf (seen p current (now (file .entry)) (now (buffer .entry))) (w .index))) (FI p) ⌝ }
+    ensures { λ r. ⌜ r ≡ ltb (count (textOf (atEntry p current file buffer) (w .index))) (FI p) ⌝ }
 {
     let t = drum::text_of(p, current, file, buffer, w.index);
     let n = words::word_at(t, 0);
@@ -145,7 +145,7 @@ fn new_at<'a>(
     n: usize,
 ) -> Extend
     requires { ⌜ Fitting p (now file) (now buffer) × PathFits (seen p current (now file) (now buffer)) w ⌝ }
-    ensures { λ r. ⌜ asExtend r ≡ newAt (seen p current (now (file .entry)) (now (buffer .entry))) flag way w n ⌝ }
+    ensures { λ r. ⌜ asExtend r ≡ newAt (atEntry p current file buffer) flag way w n ⌝ }
 {
     let head = words::word_at(file, 1);
     let found = free::take_block(p, current, file, buffer, head, file[2]);
@@ -169,7 +169,7 @@ pub fn new_deed<'a>(
     way: Way,
 ) -> Extend
     requires { ⌜ Fitting p (now file) (now buffer) × AtFits (seen p current (now file) (now buffer)) way ⌝ }
-    ensures { λ r. ⌜ asExtend r ≡ newDeed (seen p current (now (file .entry)) (now (buffer .entry))) flag way ⌝ }
+    ensures { λ r. ⌜ asExtend r ≡ newDeed (atEntry p current file buffer) flag way ⌝ }
 {
     let n = count_at(p, current, file, buffer, way);
     let route = last_of(p, current, file, buffer, way);

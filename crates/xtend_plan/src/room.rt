@@ -12,11 +12,12 @@ ghost use mathlib.Core.Path.{_≡_};
 ghost use Prim.Native.Nat.{_≤_};
 ghost use lib.ListN.{length};
 ghost use Rattle.words.specs.Words.{part};
-ghost use Rattle.drum.specs.Blocks.{Fitting, seen};
+ghost use Rattle.drum.specs.Blocks.{Fitting, seen, atEntry};
 ghost use Rattle.rules.specs.Fits.{PathFits};
 ghost use Rattle.rules.specs.Xtend.{roomDeed, notAboveBefore, aloneDeed};
 ghost use Rattle.xtend_plan.specs.Answers.{asExtend};
 ghost use Rattle.xtend_plan.specs.Fits.{AtFits};
+ghost use Rattle.words.specs.Slices.{was};
 
 // The last block takes the record: x is the index block that was read for it, or 0.
 pub fn room_deed<'a>(
@@ -28,7 +29,7 @@ pub fn room_deed<'a>(
     x: usize,
 ) -> Extend
     requires { ⌜ Fitting p (now file) (now buffer) × AtFits (seen p current (now file) (now buffer)) way ⌝ }
-    ensures { λ r. ⌜ asExtend r ≡ roomDeed (seen p current (now (file .entry)) (now (buffer .entry))) way x ⌝ }
+    ensures { λ r. ⌜ asExtend r ≡ roomDeed (atEntry p current file buffer) way x ⌝ }
 {
     let n = count_at(p, current, file, buffer, way);
     let head = words::word_at(file, 1);
@@ -48,8 +49,12 @@ fn not_above_before<'a>(
     key: &[u32],
     w: Path,
 ) -> bool
-    requires { ⌜ Fitting p (now file) (now buffer) × (p .k ≤ length (now key)) × PathFits (seen p current (now file) (now buffer)) w ⌝ }
-    ensures { λ r. ⌜ r ≡ notAboveBefore (seen p current (now (file .entry)) (now (buffer .entry))) (part 0 (p .k) (now (key .entry))) w ⌝ }
+    requires { ⌜
+        Fitting p (now file) (now buffer)
+        × (p .k ≤ length (now key))
+        × PathFits (seen p current (now file) (now buffer)) w
+        ⌝ }
+    ensures { λ r. ⌜ r ≡ notAboveBefore (atEntry p current file buffer) (part 0 (p .k) (was key)) w ⌝ }
 {
     let k = p.k;
     if w.entry == 0 {
@@ -71,8 +76,12 @@ pub fn alone_deed<'a>(
     key: &[u32],
     way: Way,
 ) -> Extend
-    requires { ⌜ Fitting p (now file) (now buffer) × (p .k ≤ length (now key)) × AtFits (seen p current (now file) (now buffer)) way ⌝ }
-    ensures { λ r. ⌜ asExtend r ≡ aloneDeed (seen p current (now (file .entry)) (now (buffer .entry))) (part 0 (p .k) (now (key .entry))) way ⌝ }
+    requires { ⌜
+        Fitting p (now file) (now buffer)
+        × (p .k ≤ length (now key))
+        × AtFits (seen p current (now file) (now buffer)) way
+        ⌝ }
+    ensures { λ r. ⌜ asExtend r ≡ aloneDeed (atEntry p current file buffer) (part 0 (p .k) (was key)) way ⌝ }
 {
     let route = last_of(p, current, file, buffer, way);
     match route {

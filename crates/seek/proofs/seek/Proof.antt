@@ -1,45 +1,19 @@
 -- The lookup's answer fits what the act requires, and the act is the rest of the steps.
-use mathlib.Core.Path.{ap, _∙_}
-use native.Mathlib.Omega.{arith}
-use Rattle.drum.specs.Blocks.{seen}
-use Rattle.words.specs.Words.{part}
-use Rattle.drum.proofs.Good.{caps}
-use Rattle.rules.specs.Told.{told}
-use Rattle.lookup.proofs.Fits.{look-fits}
-use Rattle.seek.proofs.Steps.{seek-done}
 use borrow.Author.Needs.{needs}
+use Rattle.seek.proofs.Steps.{key-within, act-fits, seek-told}
 use Rattle.seek.proofs.seek.Statement.{statement}
 use Rattle.seek.proofs.seek.Tie as tie
-use Rattle.seek.proofs.seek.Reads as reads
-use Rattle.seek.proofs.seek.Lts as lts
-use Rattle.lookup.proofs.look.Reads as look-reads
-use Rattle.seek.proofs.act_seek.Reads as act-seek-reads
 
 look-requires : tie.Need-look-requires
-look-requires c κs =
-    let g = caps _ (c .before .before .before .before .before .before .pre .0 .good) in
-    (c .before .before .before .before .before .before .pre .0, omega arith)
+look-requires c κs = search key-within
 
 act-seek-requires : tie.Need-act-seek-requires
-act-seek-requires c κs =
-    let f = look-fits (seen (c .before .before .before .before .before .before .before .before .before .before .args .p) (c .before .before .before .before .before .before .before .before .before .before .args .current) (c .before .before .before .before .before .before .before .before .before .before .args .file .now) (c .before .before .before .before .before .before .before .before .before .before .args .buffer .now)) (c .before .before .before .before .before .before .before .before .before .before .args .flag) (part 0 (c .before .before .before .before .before .before .before .before .before .before .args .p .k) (c .before .before .before .before .before .before .before .before .before .before .args .work .now)) (c .before .before .before .look .result) (c .before .before .before .look .ensures) in
-    (c .before .before .before .before .before .before .before .before .before .before .pre .0, c .before .before .before .before .before .before .before .before .before .before .pre .1, f)
-
-same-length : tie.Need-same-length
-same-length c = search needs
-
-same-length-2 : tie.Need-same-length-2
-same-length-2 c = search needs
-
-same-length-3 : tie.Need-same-length-3
-same-length-3 c = search needs
+act-seek-requires c κs = (search, search, search act-fits)
 
 returns : tie.Need-returns
-returns c =
-    let v = seen (c .before .before .before .before .before .before .before .before .before .before .before .before .before .before .before .before .before .args .p) (c .before .before .before .before .before .before .before .before .before .before .before .before .before .before .before .before .before .args .current) (c .before .before .before .before .before .before .before .before .before .before .before .before .before .before .before .before .before .args .file .now) (c .before .before .before .before .before .before .before .before .before .before .before .before .before .before .before .before .before .args .buffer .now) in
-    c .before .before .before .before .before .before .act-seek .ensures ∙ ap (told v (c .before .before .before .before .before .before .before .before .before .before .before .before .before .before .before .before .before .args .flag) (c .before .before .before .before .before .before .before .before .before .before .before .before .before .before .before .before .before .args .work .now)) (seek-done v (c .before .before .before .before .before .before .before .before .before .before .before .before .before .before .before .before .before .args .flag) (c .before .before .before .before .before .before .before .before .before .before .before .before .before .before .before .before .before .args .work .now) (c .before .before .before .before .before .before .before .before .before .before .look .result) (c .before .before .before .before .before .before .before .before .before .before .look .ensures))
+returns c = search seek-told
 
 pub seek-spec : {M : Type 1} → statement M
 seek-spec =
     tie.close
-    (tie.spec look-requires act-seek-requires same-length same-length-2 same-length-3 returns)
+    (tie.spec look-requires act-seek-requires (λ c. search needs) (λ c. search needs) (λ c. search needs) returns)

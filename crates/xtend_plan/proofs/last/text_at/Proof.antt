@@ -18,7 +18,7 @@ text-of-requires c κs =
     (c .before .before .before .before .before .pre .0, (f .detail-least, f .detail-most))
 
 returns : tie.Need-returns
-returns c = search needs
+returns c = rw (c .enum-told .given .1)
 
 returns-2 : tie.Need-returns-2
 returns-2 c = rw (c .before .before .way .given .1) (c .text-of .ensures)

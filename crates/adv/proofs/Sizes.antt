@@ -1,0 +1,75 @@
+-- Lengths and counts that ADV's code asks: of good parameters, of a block's current text, and of the last row.
+use mathlib.Core.Path.{_≡_, ap, _∙_}
+use mathlib.Core.Bool.{true}
+use mathlib.Core.List.{List}
+use Prim.Native.Nat.{ℕ, _+_, _*_, _-_, _≤_, _<_}
+use native.Mathlib.Omega.{arith}
+use lib.ListN.{length}
+use mir.Syntax.{w64}
+use mir.Val.{Fits}
+use Rattle.table.specs.Tables.{count}
+use Rattle.table.proofs.Places.{row-lt}
+use Rattle.drum.specs.declared.Description.{Description}
+use Rattle.drum.specs.Params.{D, I, goodParams}
+use Rattle.drum.specs.Blocks.{Fitting, seen, textOf}
+use Rattle.drum.proofs.Good.{caps}
+use Rattle.drum.proofs.Blocks.{length-textOf}
+use Rattle.rules.specs.declared.Path.{Path}
+use Rattle.rules.specs.Fits.{PathFits}
+
+-- good parameters
+module _ (p : Description) (good : goodParams p ≡ true) where
+  pub block-wide : 6 ≤ p .wpb
+  block-wide = caps p good .facts .wpb-least
+
+  pub key-short : p .k + 1 < p .wpb
+  key-short = caps p good .entry-lt
+
+  pub key-in-row : p .k ≤ p .wpr
+  key-in-row = caps p good .facts .key
+
+  pub entries-few : I p ≤ 4096
+  entries-few = caps p good .i-most
+
+  pub sections-few : p .control ≤ 4095
+  sections-few = caps p good .facts .control-most
+
+-- the text of a block
+module _ (p : Description) (cur : ℕ) (f b t : List ℕ) (a : ℕ) (e : t ≡ textOf (seen p cur f b) a)
+    (fit : Fitting p f b) (least : 1 ≤ a) (most : a ≤ p .n) where
+  pub text-long : length t ≡ p .wpb
+  text-long = ap length e ∙ length-textOf (seen p cur f b) a fit (least, most)
+
+  pub text-some : 0 < length t
+  text-some =
+      let l = text-long in
+      let w = block-wide p (fit .good) in
+      omega arith
+
+pub text-count : (p : Description) (cur : ℕ) (f b t : List ℕ) (w : Path) → t ≡ textOf (seen p cur f b) (w .detail)
+    → PathFits (seen p cur f b) w → count t ≤ D p
+text-count p cur f b t w e h = rw e (h .records-most)
+
+-- the last row of a block lies in it
+module _ (p : Description) (t : List ℕ) (n : ℕ) (en : n ≡ count t) (good : goodParams p ≡ true)
+    (long : length t ≡ p .wpb) (least : 1 ≤ count t) (most : count t ≤ D p) where
+  pub last-within : 1 + (n - 1) * p .wpr + p .k ≤ length t
+  last-within =
+      let g = caps p good in
+      let f = g .facts in
+      let r = row-lt (n - 1) (D p) (p .wpr) (omega arith) in
+      omega arith
+
+  pub last-span : Fits w64 ((n - 1) * p .wpr)
+  last-span =
+      let l = last-within in
+      let g = caps p good in
+      let f = g .facts in
+      omega arith
+
+  pub last-place : Fits w64 (1 + (n - 1) * p .wpr)
+  last-place =
+      let l = last-within in
+      let g = caps p good in
+      let f = g .facts in
+      omega arith
