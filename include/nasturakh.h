@@ -10,13 +10,15 @@
  *   buffer     exactly WPB words; belongs to the session: hand in what the last call left
  *   workspace  exactly WPR words: the record, or for SEEK and DLETE the key in its first K words (the others are not read)
  *   marks      exactly N bytes
+ *   plan       exactly 8 words, see nasturakh_most_transfers
  * A slice whose length is wrong is refused by 020007; so no length reads or writes outside what it says.
  *
  * SESSION. 73 words of the caller: set 0..5 to the parameters and 6..72 to 0, then hand in to each call what the last one left.
  *
  * THREADS. Any thread may call, and any number at once, as long as no two calls share a slice: one call at a time on one session.
  *
- * ANSWERS. Every function but nasturakh_view returns transfers * 2^32 + number. Numbers are octal; the first that applies is given.
+ * ANSWERS. Every function but nasturakh_view and nasturakh_most_transfers returns transfers * 2^32 + number. Numbers are octal; the first
+ * that applies is given.
  */
 #ifndef NASTURAKH_H
 #define NASTURAKH_H
@@ -44,18 +46,19 @@ enum {
   NASTURAKH_SESSION = 73  /* words in all */
 };
 
-/* The numbers returned. */
-#define NASTURAKH_DONE 000000u         /* done */
-#define NASTURAKH_NOT_FOUND 000001u    /* no record has the key; NSERT: one has it already */
-#define NASTURAKH_OUT_OF_ORDER 000005u /* XTEND: the key is not above all others */
-#define NASTURAKH_WRONG_SIZE 020007u   /* a parameter or a slice's length is wrong, or session word 6, 8 or 9 is above 1; all unchanged */
-#define NASTURAKH_ALREADY_OPEN 020006u /* OPEN of an open session; all unchanged */
-#define NASTURAKH_IS_CLOSED 020005u    /* another call on a closed session; all unchanged */
-#define NASTURAKH_WRONG_KEY 030001u    /* a workspace word above 262143, or the reserved key; all unchanged */
-#define NASTURAKH_END 030002u          /* ADV: no record is left; the end record is in the workspace, the position stays */
-#define NASTURAKH_NOW_FULL 070001u     /* stored; but the record's block is now full and no block is free */
-#define NASTURAKH_NO_ROOM 070002u      /* NSERT, XTEND: not stored, too few blocks or sections are free */
-#define NASTURAKH_BAD_FILE 070003u     /* OPEN: not a good file; else a bad number in file or buffer; all unchanged but OPEN's marks */
+/* The numbers returned, by the names that docs/NUMBERS.md gives them. */
+#define NASTURAKH_DONE 000000u            /* done */
+#define NASTURAKH_NOT_FOUND 000001u       /* no record has the key; NSERT: one has it already */
+#define NASTURAKH_OUT_OF_SEQUENCE 000005u /* XTEND: the key is not above the highest key of the last block; where only the end record is
+                                           * there, not above the bound before that block, which can be a key since taken out */
+#define NASTURAKH_WRONG_SIZE 020007u      /* a parameter or a slice's length is wrong, or session word 6, 8 or 9 is above 1; all unchanged */
+#define NASTURAKH_ALREADY_OPEN 020006u    /* OPEN of an open session; all unchanged */
+#define NASTURAKH_IS_CLOSED 020005u       /* another call on a closed session; all unchanged */
+#define NASTURAKH_WRONG_KEY 030001u       /* a workspace word above 262143, or the reserved key; all unchanged */
+#define NASTURAKH_AT_END 030002u          /* ADV: no record is left; the end record is in the workspace, the position stays */
+#define NASTURAKH_NONE_FREE 070001u       /* stored; but the record's block is now full and no block is free */
+#define NASTURAKH_NO_ROOM 070002u         /* NSERT, XTEND: not stored, too few blocks or sections are free */
+#define NASTURAKH_BAD_FILE 070003u        /* OPEN: not a good file; else a bad number in file or buffer; all unchanged but OPEN's marks */
 
 /* The two parts of an answer. */
 static inline uint32_t nasturakh_number(uint64_t answer) { return (uint32_t)answer; }
@@ -113,6 +116,27 @@ uint64_t nasturakh_xtend(uint32_t *session, size_t session_words, uint32_t *file
 #define NASTURAKH_IN_BUFFER ((uint64_t)1 << 33)
 uint64_t nasturakh_view(const uint32_t *session, size_t session_words, const uint32_t *file, size_t file_words,
                         const uint32_t *buffer, size_t buffer_words, size_t block);
+
+/* The words of a plan: the most calls of each kind, refused ones counted, and the most records that NSERT and XTEND are to put in
+ * (answers 0 and 070001). OPEN and VIEW cost no transfer. */
+enum {
+  NASTURAKH_PLAN_SEEK = 0,
+  NASTURAKH_PLAN_UPDAT = 1,
+  NASTURAKH_PLAN_NSERT = 2,
+  NASTURAKH_PLAN_ADV = 3,
+  NASTURAKH_PLAN_DLETE = 4,
+  NASTURAKH_PLAN_XTEND = 5,
+  NASTURAKH_PLAN_CLOSE = 6,
+  NASTURAKH_PLAN_RECORDS = 7,
+  NASTURAKH_PLAN = 8 /* words in all */
+};
+
+/* The most transfers that a session can make which keeps to the plan, whatever its keys and the order of its calls: from a CREATE and
+ * then an OPEN that both answer 0, with this session's parameters, each call given what the last one left, closed and opened again or
+ * not. A plain number, not transfers * 2^32 + number. NASTURAKH_NO_PLAN, which no plan can cost: a session slice of another length, its
+ * word 6, 8 or 9 above 1, a parameter out of range, or a plan of another length. Nothing is written. */
+#define NASTURAKH_NO_PLAN UINT64_MAX
+uint64_t nasturakh_most_transfers(const uint32_t *session, size_t session_words, const uint32_t *plan, size_t plan_words);
 
 #ifdef __cplusplus
 }

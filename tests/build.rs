@@ -1,5 +1,8 @@
-//! Links the archive of the proved functions into `compare`, and into nothing else.
+//! Links the archive of the proved functions into `compare`, and into nothing else. It is for x86-64; on another machine `compare` asks a program that has them.
 fn main() {
+    if std::env::var("CARGO_CFG_TARGET_ARCH").as_deref() != Ok("x86_64") {
+        return;
+    }
     let archive =
         std::env::var("NASTURAKH_ARCHIVE").unwrap_or_else(|_| concat!(env!("CARGO_MANIFEST_DIR"), "/../target/staticlib/libcapi.a").to_string());
     println!("cargo:rustc-link-arg-bin=compare={archive}");

@@ -39,16 +39,31 @@ pub struct Lane {
     pub rounds: Vec<Times>,
 }
 
+/// An engine that takes part where its header is installed, and the Debian package that brings it.
+pub struct Peer {
+    pub name: &'static str,
+    here: bool,
+    pub package: &'static str,
+}
+
+const PEERS: [Peer; 2] = [
+    Peer {
+        name: "Berkeley DB",
+        here: cfg!(berkeley),
+        package: "libdb5.3-dev",
+    },
+    Peer {
+        name: "LMDB",
+        here: cfg!(lmdb),
+        package: "liblmdb-dev",
+    },
+];
+
 fn lanes() -> Vec<Lane> {
-    let mut names = vec!["Nasturakh", "BTreeMap"];
-    if cfg!(berkeley) {
-        names.push("Berkeley DB");
-    }
-    if cfg!(lmdb) {
-        names.push("LMDB");
-    }
-    names
+    let peers = PEERS.iter().filter(|p| p.here).map(|p| p.name);
+    ["Nasturakh", "BTreeMap"]
         .into_iter()
+        .chain(peers)
         .map(|name| Lane {
             name,
             rounds: Vec::new(),
@@ -79,8 +94,10 @@ fn main() {
     let only = words.iter().any(|w| w == "ours");
     let work = Work::new(words.iter().any(|w| w == "alike"));
     let mut lanes = lanes();
+    let mut missing: Vec<Peer> = PEERS.into_iter().filter(|p| !p.here).collect();
     if only {
         lanes.truncate(1);
+        missing.clear();
     }
     let mut counts = [Count::default(); 5];
     let mut copies = Vec::new();
@@ -96,8 +113,8 @@ fn main() {
         "the engines hand out different records"
     );
     report::transfers(&counts);
-    report::times(&lanes, &copies);
+    report::times(&lanes, &missing, &copies);
     if words.iter().any(|w| w == "ns") {
-        report::nanoseconds(&lanes, &copies);
+        report::nanoseconds(&lanes, &missing, &copies);
     }
 }

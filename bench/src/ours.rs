@@ -1,7 +1,7 @@
 //! Nasturakh in the run, with its transfers counted by kind.
 use crate::engine::Engine;
 use crate::names::{Name, Record, K, WPB, WPR};
-use crate::nasturakh::{Answer, Parameters, Session, DONE, END};
+use crate::nasturakh::{Answer, Parameters, Session, AT_END, DONE};
 
 pub const P: Parameters = Parameters {
     wpb: WPB as u32,
@@ -125,7 +125,7 @@ impl Engine for Ours {
         loop {
             let a = self.session.adv(&mut self.file, &mut self.buffer, &mut out);
             if !self.said(a) {
-                assert_eq!(a.number, END);
+                assert_eq!(a.number, AT_END);
                 return;
             }
             take(&out);

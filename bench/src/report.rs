@@ -1,7 +1,7 @@
 //! The tables that a run prints.
 use crate::engine::KINDS;
 use crate::ours::Count;
-use crate::Lane;
+use crate::{Lane, Peer};
 
 /// The session formula's share of each kind: transfers per call, without what new blocks add.
 const BOUND: [u64; 5] = [4, 3, 3, 6, 5];
@@ -38,45 +38,49 @@ pub fn transfers(counts: &[Count; 5]) {
     }
 }
 
-fn heading(first: &str, lanes: &[Lane]) {
-    let names: Vec<&str> = lanes.iter().map(|l| l.name).collect();
+fn heading(first: &str, lanes: &[Lane], missing: &[Peer]) {
+    let names = lanes.iter().map(|l| l.name);
+    let names: Vec<&str> = names.chain(missing.iter().map(|p| p.name)).collect();
     println!("\n| {first} | {} |", names.join(" | "));
-    println!("|---{}|", "|---".repeat(lanes.len()));
+    println!("|---{}|", "|---".repeat(names.len()));
+}
+
+/// A row of a table: an engine that is not installed is named with the package that brings it.
+fn row(name: &str, lanes: &[Lane], missing: &[Peer], cell: impl Fn(&Lane) -> String) {
+    let absent = missing
+        .iter()
+        .map(|p| format!("not installed: {}", p.package));
+    let cells: Vec<String> = lanes.iter().map(cell).chain(absent).collect();
+    println!("| {name} | {} |", cells.join(" | "));
 }
 
 /// Times per call in block copies, then ours as a ratio to each other engine.
-pub fn times(lanes: &[Lane], copies: &[f64]) {
+pub fn times(lanes: &[Lane], missing: &[Peer], copies: &[f64]) {
     let copy = median(copies.to_vec());
-    heading("time per call, in block copies", lanes);
+    heading("time per call, in block copies", lanes, missing);
     for (kind, name) in KINDS.iter().enumerate() {
-        let cells: Vec<String> = lanes
-            .iter()
-            .map(|l| format!("{:.2}", of_kind(l, kind) / copy))
-            .collect();
-        println!("| {name} | {} |", cells.join(" | "));
+        row(name, lanes, missing, |l| {
+            format!("{:.2}", of_kind(l, kind) / copy)
+        });
     }
     if lanes.len() == 1 {
         return;
     }
-    heading("Nasturakh's time over that of", &lanes[1..]);
+    heading("Nasturakh's time over that of", &lanes[1..], missing);
     for (kind, name) in KINDS.iter().enumerate() {
         let ours = of_kind(&lanes[0], kind);
-        let cells: Vec<String> = lanes[1..]
-            .iter()
-            .map(|l| format!("{:.2}", ours / of_kind(l, kind)))
-            .collect();
-        println!("| {name} | {} |", cells.join(" | "));
+        row(name, &lanes[1..], missing, |l| {
+            format!("{:.2}", ours / of_kind(l, kind))
+        });
     }
 }
 
-pub fn nanoseconds(lanes: &[Lane], copies: &[f64]) {
-    heading("nanoseconds per call", lanes);
+pub fn nanoseconds(lanes: &[Lane], missing: &[Peer], copies: &[f64]) {
+    heading("nanoseconds per call", lanes, missing);
     for (kind, name) in KINDS.iter().enumerate() {
-        let cells: Vec<String> = lanes
-            .iter()
-            .map(|l| format!("{:.0}", of_kind(l, kind) * 1e9))
-            .collect();
-        println!("| {name} | {} |", cells.join(" | "));
+        row(name, lanes, missing, |l| {
+            format!("{:.0}", of_kind(l, kind) * 1e9)
+        });
     }
     println!("\none block copied: {:.0}", median(copies.to_vec()) * 1e9);
 }

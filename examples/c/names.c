@@ -1,21 +1,24 @@
 /* Makes a file of names, finds one, and walks the file in order. */
+#include "letters.h"
 #include "nasturakh.h"
 
 #include <stdio.h>
 #include <stdlib.h>
 #include <string.h>
 
-enum { WPB = 64, WPR = 6, K = 5, CONTROL = 4, N = 20, LETTERS = 3 * K };
+enum { WPB = 64, WPR = 6, K = NAME_WORDS, CONTROL = 4, N = 20 };
 
 struct person {
   const char *name;
   uint32_t born;
 };
 
+/* The last three are refused: cut after fifteen letters the first two would be one name, and the third has a sign that no key holds. */
 static const struct person people[] = {
     {"LOVELACE ADA", 1815}, {"HOPPER GRACE", 1906}, {"TURING ALAN", 1912},    {"ZUSE KONRAD", 1910},
     {"NOETHER EMMY", 1882}, {"BARTIK JEAN", 1924},  {"ECKERT PRESPER", 1919}, {"MAUCHLY JOHN", 1907},
     {"PETER ROZSA", 1905},  {"BOOLE GEORGE", 1815}, {"HAMILTON M", 1936},     {"WILKES MAURICE", 1913},
+    {"BARTHOLOMEW CHRISTINE", 1901}, {"BARTHOLOMEW CHRISTOPHER", 1902}, {"D'OCAGNE M", 1862},
 };
 
 /* All that a session is lent. */
@@ -26,20 +29,17 @@ static uint32_t buffer[WPB];
 static uint32_t work[WPR];
 static uint8_t marks[N];
 
-/* A key holds three letters a word, six bits each, and a blank is 0: so names sort as in a directory. */
-static void put_name(const char *name) {
+/* Puts a name into the workspace, the year 0 behind it, or says why that can't be. */
+static int put_name(const char *name) {
   memset(work, 0, sizeof work);
-  for (size_t i = 0; i < LETTERS && name[i] != 0; i++) {
-    uint32_t letter = name[i] == ' ' ? 0 : (uint32_t)(name[i] - 'A' + 1);
-    work[i / 3] |= letter << (12 - 6 * (i % 3));
-  }
+  size_t wrong = name_to_key(name, work);
+  if (wrong != 0)
+    say_fault(name, wrong);
+  return wrong == 0;
 }
 
 static void print_record(void) {
-  for (size_t i = 0; i < LETTERS; i++) {
-    uint32_t letter = work[i / 3] >> (12 - 6 * (i % 3)) & 63;
-    putchar(letter == 0 ? ' ' : (int)('A' + letter - 1));
-  }
+  print_key(work);
   printf(" %u\n", (unsigned)work[K]);
 }
 
@@ -60,14 +60,16 @@ static uint32_t close_file(void) {
 
 static void store_all(void) {
   for (size_t i = 0; i < sizeof people / sizeof *people; i++) {
-    put_name(people[i].name);
+    if (!put_name(people[i].name))
+      continue;
     work[K] = people[i].born;
     said("NSERT", nasturakh_nsert(session, NASTURAKH_SESSION, file, file_words, buffer, WPB, work, WPR));
   }
 }
 
 static void find(const char *name) {
-  put_name(name);
+  if (!put_name(name))
+    return;
   if (said("SEEK ", nasturakh_seek(session, NASTURAKH_SESSION, file, file_words, buffer, WPB, work, WPR)) == NASTURAKH_DONE)
     print_record();
 }
@@ -81,7 +83,7 @@ static void walk(void) {
 
 int main(void) {
   file_words = nasturakh_file_words(session);
-  file = malloc(file_words * sizeof *file);
+  file = (uint32_t *)malloc(file_words * sizeof *file);
   if (file == NULL)
     return 1;
   said("CREATE", nasturakh_create(session, NASTURAKH_SESSION, file, file_words));

@@ -1,4 +1,4 @@
-//! Links the archive that `rt staticlib capi` writes, or the one that NASTURAKH_ARCHIVE names.
+//! Links the archive that `./archive` makes, or the one that NASTURAKH_ARCHIVE names.
 use std::env;
 use std::path::PathBuf;
 

@@ -15,7 +15,8 @@ const P: Parameters = Parameters {
 const K: usize = P.k as usize;
 const LETTERS: usize = 3 * K;
 
-const PEOPLE: [(&str, u32); 12] = [
+/// The last three are refused: cut after fifteen letters the first two would be one name, and the third has a sign that no key holds.
+const PEOPLE: [(&str, u32); 15] = [
     ("LOVELACE ADA", 1815),
     ("HOPPER GRACE", 1906),
     ("TURING ALAN", 1912),
@@ -28,6 +29,9 @@ const PEOPLE: [(&str, u32); 12] = [
     ("BOOLE GEORGE", 1815),
     ("HAMILTON M", 1936),
     ("WILKES MAURICE", 1913),
+    ("BARTHOLOMEW CHRISTINE", 1901),
+    ("BARTHOLOMEW CHRISTOPHER", 1902),
+    ("D'OCAGNE M", 1862),
 ];
 
 /// A session with all that it is lent.
@@ -39,26 +43,31 @@ struct Directory {
     marks: Vec<u8>,
 }
 
-/// A record: three letters a word, six bits each, and a blank is 0, so names sort as in a directory; then the year.
-fn record(name: &str, born: u32) -> Vec<u32> {
+const SIGNS: &[u8] = b" ABCDEFGHIJKLMNOPQRSTUVWXYZ";
+
+/// A record: three letters a word, six bits each, and a blank is 0, so names sort as in a directory; then the year. A name that is too long, or
+/// has another sign, is none: nothing is cut, so names that differ have keys that differ (but for blanks at their end).
+fn record(name: &str, born: u32) -> Result<Vec<u32>, String> {
     let mut words = vec![0; P.wpr as usize];
-    for (i, letter) in name.bytes().take(LETTERS).enumerate() {
-        let six = if letter == b' ' {
-            0
-        } else {
-            u32::from(letter - b'A' + 1)
+    for (i, sign) in name.bytes().enumerate() {
+        if i == LETTERS {
+            return Err(format!("{name}: longer than {LETTERS} letters"));
+        }
+        let Some(six) = SIGNS.iter().position(|&s| s == sign) else {
+            return Err(format!(
+                "{name}: sign {} is neither a letter A to Z nor a blank",
+                i + 1
+            ));
         };
-        words[i / 3] |= six << (12 - 6 * (i % 3));
+        words[i / 3] |= (six as u32) << (12 - 6 * (i % 3));
     }
     words[K] = born;
-    words
+    Ok(words)
 }
 
 fn print_record(work: &[u32]) {
-    let letter = |i: usize| match work[i / 3] >> (12 - 6 * (i % 3)) & 63 {
-        0 => ' ',
-        six => char::from(b'A' + six as u8 - 1),
-    };
+    let six = |i: usize| work[i / 3] >> (12 - 6 * (i % 3)) & 63;
+    let letter = |i: usize| SIGNS.get(six(i) as usize).map_or('?', |&s| char::from(s));
     let name: String = (0..LETTERS).map(letter).collect();
     println!("{name} {}", work[K]);
 }
@@ -93,17 +102,32 @@ impl Directory {
         say("CLOSE", self.session.close(&mut self.file, &self.buffer))
     }
 
-    fn store(&mut self, name: &str, born: u32) -> bool {
-        self.work = record(name, born);
-        say(
-            "NSERT",
-            self.session
-                .nsert(&mut self.file, &mut self.buffer, &self.work),
-        )
+    /// Puts a record into the workspace, or says why its name is none.
+    fn put(&mut self, name: &str, born: u32) -> bool {
+        match record(name, born) {
+            Ok(words) => self.work = words,
+            Err(fault) => {
+                println!("{fault}");
+                return false;
+            }
+        }
+        true
+    }
+
+    fn store(&mut self, name: &str, born: u32) {
+        if self.put(name, born) {
+            say(
+                "NSERT",
+                self.session
+                    .nsert(&mut self.file, &mut self.buffer, &self.work),
+            );
+        }
     }
 
     fn find(&mut self, name: &str) {
-        self.work = record(name, 0);
+        if !self.put(name, 0) {
+            return;
+        }
         if say(
             "SEEK ",
             self.session

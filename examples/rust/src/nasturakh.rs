@@ -7,8 +7,9 @@
 pub const DONE: u32 = 0;
 /// No record has the key; NSERT: one has it already.
 pub const NOT_FOUND: u32 = 1;
-/// XTEND: the key is not above all others.
-pub const OUT_OF_ORDER: u32 = 5;
+/// XTEND: the key is not above the highest key of the last block; where only the end record is there, not above the bound before that
+/// block, which can be a key since taken out.
+pub const OUT_OF_SEQUENCE: u32 = 5;
 /// A parameter or a slice's length is wrong.
 pub const WRONG_SIZE: u32 = 0o020007;
 /// OPEN of an open session.
@@ -18,9 +19,9 @@ pub const IS_CLOSED: u32 = 0o020005;
 /// A word of the workspace above 262143, or the reserved key.
 pub const WRONG_KEY: u32 = 0o030001;
 /// ADV: no record is left.
-pub const END: u32 = 0o030002;
+pub const AT_END: u32 = 0o030002;
 /// Stored; but the record's block is now full and no block is free.
-pub const NOW_FULL: u32 = 0o070001;
+pub const NONE_FREE: u32 = 0o070001;
 /// Not stored: too few blocks or sections are free.
 pub const NO_ROOM: u32 = 0o070002;
 /// OPEN: not a good file; else a bad number in file or buffer.
@@ -64,6 +65,12 @@ mod raw {
             buffer: *const u32,
             buffer_words: usize,
             block: usize,
+        ) -> u64;
+        pub fn nasturakh_most_transfers(
+            session: *const u32,
+            session_words: usize,
+            plan: *const u32,
+            plan_words: usize,
         ) -> u64;
     }
 
@@ -137,8 +144,21 @@ impl Answer {
 
     /// Whether the call did what it was asked to do: 0, or 070001, which stored as well.
     pub fn is_done(self) -> bool {
-        self.number == DONE || self.number == NOW_FULL
+        self.number == DONE || self.number == NONE_FREE
     }
+}
+
+/// What a session is planned to do: the most calls of each kind, refused ones counted, and the most records that NSERT and XTEND put in.
+#[derive(Clone, Copy, Debug, Default, PartialEq, Eq)]
+pub struct Plan {
+    pub seeks: u32,
+    pub updats: u32,
+    pub nserts: u32,
+    pub advs: u32,
+    pub dletes: u32,
+    pub xtends: u32,
+    pub closes: u32,
+    pub records: u32,
 }
 
 /// A session on one file: hand the same file and buffer to each of its calls.
@@ -235,6 +255,26 @@ impl Session {
             IN_BUFFER => buffer,
             at => &file[(at - IN_FILE) as usize..][..buffer.len()],
         }
+    }
+
+    /// The most transfers that a session with these parameters can make which keeps to the plan, from CREATE and OPEN on; none where a
+    /// parameter is out of range.
+    pub fn most_transfers(&self, plan: &Plan) -> Option<u64> {
+        let words = [
+            plan.seeks,
+            plan.updats,
+            plan.nserts,
+            plan.advs,
+            plan.dletes,
+            plan.xtends,
+            plan.closes,
+            plan.records,
+        ];
+        // SAFETY: as for the other calls; both are only read.
+        let most = unsafe {
+            raw::nasturakh_most_transfers(self.words.as_ptr(), WORDS, words.as_ptr(), words.len())
+        };
+        (most != u64::MAX).then_some(most)
     }
 
     calls! {

@@ -17,6 +17,7 @@ extern "C" {
     fn nasturakh_updat(session: *mut u32, words: usize, file: *mut u32, file_words: usize, buffer: *mut u32, buffer_words: usize, workspace: *mut u32, record: usize) -> u64;
     fn nasturakh_xtend(session: *mut u32, words: usize, file: *mut u32, file_words: usize, buffer: *mut u32, buffer_words: usize, workspace: *mut u32, record: usize) -> u64;
     fn nasturakh_view(session: *const u32, words: usize, file: *const u32, file_words: usize, buffer: *const u32, buffer_words: usize, block: usize) -> u64;
+    fn nasturakh_most_transfers(session: *const u32, words: usize, plan: *const u32, plan_words: usize) -> u64;
 }
 
 fn closing(f: Closing, s: &mut State) -> u64 {
@@ -80,4 +81,10 @@ pub fn view(s: &State, block: usize) -> u64 {
     let (w, l) = (&s.words, &s.lent);
     // SAFETY: as above; VIEW changes nothing.
     unsafe { nasturakh_view(w.as_ptr(), w.len(), l.file.as_ptr(), l.file.len(), l.buffer.as_ptr(), l.buffer.len(), block) }
+}
+
+/// A bound for the plan, or 2^64 - 1.
+pub fn most_transfers(session: &[u32], plan: &[u32]) -> u64 {
+    // SAFETY: as above; both are only read.
+    unsafe { nasturakh_most_transfers(session.as_ptr(), session.len(), plan.as_ptr(), plan.len()) }
 }

@@ -4,13 +4,14 @@ use crate::state::State;
 use nasturakh_tests::rules::{Answer, Event, Kind};
 use std::collections::BTreeMap;
 
-/// How often each number and each event occurred.
+/// How often each number and each event occurred, each part of VIEW, and each answer to a plan.
 #[derive(Default)]
 pub struct Tally {
     pub calls: u64,
     pub numbers: BTreeMap<(u32, Kind), u64>,
     pub events: BTreeMap<Event, u64>,
     pub views: BTreeMap<&'static str, u64>,
+    pub plans: BTreeMap<&'static str, u64>,
 }
 
 /// A difference, described.

@@ -21,7 +21,7 @@ fn draw(r: &mut Random) -> Description {
 }
 
 /// Parameters at the ends of their ranges; half the time some in range are looked for.
-fn parameters(r: &mut Random) -> Description {
+pub fn parameters(r: &mut Random) -> Description {
     let first = draw(r);
     if r.once_in(2) {
         return first;

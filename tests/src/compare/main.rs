@@ -1,4 +1,5 @@
 //! Compares the proved archive with the rendering of document 01, word by word.
+#[cfg_attr(not(target_arch = "x86_64"), path = "served.rs")]
 mod archive;
 mod both;
 mod fabricated;
@@ -6,6 +7,7 @@ mod fifteen;
 mod keys;
 mod limits;
 mod loose;
+mod plans;
 mod random;
 mod report;
 mod sessions;
@@ -31,6 +33,9 @@ fn round(seed: u64, tally: &mut report::Tallies) -> Result<(), Differs> {
         let (_, state) = &kept[r.below(kept.len())];
         fabricated::reopened(state, &mut r, &mut tally.reopened)?;
         fabricated::made_up(&mut r, &mut tally.made_up)?;
+    }
+    for _ in 0..20 {
+        plans::compare(&mut r, &mut tally.limits)?;
     }
     limits::compare(&mut r, &mut tally.limits)
 }

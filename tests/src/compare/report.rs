@@ -1,4 +1,4 @@
-//! What was tried: how often each number, each kind of split and each part of VIEW occurred.
+//! What was tried: how often each number, each kind of split, each part of VIEW and each answer to a plan occurred.
 use crate::both::Tally;
 use nasturakh_tests::rules::{Event, Kind};
 
@@ -41,9 +41,13 @@ fn show(title: &str, tally: &Tally) {
     let events: Vec<String> = tally.events.iter().map(|(event, count)| format!("{event:?} {count}")).collect();
     println!("  {}", events.join(", "));
     println!("  VIEW {:?}", tally.views);
+    if !tally.plans.is_empty() {
+        println!("  plans {:?}", tally.plans);
+    }
 }
 
-/// What never occurred: whole sessions must show every event and every number but 020007, which states spoilt must show.
+/// What never occurred: whole sessions must show every event and every number but 020007, which states spoilt must show, and what plans
+/// can answer.
 fn missing(tallies: &Tallies) -> Vec<String> {
     let mut lacking = Vec::new();
     for number in NUMBERS {
@@ -52,6 +56,8 @@ fn missing(tallies: &Tallies) -> Vec<String> {
             lacking.push(format!("{number:06o}"));
         }
     }
+    let plans = [(&tallies.limits, "bound"), (&tallies.limits, "no plan"), (&tallies.sessions, "kept")];
+    lacking.extend(plans.iter().filter(|(tally, kind)| !tally.plans.contains_key(kind)).map(|(_, kind)| kind.to_string()));
     lacking.extend(EVENTS.iter().filter(|e| !tallies.sessions.events.contains_key(e)).map(|e| format!("{e:?}")));
     lacking
 }

@@ -1,6 +1,7 @@
 //! Whole sessions from CREATE and OPEN, over many small parameter sets.
 use crate::both::{self, Differs, Tally};
 use crate::keys::Keys;
+use crate::plans::Spent;
 use crate::random::Random;
 use crate::state::State;
 use nasturakh_tests::rules::{Description, Kind, ONES};
@@ -72,14 +73,15 @@ fn fill(kind: Kind, keys: &Keys, state: &mut State, r: &mut Random) {
     }
 }
 
-/// One call of a session, and a look at a block.
-fn turn(keys: &mut Keys, kind: Kind, state: &mut State, r: &mut Random, tally: &mut Tally) -> Result<(), Differs> {
+/// One call of a session, what all its calls may have cost, and a look at a block.
+fn turn(keys: &mut Keys, spent: &mut Spent, kind: Kind, state: &mut State, r: &mut Random, tally: &mut Tally) -> Result<(), Differs> {
     if matches!(kind, Kind::Seek | Kind::Nsert | Kind::Dlete | Kind::Updat | Kind::Xtend) {
         fill(kind, keys, state, r);
     }
     let key = state.lent.workspace[..keys.k].to_vec();
     let answer = both::call(kind, state, tally)?;
     keys.learn(kind, answer.number, &key);
+    spent.learn(kind, &answer, state, tally)?;
     both::view(r.below(state.words[5] as usize + 2), state, tally)
 }
 
@@ -88,10 +90,11 @@ pub fn session(calls: usize, r: &mut Random, tally: &mut Tally) -> Result<Vec<(K
     let p = parameters(r);
     let mut keys = Keys::new(&p, r);
     let mut state = State::new(p);
+    let mut spent = Spent::default();
     let mut kept = Vec::new();
     if !r.once_in(20) {
-        turn(&mut keys, Kind::Create, &mut state, r, tally)?;
-        turn(&mut keys, Kind::Open, &mut state, r, tally)?;
+        turn(&mut keys, &mut spent, Kind::Create, &mut state, r, tally)?;
+        turn(&mut keys, &mut spent, Kind::Open, &mut state, r, tally)?;
     }
     let mut mood = Mood::Insert;
     for _ in 0..calls {
@@ -99,7 +102,7 @@ pub fn session(calls: usize, r: &mut Random, tally: &mut Tally) -> Result<Vec<(K
             mood = r.one_of(&[Mood::Insert, Mood::Extend, Mood::Delete, Mood::Mixed]);
         }
         let kind = pick(mood, state.words[6] == 1, r);
-        turn(&mut keys, kind, &mut state, r, tally)?;
+        turn(&mut keys, &mut spent, kind, &mut state, r, tally)?;
         if r.once_in(10) {
             kept.push((keys.clone(), state.clone()));
         }

@@ -11,6 +11,7 @@ mod keyed;
 mod layout;
 mod lookup;
 mod nsert;
+mod plan;
 mod rows;
 mod session;
 mod texts;
@@ -19,6 +20,7 @@ mod xtend;
 pub use answer::{Answer, Event, Kind, Lent, Move, Part};
 pub use description::Description;
 pub use layout::inspect;
+pub use plan::Plan;
 pub use session::{create, Session};
 
 /// The largest word, and each word of the key ONES.

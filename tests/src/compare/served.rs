@@ -1,0 +1,107 @@
+//! The functions of the archive on a machine that can't link them: asked of a program that has them (`src/server.c`), which the toolchain's
+//! emulator runs. NASTURAKH_SERVER names it.
+use crate::state::State;
+use nasturakh_tests::rules::{Kind, Lent};
+use std::io::{BufReader, BufWriter, Read, Write};
+use std::process::{ChildStdin, ChildStdout, Command, Stdio};
+use std::sync::Mutex;
+
+const VIEW: u64 = 9;
+const MOST: u64 = 10;
+
+struct Server {
+    to: BufWriter<ChildStdin>,
+    from: BufReader<ChildStdout>,
+}
+
+static SERVER: Mutex<Option<Server>> = Mutex::new(None);
+
+fn start() -> Server {
+    let program = std::env::var("NASTURAKH_SERVER").expect("NASTURAKH_SERVER names the program: tests/run builds it");
+    let run = concat!(env!("CARGO_MANIFEST_DIR"), "/../tools/x86-run");
+    let child = Command::new(run).arg(program).stdin(Stdio::piped()).stdout(Stdio::piped()).spawn().expect("tools/x86-run");
+    let (to, from) = (child.stdin.expect("piped"), child.stdout.expect("piped"));
+    Server { to: BufWriter::with_capacity(1 << 16, to), from: BufReader::with_capacity(1 << 16, from) }
+}
+
+fn number_of(kind: Kind) -> u64 {
+    match kind {
+        Kind::Create => 0,
+        Kind::Open => 1,
+        Kind::Close => 2,
+        Kind::Seek => 3,
+        Kind::Adv => 4,
+        Kind::Nsert => 5,
+        Kind::Dlete => 6,
+        Kind::Updat => 7,
+        Kind::Xtend => 8,
+    }
+}
+
+fn bytes(words: &[u32]) -> Vec<u8> {
+    words.iter().flat_map(|w| w.to_le_bytes()).collect()
+}
+
+impl Server {
+    fn ask(&mut self, kind: u64, block: u64, s: &State) -> std::io::Result<()> {
+        let l = &s.lent;
+        let lengths = [s.words.len(), l.file.len(), l.buffer.len(), l.workspace.len(), l.marks.len()];
+        for number in [kind, block].into_iter().chain(lengths.map(|n| n as u64)) {
+            self.to.write_all(&number.to_le_bytes())?;
+        }
+        for words in [&s.words, &l.file, &l.buffer, &l.workspace] {
+            self.to.write_all(&bytes(words))?;
+        }
+        self.to.write_all(&l.marks)?;
+        self.to.flush()
+    }
+
+    fn words(&mut self, words: &mut [u32]) -> std::io::Result<()> {
+        let mut left = vec![0; 4 * words.len()];
+        self.from.read_exact(&mut left)?;
+        for (word, four) in words.iter_mut().zip(left.chunks_exact(4)) {
+            *word = u32::from_le_bytes(four.try_into().expect("four bytes"));
+        }
+        Ok(())
+    }
+
+    fn hear(&mut self, s: &mut State) -> std::io::Result<u64> {
+        let mut answer = [0; 8];
+        self.from.read_exact(&mut answer)?;
+        for words in [&mut s.words, &mut s.lent.file, &mut s.lent.buffer, &mut s.lent.workspace] {
+            self.words(words)?;
+        }
+        self.from.read_exact(&mut s.lent.marks)?;
+        Ok(u64::from_le_bytes(answer))
+    }
+}
+
+fn asked(kind: u64, block: u64, s: &mut State) -> u64 {
+    let mut held = SERVER.lock().expect("one thread");
+    let server = held.get_or_insert_with(start);
+    let answer = server.ask(kind, block, s).and_then(|()| server.hear(s));
+    answer.expect("the program that has the functions answers")
+}
+
+/// Performs a call; the answer is the transfers times 2^32, plus the number.
+pub fn call(kind: Kind, s: &mut State) -> u64 {
+    asked(number_of(kind), 0, s)
+}
+
+/// 0 for an empty part, 2^32 plus the part's place in the file, or 2^33 for the buffer.
+pub fn view(s: &State, block: usize) -> u64 {
+    let mut left = s.clone();
+    let answer = asked(VIEW, block as u64, &mut left);
+    assert!(left == *s, "VIEW changed a word");
+    answer
+}
+
+/// A bound for the plan, or 2^64 - 1. The plan travels as the workspace.
+pub fn most_transfers(session: &[u32], plan: &[u32]) -> u64 {
+    let lent = Lent { file: Vec::new(), buffer: Vec::new(), workspace: plan.to_vec(), marks: Vec::new() };
+    let s = State { words: session.to_vec(), lent };
+    let mut left = s.clone();
+    let answer = asked(MOST, 0, &mut left);
+    assert!(left == s, "a word was changed");
+    answer
+}
