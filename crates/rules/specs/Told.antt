@@ -9,6 +9,7 @@ use Rattle.words.specs.Slices.{Slice, was, became}
 use Rattle.drum.specs.declared.Description.{Description}
 use Rattle.drum.specs.Blocks.{Texts, atEntry}
 use Rattle.rules.specs.declared.Done.{Done}
+use Rattle.rules.specs.declared.Held.{Held}
 use Rattle.rules.specs.State.{Effect}
 
 -- an effect with its transfers counted
@@ -63,3 +64,7 @@ abbrev pub Follows : Done → (Texts → Bool → List ℕ → Checked Effect) �
 Follows r steps p current flag file buffer work =
     let v = atEntry p current file buffer in
     gave r (became file) (became buffer) (became work) ≡ told v flag (was work) (steps v flag (was work))
+
+-- the same promise where description, current block and flag are handed over as one
+abbrev pub FollowsAt : Done → (Texts → Bool → List ℕ → Checked Effect) → Held → Slice → Slice → Slice → Type 0
+FollowsAt r steps at = Follows r steps (at .desc) (at .current) (at .flag)

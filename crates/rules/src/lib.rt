@@ -1,6 +1,7 @@
 // The types that the definitions in specs/ and the code of the calls share: ways to blocks, what a lookup comes to, new blocks, and
 // what each call that changes the file will do.
 
+use drum::Description;
 ghost use mathlib.Core.Path.{_≡_};
 ghost use mathlib.Core.Bool.{false};
 
@@ -80,6 +81,13 @@ pub enum Extend {
     Room(Way, usize, u32),
     New(Way, Path, Taken, u32),
     Both(Way, Path, usize, Taken, u32),
+}
+
+// What a call works with beside the lent words: the description, the current block and the flag.
+pub struct Held {
+    pub desc: Description,
+    pub current: usize,
+    pub flag: bool,
 }
 
 // What a call has done: its number and count, the current block and flag it leaves, and whether position is the workspace's key now.
