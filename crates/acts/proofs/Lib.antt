@@ -1,3 +1,3 @@
 pub mod Moves
 pub mod Ways
-pub mod Lent
+pub mod Carried

@@ -3,8 +3,14 @@ use Prim.Native.Nat.{ℕ}
 use mathlib.Core.Bool.{Bool}
 use mathlib.Core.List.{List}
 use lib.ListN.{length}
+use Rattle.drum.specs.Blocks.{Texts, seen}
+use Rattle.rules.specs.declared.Held.{Held}
 use Rattle.rules.specs.Lookup.{Reached}
 use Rattle.acts.specs.declared.Arrived.{Arrived}
+
+-- what a plan looks at, where description, current block and flag are handed over as one [S4]
+abbrev pub seenBy : Held → List ℕ → List ℕ → Texts
+seenBy at f b = seen (at .desc) (at .current) f b
 
 -- what some steps come to, with their transfers counted
 pub record Come : Type 0 where

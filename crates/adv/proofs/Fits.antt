@@ -61,3 +61,8 @@ module _ (v : Texts) (flag placed : Bool) (key : List ℕ) where
   step-fits Bad e = tt
   step-fits (At way i) e = step-passed v flag key placed .holds (At way i) (sym e)
   step-fits (Beyond w x i) e = step-passed v flag key placed .holds (Beyond w x i) (sym e)
+
+-- the text at the end of a path has a block's count
+pub text-count : (p : Description) (cur : ℕ) (f b t : List ℕ) (w : Path) → t ≡ textOf (seen p cur f b) (w .detail)
+    → PathFits (seen p cur f b) w → count t ≤ D p
+text-count p cur f b t w e h = rw e (h .records-most)

@@ -5,6 +5,7 @@ use numbers::AT_END;
 use numbers::BAD_FILE;
 use numbers::DONE;
 use rules::Done;
+use rules::Held;
 use rules::Path;
 use rules::Step;
 ghost use mathlib.Core.Path.{_≡_};
@@ -14,10 +15,11 @@ ghost use lib.ListN.{length};
 ghost use Rattle.numbers.specs.Numbers.{done, atEnd};
 ghost use Rattle.table.specs.Tables.{place, row};
 ghost use Rattle.drum.specs.Params.{detailShape};
-ghost use Rattle.drum.specs.Blocks.{Fitting, seen};
+ghost use Rattle.drum.specs.Blocks.{Fitting};
 ghost use Rattle.rules.specs.Fits.{StepFits};
 ghost use Rattle.rules.specs.Adv.{advReads, advDone};
-ghost use Rattle.rules.specs.Told.{Follows};
+ghost use Rattle.rules.specs.Told.{FollowsAt};
+ghost use Rattle.acts.specs.Reach.{seenBy};
 ghost use Rattle.adv.specs.Answers.{handed};
 ghost use Rattle.words.specs.Slices.{was, became};
 
@@ -61,36 +63,28 @@ fn number_of(end: bool) -> u32
 }
 
 // ADV, once the record is found.
-pub fn do_adv(
-    s: Step,
-    p: Description,
-    current: usize,
-    flag: bool,
-    file: &mut [u32],
-    buffer: &mut [u32],
-    work: &mut [u32],
-) -> Done
+pub fn do_adv(s: Step, at: Held, file: &mut [u32], buffer: &mut [u32], work: &mut [u32]) -> Done
     requires { ⌜
-        Fitting p (now file) (now buffer)
-        × (length (now work) ≡ p .wpr)
-        × StepFits (seen p current (now file) (now buffer)) flag s
+        Fitting (at .desc) (now file) (now buffer)
+        × (length (now work) ≡ at .desc .wpr)
+        × StepFits (seenBy at (now file) (now buffer)) (at .flag) s
         ⌝ }
-    ensures { λ r. ⌜ Follows r (λ v flag work. advDone v flag s) p current flag file buffer work ⌝ }
+    ensures { λ r. ⌜ FollowsAt r (λ v flag work. advDone v flag s) at file buffer work ⌝ }
 {
     match s {
-        Step::Bad => Done::refused(BAD_FILE, current, flag),
+        Step::Bad => Done::refused(BAD_FILE, at.current, at.flag),
         Step::At(way, i) => {
-            let here = acts::reach(p, current, flag, file, buffer, way);
-            hand_over(p, here, buffer, work, i)
+            let here = acts::reach(at, file, buffer, way);
+            hand_over(at.desc, here, buffer, work, i)
         }
         Step::Beyond(w, x, i) => {
-            let wrote = acts::bring(p, current, flag, file, buffer, x.detail);
+            let wrote = acts::bring(at, file, buffer, x.detail);
             let here = Arrived {
                 transfers: wrote + reads_beyond(w, x),
                 current: x.detail,
                 flag: false,
             };
-            hand_over(p, here, buffer, work, i)
+            hand_over(at.desc, here, buffer, work, i)
         }
     }
 }

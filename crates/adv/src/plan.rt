@@ -2,6 +2,7 @@
 use drum::Description;
 use lookup::Route;
 use lookup::Test;
+use rules::Held;
 use rules::Path;
 use rules::Step;
 use rules::Way;
@@ -21,6 +22,7 @@ ghost use Rattle.rules.specs.declared.Which.the-variants.{First, Covering};
 ghost use Rattle.rules.specs.Fits.{PathFits};
 ghost use Rattle.rules.specs.Adv.{nextRow, nextInBuffer, nextPath, advBeyond, advAt, advOutside, advStep};
 ghost use Rattle.lookup.specs.Answers.{asRoute, asTest};
+ghost use Rattle.acts.specs.Reach.{seenBy};
 ghost use Rattle.adv.specs.Answers.{asStep};
 ghost use Rattle.words.specs.Slices.{was};
 
@@ -80,36 +82,28 @@ fn next_in_buffer(p: Description, current: usize, position: &[u32], buffer: &[u3
 }
 
 // The way to the next detail block. It goes by places, so position is handed on only as some key.
-fn next_path<'a>(
-    p: Description,
-    current: usize,
-    file: &'a [u32],
-    buffer: &'a [u32],
-    position: &[u32],
-    w: Path,
-) -> Route
+fn next_path<'a>(at: Held, file: &'a [u32], buffer: &'a [u32], position: &[u32], w: Path) -> Route
     requires { ⌜
-        Fitting p (now file) (now buffer)
-        × (p .k ≤ length (now position))
-        × PathFits (seen p current (now file) (now buffer)) w
+        Fitting (at .desc) (now file) (now buffer)
+        × (at .desc .k ≤ length (now position))
+        × PathFits (seenBy at (now file) (now buffer)) w
         ⌝ }
-    ensures { λ r. ⌜ asRoute r ≡ nextPath (atEntry p current file buffer) w ⌝ }
+    ensures { λ r. ⌜ asRoute r ≡ nextPath (seenBy at (was file) (was buffer)) w ⌝ }
 {
-    let t = drum::text_of(p, current, file, buffer, w.index);
+    let t = drum::text_of(at.desc, at.current, file, buffer, w.index);
     let n = words::word_at(t, 0);
     let next = w.entry + 1;
     if next < n {
         let top = Which::Place(w.section);
-        return lookup::path_by(p, current, file, buffer, top, Which::Place(next), position);
+        return lookup::path_by(at, file, buffer, top, Which::Place(next), position);
     }
     let top = Which::Place(w.section + 1);
-    lookup::path_by(p, current, file, buffer, top, Which::First, position)
+    lookup::path_by(at, file, buffer, top, Which::First, position)
 }
 
 // The record in the next detail block: nothing greater is in the block at the end of the way.
 fn adv_beyond<'a>(
-    p: Description,
-    current: usize,
+    at: Held,
     file: &'a [u32],
     buffer: &'a [u32],
     placed: bool,
@@ -117,13 +111,18 @@ fn adv_beyond<'a>(
     w: Path,
 ) -> Step
     requires { ⌜
-        Fitting p (now file) (now buffer)
-        × (p .k ≤ length (now position))
-        × PathFits (seen p current (now file) (now buffer)) w
+        Fitting (at .desc) (now file) (now buffer)
+        × (at .desc .k ≤ length (now position))
+        × PathFits (seenBy at (now file) (now buffer)) w
         ⌝ }
-    ensures { λ r. ⌜ asStep r ≡ advBeyond (atEntry p current file buffer) placed (part 0 (p .k) (was position)) w ⌝ }
+    ensures { λ r. ⌜
+        asStep r
+        ≡ advBeyond (seenBy at (was file) (was buffer)) placed (part 0 (at .desc .k) (was position)) w
+        ⌝ }
 {
-    let route = next_path(p, current, file, buffer, position, w);
+    let p = at.desc;
+    let current = at.current;
+    let route = next_path(at, file, buffer, position, w);
     match route {
         Route::Bad => Step::Bad,
         Route::To(x) => {
@@ -140,9 +139,7 @@ fn adv_beyond<'a>(
 
 // The record in the block at the end of the way, or else in the next.
 fn adv_at<'a>(
-    p: Description,
-    current: usize,
-    flag: bool,
+    at: Held,
     file: &'a [u32],
     buffer: &'a [u32],
     placed: bool,
@@ -150,22 +147,26 @@ fn adv_at<'a>(
     w: Path,
 ) -> Step
     requires { ⌜
-        Fitting p (now file) (now buffer)
-        × (p .k ≤ length (now position))
-        × PathFits (seen p current (now file) (now buffer)) w
+        Fitting (at .desc) (now file) (now buffer)
+        × (at .desc .k ≤ length (now position))
+        × PathFits (seenBy at (now file) (now buffer)) w
         ⌝ }
-    ensures { λ r. ⌜ asStep r ≡ advAt (atEntry p current file buffer) flag placed (part 0 (p .k) (was position)) w ⌝ }
+    ensures { λ r. ⌜
+        asStep r
+        ≡ advAt (seenBy at (was file) (was buffer)) (at .flag) placed (part 0 (at .desc .k) (was position)) w
+        ⌝ }
 {
-    if !lookup::can_flush(p, current, flag) {
+    let p = at.desc;
+    if !lookup::can_flush(p, at.current, at.flag) {
         return Step::Bad;
     }
-    let t = drum::text_of(p, current, file, buffer, w.detail);
+    let t = drum::text_of(p, at.current, file, buffer, w.detail);
     let n = words::word_at(t, 0);
     let i = next_row(p, placed, position, t);
     if i < n {
         return Step::At(Way::By(w), i);
     }
-    adv_beyond(p, current, file, buffer, placed, position, w)
+    adv_beyond(at, file, buffer, placed, position, w)
 }
 
 // Which block comes first: the one that covers position, or the first one while position is none.
@@ -180,47 +181,48 @@ fn first_wanted(placed: bool) -> Which
 
 // The record, by way of the master.
 fn adv_outside<'a>(
-    p: Description,
-    current: usize,
-    flag: bool,
+    at: Held,
     file: &'a [u32],
     buffer: &'a [u32],
     placed: bool,
     position: &[u32],
 ) -> Step
-    requires { ⌜ Fitting p (now file) (now buffer) × (p .k ≤ length (now position)) ⌝ }
+    requires { ⌜ Fitting (at .desc) (now file) (now buffer) × (at .desc .k ≤ length (now position)) ⌝ }
     ensures { λ r. ⌜
-        asStep r ≡ advOutside (atEntry p current file buffer) flag placed (part 0 (p .k) (was position))
+        asStep r
+        ≡ advOutside (seenBy at (was file) (was buffer)) (at .flag) placed (part 0 (at .desc .k) (was position))
         ⌝ }
 {
     let which = first_wanted(placed);
-    let route = lookup::path_by(p, current, file, buffer, which, which, position);
+    let route = lookup::path_by(at, file, buffer, which, which, position);
     match route {
         Route::Bad => Step::Bad,
-        Route::To(w) => adv_at(p, current, flag, file, buffer, placed, position, w),
+        Route::To(w) => adv_at(at, file, buffer, placed, position, w),
     }
 }
 
 // The record that ADV comes to.
 pub fn plan_adv<'a>(
-    p: Description,
-    current: usize,
-    flag: bool,
+    at: Held,
     file: &'a [u32],
     buffer: &'a [u32],
     placed: bool,
     position: &[u32],
 ) -> Step
-    requires { ⌜ Fitting p (now file) (now buffer) × (p .k ≤ length (now position)) ⌝ }
-    ensures { λ r. ⌜ asStep r ≡ advStep (atEntry p current file buffer) flag placed (part 0 (p .k) (was position)) ⌝ }
+    requires { ⌜ Fitting (at .desc) (now file) (now buffer) × (at .desc .k ≤ length (now position)) ⌝ }
+    ensures { λ r. ⌜
+        asStep r
+        ≡ advStep (seenBy at (was file) (was buffer)) (at .flag) placed (part 0 (at .desc .k) (was position))
+        ⌝ }
 {
+    let p = at.desc;
     if !placed {
-        return adv_outside(p, current, flag, file, buffer, false, position);
+        return adv_outside(at, file, buffer, false, position);
     }
-    let here = next_in_buffer(p, current, position, buffer);
+    let here = next_in_buffer(p, at.current, position, buffer);
     match here {
         Test::Bad => Step::Bad,
-        Test::No => adv_outside(p, current, flag, file, buffer, true, position),
+        Test::No => adv_outside(at, file, buffer, true, position),
         Test::Yes => Step::At(Way::Here, next_row(p, true, position, buffer)),
     }
 }

@@ -1,21 +1,21 @@
 -- The file when a block was emptied: the index block's text, stored on the way, is written over, and what the calls left is what the
 -- list of transfers writes.
 use mathlib.Core.Path.{_≡_, sym, ap, _∙_}
-use mathlib.Core.Bool.{Bool, true}
+use mathlib.Core.Bool.{Bool}
 use mathlib.Core.List.{List, [], _∷_, _++_}
 use Prim.Native.Nat.{ℕ, _+_, _≤_, _<_}
 use native.Mathlib.Omega.{arith}
 use lib.ListN.{length, set, length-append, length-set}
 use lib.Seq.{getD-set-other}
-use Rattle.words.specs.Words.{part}
-use Rattle.words.proofs.Parts.{part-none}
 use Rattle.table.specs.declared.Shape.{Shape}
-use Rattle.table.specs.Tables.{count, place, removed, laid}
+use Rattle.table.specs.Tables.{count, place, removed}
 use Rattle.table.proofs.Places.{row-le}
 use Rattle.drum.specs.declared.Description.{Description}
-use Rattle.drum.specs.Params.{fileSize, masterShape, goodParams}
+use Rattle.drum.specs.Params.{fileSize, masterShape}
 use Rattle.drum.specs.Blocks.{Fitting, Block, Read, Write, written, freeText, blockAt, putBlock, Texts, seen, textOf, sections}
+use Rattle.drum.specs.Inside.{HasBlock}
 use Rattle.drum.proofs.Good.{caps}
+use Rattle.drum.proofs.Lent.{held, held-still}
 use Rattle.drum.proofs.Blocks.{length-putBlock, block-same, block-other, block-over, block-swap, block-set, master-set, length-textOf, length-freeText}
 use Rattle.drum.proofs.Written.{Moves, moves-append, written-append, master-word-written, master-set-written}
 use Rattle.rules.specs.declared.Path.{Path}
@@ -65,15 +65,14 @@ module _ (v : Texts) (fit : Fitting (v .desc) (v .file) (v .buffer)) (flag : Boo
   length-freed = length-putBlock (v .desc) _ staged-length (w .detail) detail-block (freeText (v .desc) link) free-length
 
   -- `free_detail`, by what its calls left
-  freed-by : (head : ℕ) (f₁ f₂ f₃ f₄ : List ℕ)
+  freed-by : (f₁ f₂ f₃ : List ℕ)
       → f₁ ≡ written (v .desc) (reached v flag way .moves) (v .file)
       → f₂ ≡ putBlock (v .desc) f₁ (w .index) (textOf (seen (v .desc) (v .current) f₁ (v .buffer)) (w .index))
-      → f₃ ≡ putBlock (v .desc) f₂ (w .detail) (laid (v .desc .wpb) link (part 0 0 (v .buffer)))
-      → f₄ ≡ set f₃ 1 head → f₄ ≡ set (freed v flag way w link) 1 head
-  unfolding freed freeText
-  freed-by head f₁ f₂ f₃ f₄ e₁ e₂ e₃ e₄ =
+      → f₃ ≡ putBlock (v .desc) f₂ (w .detail) (freeText (v .desc) link) → f₃ ≡ freed v flag way w link
+  unfolding freed
+  freed-by f₁ f₂ f₃ e₁ e₂ e₃ =
       let t = text-followed v flag fit way (fits .reached) (w .index) index-block in
-      rw (e₄, e₃, e₂, e₁, t, part-none 0 (v .buffer))
+      rw (e₃, e₂, e₁, t)
 
   -- the index block then has its current text
   index-freed : (head : ℕ) (f : List ℕ) → f ≡ set (freed v flag way w link) 1 head → blockAt (v .desc) f (w .index) ≡ textOf v (w .index)
@@ -132,13 +131,11 @@ module _ (v : Texts) (fit : Fitting (v .desc) (v .file) (v .buffer)) (flag : Boo
         ∙ getD-set-other (v .file) 1 0 head 0 (λ q. omega arith)
 
   both-on : (f₁ f₂ : List ℕ) → f₁ ≡ set (freed v flag way w link) 1 (w .index)
-      → f₂ ≡ putBlock (v .desc) f₁ (w .index) (laid (v .desc .wpb) (w .detail) (part 0 0 (v .buffer)))
+      → f₂ ≡ putBlock (v .desc) f₁ (w .index) (freeText (v .desc) (w .detail))
       → f₂ ≡ written (v .desc) (bothAll v flag way w link) (set (v .file) 1 (w .index))
-  unfolding bothAll freeText
+  unfolding bothAll
   both-on f₁ f₂ e₁ e₂ =
-      let t : List ℕ = freeText (v .desc) (w .detail) in
-      let g : f₂ ≡ putBlock (v .desc) f₁ (w .index) t = rw part-none at e₂ in
-      emptied-by (w .index) t (length-freeText (v .desc) (w .detail) (fit .good)) f₁ f₂ e₁ g
+      emptied-by (w .index) (freeText (v .desc) (w .detail)) (length-freeText (v .desc) (w .detail) (fit .good)) f₁ f₂ e₁ e₂
 
   master-row : (f : List ℕ) → f ≡ written (v .desc) (bothAll v flag way w link) (set (v .file) 1 (w .index)) → length f ≡ fileSize (v .desc)
       → Removable (masterShape (v .desc)) f (w .section)
@@ -166,11 +163,6 @@ one-entry v flag way w link fit one =
       below = path .entry-below;
     }
 
--- a text laid without rows is a block's
-laid-length : (p : Description) (link : ℕ) (b : List ℕ) → goodParams p ≡ true → length (laid (p .wpb) link (part 0 0 b)) ≡ p .wpb
-unfolding freeText
-laid-length p link b good = ap (λ (z : List ℕ). length (laid (p .wpb) link z)) (part-none 0 b) ∙ length-freeText p link good
-
 -- The three functions, by what their calls left.
 module _ (p : Description) (cur : ℕ) (f b : List ℕ) (flag : Bool) (way : Way) (w : Path) (link : ℕ) where
   abbrev v : Texts
@@ -185,45 +177,48 @@ module _ (p : Description) (cur : ℕ) (f b : List ℕ) (flag : Bool) (way : Way
         buffer-is = fit .buffer-is;
       }
 
-  -- the file's length stays
+  -- the index block's text stored, the file has its blocks still
   module _ (f₁ f₂ : List ℕ) (fits : EmptyFits v flag way w link) (fit : Fitting p f b)
       (e₁ : f₁ ≡ written p (reached v flag way .moves) f)
       (e₂ : f₂ ≡ putBlock p f₁ (w .index) (textOf (seen p cur f₁ b) (w .index))) where
-    pub staged-is : length f₂ ≡ fileSize p
-    staged-is =
+    pub staged-held : HasBlock p f₂ (w .detail)
+    staged-held =
         let h = index-block v fit flag way w link fits in
         let g = staged-fits f₁ fits e₁ fit in
-        ap length e₂ ∙ length-putBlock p f₁ (g .file-is) (w .index) h _ (length-textOf (seen p cur f₁ b) (w .index) g h)
+        let l = length-textOf (seen p cur f₁ b) (w .index) g h in
+        let k = held p f₁ b (w .detail) g (fits .path .detail-least) (fits .path .detail-most) in
+        held-still p f₁ f₂ (w .index) (w .detail) _ e₂ l (held p f₁ b (w .index) g (h .0) (h .1)) k
 
-    pub head-place : (f₃ : List ℕ) → f₃ ≡ putBlock p f₂ (w .detail) (laid (p .wpb) link (part 0 0 b)) → 1 < length f₃
-    head-place f₃ e₃ =
-        let h = detail-block v fit flag way w link fits in
-        let g = caps p (fit .good) in
-        let n = ap length e₃ ∙ length-putBlock p f₂ staged-is (w .detail) h _ (laid-length p link b (fit .good)) in
-        omega arith
+    pub freed-told : (f₃ : List ℕ) → f₃ ≡ putBlock p f₂ (w .detail) (freeText p link) → f₃ ≡ freed v flag way w link
+    freed-told f₃ e₃ = freed-by v fit flag way w link fits f₁ f₂ f₃ e₁ e₂ e₃
 
-  pub freed-told : (head : ℕ) (f₁ f₂ f₃ f₄ : List ℕ) → EmptyFits v flag way w link → Fitting p f b
-      → f₁ ≡ written p (reached v flag way .moves) f
-      → f₂ ≡ putBlock p f₁ (w .index) (textOf (seen p cur f₁ b) (w .index))
-      → f₃ ≡ putBlock p f₂ (w .detail) (laid (p .wpb) link (part 0 0 b))
-      → f₄ ≡ set f₃ 1 head → f₄ ≡ set (freed v flag way w link) 1 head
-  freed-told head f₁ f₂ f₃ f₄ fits fit e₁ e₂ e₃ e₄ = freed-by v fit flag way w link fits head f₁ f₂ f₃ f₄ e₁ e₂ e₃ e₄
+  -- the chain's head can be set
+  pub head-place : (f₃ : List ℕ) → f₃ ≡ freed v flag way w link → EmptyFits v flag way w link → Fitting p f b → 1 < length f₃
+  head-place f₃ e₃ fits fit =
+      let g = caps p (fit .good) in
+      let n = ap length e₃ ∙ length-freed v fit flag way w link fits in
+      omega arith
+
+  headed : (f₀ f₁ : List ℕ) (head : ℕ) → f₁ ≡ set f₀ 1 head → f₀ ≡ freed v flag way w link → f₁ ≡ set (freed v flag way w link) 1 head
+  headed f₀ f₁ head e₁ e₀ = e₁ ∙ ap (λ (z : List ℕ). set z 1 head) e₀
 
   -- the index block loses the entry
-  pub entry-ready : (f₁ : List ℕ) → OneFits v flag way w link
-      → f₁ ≡ set (freed v flag way w link) 1 (w .detail) → Fitting p f b → EntryIn p f₁ (w .index) (w .entry)
-  entry-ready f₁ one e fit =
+  pub entry-ready : (f₀ f₁ : List ℕ) → f₁ ≡ set f₀ 1 (w .detail) → f₀ ≡ freed v flag way w link
+      → OneFits v flag way w link → Fitting p f b → EntryIn p f₁ (w .index) (w .entry)
+  entry-ready f₀ f₁ e₁ e₀ one fit =
+      let e = headed f₀ f₁ (w .detail) e₁ e₀ in
       record {
         file-is = freed-fits v fit flag way w link (one .emptied) (w .detail) f₁ e;
         block = index-block v fit flag way w link (one .emptied);
         entry = rw (index-freed v fit flag way w link (one .emptied) (w .detail) f₁ e) (one-entry v flag way w link fit one);
       }
 
-  pub one-file : (f₁ f₂ : List ℕ) → f₂ ≡ putBlock p f₁ (w .index) (entryGone p (w .entry) (blockAt p f₁ (w .index)))
-      → f₁ ≡ set (freed v flag way w link) 1 (w .detail) → OneFits v flag way w link → Fitting p f b
+  pub one-file : (f₀ f₁ f₂ : List ℕ) → f₂ ≡ putBlock p f₁ (w .index) (entryGone p (w .entry) (blockAt p f₁ (w .index)))
+      → f₁ ≡ set f₀ 1 (w .detail) → f₀ ≡ freed v flag way w link → OneFits v flag way w link → Fitting p f b
       → f₂ ≡ emptyFile v flag way w link
   unfolding emptyAll emptyFile
-  one-file f₁ f₂ e₂ e₁ one fit =
+  one-file f₀ f₁ f₂ e₂ h₁ e₀ one fit =
+      let e₁ = headed f₀ f₁ (w .detail) h₁ e₀ in
       let t : List ℕ = entryGone p (w .entry) (textOf v (w .index)) in
       let ht : length t ≡ p .wpb = length-gone p (textOf v (w .index)) (w .entry) (one-entry v flag way w link fit one) in
       let e = index-freed v fit flag way w link (one .emptied) (w .detail) f₁ e₁ in
@@ -231,19 +226,22 @@ module _ (p : Description) (cur : ℕ) (f b : List ℕ) (flag : Bool) (way : Way
       emptied-by v fit flag way w link (one .emptied) (w .detail) t ht f₁ f₂ e₁ g
 
   -- or the index block is emptied too, and its master entry goes
-  module _ (f₁ : List ℕ) (fits : EmptyFits v flag way w link) (e₁ : f₁ ≡ set (freed v flag way w link) 1 (w .index))
+  module _ (f₀ f₁ : List ℕ) (e₁ : f₁ ≡ set f₀ 1 (w .index)) (e₀ : f₀ ≡ freed v flag way w link) (fits : EmptyFits v flag way w link)
       (fit : Fitting p f b) where
-    pub freed-is : length f₁ ≡ fileSize p
-    freed-is = freed-fits v fit flag way w link fits (w .index) f₁ e₁
+    freed-is : length f₁ ≡ fileSize p
+    freed-is = freed-fits v fit flag way w link fits (w .index) f₁ (headed f₀ f₁ (w .index) e₁ e₀)
 
-    module _ (h : Shape) (f₂ : List ℕ) (e₂ : f₂ ≡ putBlock p f₁ (w .index) (laid (p .wpb) (w .detail) (part 0 0 b))) (eh : h ≡ masterShape p) where
+    pub headed-held : HasBlock p f₁ (w .index)
+    headed-held = record { good = fit .good; file-is = freed-is; least = fits .path .index-least; most = fits .path .index-most }
+
+    module _ (h : Shape) (f₂ : List ℕ) (e₂ : f₂ ≡ putBlock p f₁ (w .index) (freeText p (w .detail))) (eh : h ≡ masterShape p) where
       both-is : f₂ ≡ written p (bothAll v flag way w link) (set f 1 (w .index))
-      both-is = both-on v fit flag way w link fits f₁ f₂ e₁ e₂
+      both-is = both-on v fit flag way w link fits f₁ f₂ (headed f₀ f₁ (w .index) e₁ e₀) e₂
 
       section-row : Removable (masterShape p) f₂ (w .section)
       section-row =
           let k = index-block v fit flag way w link fits in
-          let n : length f₂ ≡ fileSize p = ap length e₂ ∙ length-putBlock p f₁ freed-is (w .index) k _ (laid-length p (w .detail) b (fit .good)) in
+          let n : length f₂ ≡ fileSize p = ap length e₂ ∙ length-putBlock p f₁ freed-is (w .index) k _ (length-freeText p (w .detail) (fit .good)) in
           master-row v fit flag way w link fits f₂ both-is n
 
       pub section-within : place h (count f₂) ≤ length f₂
@@ -258,15 +256,3 @@ module _ (p : Description) (cur : ℕ) (f b : List ℕ) (flag : Bool) (way : Way
       pub both-file : (f₃ : List ℕ) → f₃ ≡ removed h (w .section) f₂ → f₃ ≡ bothFile v flag way w link
       unfolding bothFile
       both-file f₃ e₃ = removed-from h (masterShape p) (w .section) f₂ _ f₃ eh both-is e₃
-
--- a block has a word, and the number of a block fits into a word
-pub block-some : (p : Description) (f b : List ℕ) → Fitting p f b → 1 ≤ p .wpb
-block-some p f b fit =
-    let g = caps p (fit .good) in
-    omega arith
-
-pub number-small : (p : Description) (f b : List ℕ) (x : ℕ) → Fitting p f b → x ≤ p .n → x ≤ 262143
-number-small p f b x fit h =
-    let g = caps p (fit .good) in
-    let q = g .facts in
-    omega arith

@@ -91,12 +91,12 @@ module _ (p : Description) (cur : ℕ) (f b : List ℕ) (flag : Bool) (d : Delet
 
       -- an emptied block: the buffer is zeroed and nothing is held
       module _ (way : Way) (w : Path) (head n : ℕ) where
-        pub told-one : d ≡ Empty way w head → r ≡ record { number = done; transfers = n; current = 0; flag = false; keyed = true }
+        pub told-one : (b₁ : List ℕ) → d ≡ Empty way w head → r ≡ record { number = done; transfers = n; current = 0; flag = false; keyed = true }
             → n ≡ length (emptyAll v flag way w head) → g ≡ emptyFile v flag way w head
-            → t ≡ zeros (length b) → Fitting p f b
+            → t ≡ zeros (length b₁) → length b₁ ≡ length b → Fitting p f b
             → gave r g t [] ≡ told v flag [] (deleteDone v flag [] d)
         unfolding deleteDone
-        told-one e er en eg et fit = rw e (emptied-told v flag n _ g _ t r er et (fit .buffer-is) en eg)
+        told-one b₁ e er en eg et l fit = rw e (emptied-told v flag n _ g _ t r er (et ∙ ap zeros l) (fit .buffer-is) en eg)
 
         pub told-both : d ≡ Both way w head → r ≡ record { number = done; transfers = n; current = 0; flag = false; keyed = true }
             → n ≡ length (bothAll v flag way w head) → g ≡ bothFile v flag way w head

@@ -7,7 +7,6 @@ use native.Mathlib.Omega.{arith}
 use mir.Syntax.{w64}
 use mir.Val.{Fits}
 use borrow.Author.Tests.{eq-eqb, ne-eqb}
-use borrow.Rule.Slice.PartMut.{putMid, midOf}
 use lib.Dec.{eqb}
 use lib.ListN.{length}
 use Rattle.words.specs.Words.{part, put}
@@ -17,11 +16,9 @@ use Rattle.table.specs.Tables.{count, place, keyAt, removed, replaced}
 use Rattle.table.proofs.Places.{row-le, row-lt}
 use Rattle.table.proofs.Lengths.{length-removed}
 use Rattle.drum.specs.declared.Description.{Description}
-use Rattle.drum.specs.Params.{I, start, masterShape, indexShape, detailShape}
-use Rattle.drum.specs.Blocks.{blockAt, putBlock}
+use Rattle.drum.specs.Params.{I, masterShape, indexShape, detailShape}
+use Rattle.drum.specs.Blocks.{Fitting, blockAt, putBlock}
 use Rattle.drum.proofs.Good.{caps}
-use Rattle.drum.proofs.Blocks.{block-within}
-use Rattle.acts.proofs.Lent.{lent, given-back}
 use Rattle.rules.specs.Dlete.{entryGone}
 use Rattle.dlete.specs.Fits.{HasEntry, EntryIn}
 use Rattle.dlete.specs.Freed.{handed}
@@ -169,18 +166,14 @@ module _ (p : Description) (t : List ℕ) (j : ℕ) where
   pub gone-by : (h : Shape) (u r : List ℕ) → r ≡ removed h j u → u ≡ handed p j t → h ≡ indexShape p → r ≡ entryGone p j t
   gone-by h u r er eu eh = removed-from h (indexShape p) j u (handed p j t) r eh eu er ∙ sym gone-is
 
--- the index block's own words are lent, and come back without the entry
-module _ (p : Description) (f : List ℕ) (b j : ℕ) where
-  pub block-end : EntryIn p f b j → start p b + p .wpb ≤ length f
-  block-end h =
-      let w = block-within p b (h .block) in
-      let l = h .file-is in
-      omega arith
+-- the index block by way of the buffer
+module _ (p : Description) (f t : List ℕ) (b j : ℕ) (has : EntryIn p f b j) where
+  pub entry-fits : length t ≡ p .wpb → Fitting p f t
+  entry-fits n = record { good = has .entry .good; file-is = has .file-is; buffer-is = n }
 
-  pub lent-entry : (a : ℕ) → EntryIn p f b j → a ≡ start p b → HasEntry p (midOf a (a + p .wpb - a) f) j
-  lent-entry a h e = rw (lent p f b a e) (h .entry)
+  pub entry-read : t ≡ blockAt p f b → HasEntry p t j
+  entry-read e = rw e (has .entry)
 
-  pub gone-back : (a : ℕ) (t : List ℕ) → EntryIn p f b j → a ≡ start p b → t ≡ entryGone p j (midOf a (a + p .wpb - a) f)
-      → length t ≡ length (midOf a (a + p .wpb - a) f) → putMid a (a + p .wpb - a) f t ≡ putBlock p f b (entryGone p j (blockAt p f b))
-  gone-back a t h e et k =
-      given-back p f b a (h .file-is) (h .block) e t k ∙ ap (putBlock p f b) (et ∙ ap (entryGone p j) (lent p f b a e))
+pub entry-stored : (p : Description) (f g t u : List ℕ) (b j : ℕ) → g ≡ putBlock p f b u → u ≡ entryGone p j t → t ≡ blockAt p f b
+    → g ≡ putBlock p f b (entryGone p j (blockAt p f b))
+entry-stored p f g t u b j eg eu et = rw (eg, eu, et)

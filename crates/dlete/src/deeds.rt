@@ -5,22 +5,23 @@ use numbers::DONE;
 use numbers::NOT_FOUND;
 use rules::Delete;
 use rules::Done;
+use rules::Held;
 use rules::Path;
 use rules::Way;
 ghost use mathlib.Core.Path.{_≡_};
 ghost use mathlib.Core.Bool.{true, false};
 ghost use mathlib.Core.List.{[]};
-ghost use Prim.Native.Nat.{_≤_};
-ghost use lib.ListN.{length, set};
+ghost use lib.ListN.{length};
 ghost use Rattle.numbers.specs.Numbers.{done};
 ghost use Rattle.numbers.specs.Checked.{passed};
 ghost use Rattle.words.specs.Words.{zeros};
 ghost use Rattle.table.specs.Tables.{removed};
 ghost use Rattle.drum.specs.Params.{detailShape};
-ghost use Rattle.drum.specs.Blocks.{Fitting, seen, blockAt, putBlock, atEntry};
+ghost use Rattle.drum.specs.Blocks.{Fitting, blockAt, putBlock};
 ghost use Rattle.rules.specs.Lookup.{reached, storing};
 ghost use Rattle.rules.specs.Dlete.{entryGone, emptyAll, bothAll, emptyFile, bothFile, deleteDone};
 ghost use Rattle.rules.specs.Told.{gave, told};
+ghost use Rattle.acts.specs.Reach.{seenBy};
 ghost use Rattle.dlete.specs.Fits.{HasEntry, EntryIn, RemoveFits, EmptyFits, OneFits, DeleteFits};
 ghost use Rattle.dlete.specs.Freed.{handed, freed};
 ghost use Rattle.words.specs.Slices.{was, became};
@@ -47,91 +48,70 @@ fn entry_gone(p: Description, t: &mut [u32], j: usize)
     table::remove_row(p.index_shape(), t, j);
 }
 
-// The same in index block b, where it lies in the file.
-fn gone_in(p: Description, file: &mut [u32], b: usize, j: usize)
-    requires { ⌜ EntryIn p (now file) b j ⌝ }
+// The same in index block b of the file, by way of the buffer.
+fn gone_in(p: Description, file: &mut [u32], buffer: &mut [u32], b: usize, j: usize)
+    requires { ⌜ EntryIn p (now file) b j × (length (now buffer) ≡ p .wpb) ⌝ }
     ensures { λ _. ⌜ became file ≡ putBlock p (was file) b (entryGone p j (blockAt p (was file) b)) ⌝ }
 {
-    let start = p.start(b);
-    let end = start + p.wpb;
-    entry_gone(p, &mut file[start..end], j);
+    drum::read_block(p, file, buffer, b);
+    entry_gone(p, buffer, j);
+    drum::write_block(p, file, buffer, b);
 }
 
-// The stores up to the index block: a flagged buffer, the index block's current text, which may stand in the buffer alone, the emptied
-// block with its link, and the chain's new head.
-fn free_detail(
-    p: Description,
-    current: usize,
-    flag: bool,
-    file: &mut [u32],
-    buffer: &[u32],
-    way: Way,
-    w: Path,
-    link: usize,
-    head: usize,
-) -> usize
+// The stores up to the index block: a flagged buffer, the index block's current text, which may stand in the buffer alone, and the emptied
+// block with its link.
+fn free_detail(at: Held, file: &mut [u32], buffer: &[u32], way: Way, w: Path, link: usize) -> usize
     requires { ⌜
-        Fitting p (now file) (now buffer)
-        × EmptyFits (seen p current (now file) (now buffer)) flag way w link
-        × (head ≤ p .n)
+        Fitting (at .desc) (now file) (now buffer) × EmptyFits (seenBy at (now file) (now buffer)) (at .flag) way w link
         ⌝ }
     ensures { λ r. ⌜
-        (r ≡ length (reached (atEntry p current file buffer) flag way .moves))
-        × (became file ≡ set (freed (atEntry p current file buffer) flag way w link) 1 head)
+        (r ≡ length (reached (seenBy at (was file) (was buffer)) (at .flag) way .moves))
+        × (became file ≡ freed (seenBy at (was file) (was buffer)) (at .flag) way w link)
         ⌝ }
 {
-    let moved = acts::follow(p, current, flag, file, buffer, way);
-    acts::stage(p, current, file, buffer, w.index);
-    acts::lay_block(p, file, w.detail, link, buffer, 0, 0);
-    words::put_word(file, 1, head);
+    let moved = acts::follow(at, file, buffer, way);
+    acts::stage(at.desc, at.current, file, buffer, w.index);
+    drum::inside::free_block(at.desc, file, w.detail, link);
     moved
 }
 
-// The block is left empty, its index block not.
+// The block is left empty, its index block not: the block is made the chain's head, and its entry goes.
 fn empty_one(
-    p: Description,
-    current: usize,
-    flag: bool,
+    at: Held,
     file: &mut [u32],
-    buffer: &[u32],
+    buffer: &mut [u32],
     way: Way,
     w: Path,
     head: usize,
 ) -> usize
     requires { ⌜
-        Fitting p (now file) (now buffer) × OneFits (seen p current (now file) (now buffer)) flag way w head
+        Fitting (at .desc) (now file) (now buffer) × OneFits (seenBy at (now file) (now buffer)) (at .flag) way w head
         ⌝ }
     ensures { λ r. ⌜
-        (r ≡ length (emptyAll (atEntry p current file buffer) flag way w head))
-        × (became file ≡ emptyFile (atEntry p current file buffer) flag way w head)
+        (r ≡ length (emptyAll (seenBy at (was file) (was buffer)) (at .flag) way w head))
+        × (became file ≡ emptyFile (seenBy at (was file) (was buffer)) (at .flag) way w head)
         ⌝ }
 {
-    let moved = free_detail(p, current, flag, file, buffer, way, w, head, w.detail);
-    gone_in(p, file, w.index, w.entry);
+    let moved = free_detail(at, file, buffer, way, w, head);
+    words::put_word(file, 1, w.detail);
+    gone_in(at.desc, file, buffer, w.index, w.entry);
     moved + 3
 }
 
 // The block and its index block are left empty: the index block is made the chain's head after the block, and its master entry goes.
-fn empty_both(
-    p: Description,
-    current: usize,
-    flag: bool,
-    file: &mut [u32],
-    buffer: &[u32],
-    way: Way,
-    w: Path,
-    head: usize,
-) -> usize
+fn empty_both(at: Held, file: &mut [u32], buffer: &[u32], way: Way, w: Path, head: usize) -> usize
     requires { ⌜
-        Fitting p (now file) (now buffer) × EmptyFits (seen p current (now file) (now buffer)) flag way w head
+        Fitting (at .desc) (now file) (now buffer) × EmptyFits (seenBy at (now file) (now buffer)) (at .flag) way w head
         ⌝ }
     ensures { λ r. ⌜
-        (r ≡ length (bothAll (atEntry p current file buffer) flag way w head))
-        × (became file ≡ bothFile (atEntry p current file buffer) flag way w head)
+        (r ≡ length (bothAll (seenBy at (was file) (was buffer)) (at .flag) way w head))
+        × (became file ≡ bothFile (seenBy at (was file) (was buffer)) (at .flag) way w head)
         ⌝ }
 {
-    let moved = free_detail(p, current, flag, file, buffer, way, w, head, w.index);
-    acts::lay_block(p, file, w.index, w.detail, buffer, 0, 0);
+    let p = at.desc;
+    let moved = free_detail(at, file, buffer, way, w, head);
+    words::put_word(file, 1, w.index);
+    drum::inside::free_block(p, file, w.index, w.detail);
     table::remove_row(p.master_shape(), file, w.section);
     moved + 3
 }
@@ -155,26 +135,19 @@ fn none_held(buffer: &mut [u32], transfers: usize) -> Done
 }
 
 // The record is taken out of its block, which is not left empty.
-fn remove_record(
-    p: Description,
-    current: usize,
-    flag: bool,
-    file: &mut [u32],
-    buffer: &mut [u32],
-    way: Way,
-    i: usize,
-) -> Done
+fn remove_record(at: Held, file: &mut [u32], buffer: &mut [u32], way: Way, i: usize) -> Done
     requires { ⌜
-        Fitting p (now file) (now buffer) × RemoveFits (seen p current (now file) (now buffer)) flag way i
+        Fitting (at .desc) (now file) (now buffer) × RemoveFits (seenBy at (now file) (now buffer)) (at .flag) way i
         ⌝ }
     ensures { λ r. ⌜
         gave r (became file) (became buffer) []
-        ≡ told (atEntry p current file buffer) flag []
-        (passed (storing done [] (reached (atEntry p current file buffer) flag way)
-        (removed (detailShape p) i (reached (atEntry p current file buffer) flag way .buffer))))
+        ≡ told (seenBy at (was file) (was buffer)) (at .flag) []
+        (passed (storing done [] (reached (seenBy at (was file) (was buffer)) (at .flag) way)
+        (removed (detailShape (at .desc)) i (reached (seenBy at (was file) (was buffer)) (at .flag) way .buffer))))
         ⌝ }
 {
-    let here = acts::reach(p, current, flag, file, buffer, way);
+    let p = at.desc;
+    let here = acts::reach(at, file, buffer, way);
     table::remove_row(p.detail_shape(), buffer, i);
     Done {
         number: DONE,
@@ -186,30 +159,26 @@ fn remove_record(
 }
 
 // Does what was planned.
-pub fn do_dlete(
-    deed: Delete,
-    p: Description,
-    current: usize,
-    flag: bool,
-    file: &mut [u32],
-    buffer: &mut [u32],
-) -> Done
-    requires { ⌜ Fitting p (now file) (now buffer) × DeleteFits (seen p current (now file) (now buffer)) flag deed ⌝ }
+pub fn do_dlete(deed: Delete, at: Held, file: &mut [u32], buffer: &mut [u32]) -> Done
+    requires { ⌜
+        Fitting (at .desc) (now file) (now buffer) × DeleteFits (seenBy at (now file) (now buffer)) (at .flag) deed
+        ⌝ }
     ensures { λ r. ⌜
         gave r (became file) (became buffer) []
-        ≡ told (atEntry p current file buffer) flag [] (deleteDone (atEntry p current file buffer) flag [] deed)
+        ≡ told (seenBy at (was file) (was buffer)) (at .flag) []
+        (deleteDone (seenBy at (was file) (was buffer)) (at .flag) [] deed)
         ⌝ }
 {
     match deed {
-        Delete::Bad => Done::refused(BAD_FILE, current, flag),
-        Delete::Stop(w) => acts::stop(p, current, flag, file, buffer, Way::By(w), NOT_FOUND),
-        Delete::Remove(way, i) => remove_record(p, current, flag, file, buffer, way, i),
+        Delete::Bad => Done::refused(BAD_FILE, at.current, at.flag),
+        Delete::Stop(w) => acts::stop(at, file, buffer, Way::By(w), NOT_FOUND),
+        Delete::Remove(way, i) => remove_record(at, file, buffer, way, i),
         Delete::Empty(way, w, head) => {
-            let transfers = empty_one(p, current, flag, file, buffer, way, w, head);
+            let transfers = empty_one(at, file, buffer, way, w, head);
             none_held(buffer, transfers)
         }
         Delete::Both(way, w, head) => {
-            let transfers = empty_both(p, current, flag, file, buffer, way, w, head);
+            let transfers = empty_both(at, file, buffer, way, w, head);
             none_held(buffer, transfers)
         }
     }

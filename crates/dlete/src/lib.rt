@@ -4,6 +4,7 @@ mod plan;
 
 use drum::Description;
 use rules::Done;
+use rules::Held;
 ghost use mathlib.Core.Path.{_≡_};
 ghost use lib.ListN.{length};
 ghost use Rattle.drum.specs.Blocks.{Fitting};
@@ -23,5 +24,10 @@ pub fn dlete(
     ensures { λ r. ⌜ Follows r dleteSteps p current flag file buffer work ⌝ }
 {
     let deed = plan::plan_dlete(p, current, flag, file, buffer, work);
-    deeds::do_dlete(deed, p, current, flag, file, buffer)
+    let at = Held {
+        desc: p,
+        current,
+        flag,
+    };
+    deeds::do_dlete(deed, at, file, buffer)
 }

@@ -2,6 +2,7 @@
 use drum::Description;
 use lookup::Route;
 use rules::Delete;
+use rules::Held;
 use rules::Look;
 use rules::Path;
 use rules::Way;
@@ -43,32 +44,19 @@ fn empty_deed<'a>(
 }
 
 // The record is at place i of the buffered block. If that is left empty, its path is the one for the key, and must lead to it.
-fn delete_here<'a>(
-    p: Description,
-    current: usize,
-    file: &'a [u32],
-    buffer: &'a [u32],
-    key: &[u32],
-    i: usize,
-) -> Delete
-    requires { ⌜ Fitting p (now file) (now buffer) × (p .k ≤ length (now key)) ⌝ }
+fn delete_here<'a>(at: Held, file: &'a [u32], buffer: &'a [u32], key: &[u32], i: usize) -> Delete
+    requires { ⌜ Fitting (at .desc) (now file) (now buffer) × (at .desc .k ≤ length (now key)) ⌝ }
     ensures { λ r. ⌜
         asDelete r
-        ≡ deleteAfter (atEntry p current file buffer) (part 0 (p .k) (was key)) (look-is.Found way-is.Here i)
+        ≡ deleteAfter (atEntry (at .desc) (at .current) file buffer) (part 0 (at .desc .k) (was key)) (look-is.Found way-is.Here i)
         ⌝ }
 {
+    let p = at.desc;
+    let current = at.current;
     if words::word_at(buffer, 0) != 1 {
         return Delete::Remove(Way::Here, i);
     }
-    let route = lookup::path_by(
-        p,
-        current,
-        file,
-        buffer,
-        Which::Covering,
-        Which::Covering,
-        key,
-    );
+    let route = lookup::path_by(at, file, buffer, Which::Covering, Which::Covering, key);
     match route {
         Route::Bad => Delete::Bad,
         Route::To(w) => {
@@ -111,12 +99,17 @@ pub fn plan_dlete<'a>(
     requires { ⌜ Fitting p (now file) (now buffer) × (p .k ≤ length (now key)) ⌝ }
     ensures { λ r. ⌜ asDelete r ≡ deleteDeed (atEntry p current file buffer) flag (part 0 (p .k) (was key)) ⌝ }
 {
+    let at = Held {
+        desc: p,
+        current,
+        flag,
+    };
     let l = lookup::look(p, current, flag, file, buffer, key);
     match l {
         Look::Bad => Delete::Bad,
         Look::Missing(w) => Delete::Stop(w),
         Look::Found(way, i) => match way {
-            Way::Here => delete_here(p, current, file, buffer, key, i),
+            Way::Here => delete_here(at, file, buffer, key, i),
             Way::By(w) => delete_by(p, current, file, buffer, w, i),
         },
     }

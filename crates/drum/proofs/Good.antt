@@ -1,14 +1,14 @@
 -- What good parameters and right sizes are, as facts: the table of ranges, and the bounds of capacities and places that follow from it.
-use mathlib.Core.Path.{_≡_, refl}
-use mathlib.Core.Bool.{Bool, true, false}
+use mathlib.Core.Path.{_≡_, refl, sym, _∙_}
+use mathlib.Core.Bool.{Bool, true, false, not}
 use mathlib.Core.List.{List, [], _∷_}
 use Prim.Native.Nat.{ℕ, _+_, _*_, _-_, _/_, _%_, _≤_, _<_}
 use native.Mathlib.Nat.{mul-le-mul, mul-le-mul-right, div-mul-le-self, div-le-self}
 use native.Mathlib.Omega.{arith}
-use borrow.Author.Tests.{le-leb, leb-true, eq-eqb, eqb-true}
+use borrow.Author.Tests.{le-leb, leb-true, eq-eqb, eqb-true, not-true, not-false}
 use Rattle.words.proofs.All.{and-both}
 use Rattle.drum.specs.declared.Description.{Description}
-use Rattle.drum.specs.Params.{D, I, FD, FI, masterSize, fileSize, every, mostSections, goodParams, sized}
+use Rattle.drum.specs.Params.{D, I, FD, FI, masterSize, fileSize, every, mostSections, goodParams, sizeIf, sized}
 
 -- tests that all hold, one by one
 abbrev pub Hold : List Bool → Type 0
@@ -136,3 +136,20 @@ unfolding sized
 sized-facts p file buffer h =
     let (g, (f, (b, u))) = every-hold _ h in
     record { good = g; file-is = eqb-true _ _ f; buffer-is = eqb-true _ _ b }
+
+-- a size is taken of good parameters alone; t is the code's test of them
+module _ (p : Description) (t : Bool) where
+  pub was-good : t ≡ goodParams p → not t ≡ false → goodParams p ≡ true
+  was-good e h = sym e ∙ not-false t h
+
+  pub size-none : (n : ℕ) → t ≡ goodParams p → not t ≡ true → 0 ≡ sizeIf p n
+  unfolding sizeIf
+  size-none n e h = simp (sym e ∙ not-true t h)
+
+  pub size-some : (n r : ℕ) → r ≡ n → t ≡ goodParams p → not t ≡ false → r ≡ sizeIf p n
+  unfolding sizeIf
+  size-some n r i e h = simp (was-good e h) i
+
+pub size-good : (p : Description) (n r : ℕ) → r ≡ sizeIf p n → goodParams p ≡ true → r ≡ n
+unfolding sizeIf
+size-good p n r e g = e ∙ simp g

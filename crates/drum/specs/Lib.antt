@@ -1,2 +1,4 @@
 pub mod Params
 pub mod Blocks
+pub mod Inside
+pub mod Parts

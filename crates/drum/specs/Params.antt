@@ -1,6 +1,6 @@
 -- Document 01, "Parameters": the capacities and sizes that belong to a file description p, and which descriptions are good.
 use Prim.Native.Nat.{ℕ, _+_, _*_, _-_, _/_, _%_}
-use mathlib.Core.Bool.{Bool, true, _&&_}
+use mathlib.Core.Bool.{Bool, true, cond, _&&_}
 use mathlib.Core.List.{List, [], _∷_}
 use lib.Dec.{leb, eqb}
 use Rattle.table.specs.declared.Shape.{Shape}
@@ -55,6 +55,10 @@ goodParams p =
     ∷ leb 1 (p .control) ∷ leb (p .control) mostSections
     ∷ leb 2 (p .n) ∷ leb (p .n) 262142
     ∷ [])
+
+-- a size of good parameters: "With parameters out of range no size is taken" [O7]
+unfoldable pub sizeIf : Description → ℕ → ℕ
+sizeIf p n = cond (goodParams p) n 0
 
 -- 020007 for file and buffer: "The file is exactly ..", "Buffer: exactly WPB words" [P10, P12, N1]
 unfoldable pub sized : Description → ℕ → ℕ → Bool

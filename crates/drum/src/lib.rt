@@ -1,13 +1,17 @@
-// The lower layer: the file description, and blocks moved between file and buffer. Only this crate knows where a block lies in a file.
+// The lower layer: the file description, blocks moved between file and buffer, and blocks changed where they lie. Only this crate knows where
+// a block lies in a file.
+pub mod inside;
+
 use table::Shape;
 ghost use mathlib.Core.Path.{_≡_};
 ghost use mathlib.Core.Bool.{true};
 ghost use mathlib.Core.List.{[], _∷_};
 ghost use Prim.Native.Nat.{_+_, _*_, _-_, _≤_, _<_};
 ghost use lib.Dec.{leb};
-ghost use Rattle.drum.specs.Params.{D, I, FD, FI, masterSize, fileSize, start as startOf};
+ghost use Rattle.drum.specs.Params.{D, I, FD, FI, masterSize, fileSize, sizeIf, start as startOf};
 ghost use Rattle.drum.specs.Params.{every, goodParams, mostSections, sized, masterShape, indexShape, detailShape};
 ghost use Rattle.drum.specs.Blocks.{blockAt, putBlock, Fitting, Block, textOf, atEntry};
+ghost use Rattle.drum.specs.Parts.{partOf, textPart};
 ghost use Rattle.words.specs.Slices.{was, became};
 
 // The parameters of a search file. Set up field by field, each step handing the description on.
@@ -189,8 +193,8 @@ impl Description {
         has_room(self)
     }
 
-    // The words of the master.
-    pub fn master_size(self) -> usize
+    // The words of the master, and of the file, of parameters that are good.
+    fn master_words(self) -> usize
         requires { ⌜ goodParams self ≡ true ⌝ }
         ensures { λ r. ⌜ r ≡ masterSize self ⌝ }
     {
@@ -198,12 +202,31 @@ impl Description {
         w + w % 2
     }
 
-    // The words of the file.
-    pub fn file_size(self) -> usize
+    fn file_words(self) -> usize
         requires { ⌜ goodParams self ≡ true ⌝ }
         ensures { λ r. ⌜ r ≡ fileSize self ⌝ }
     {
-        self.master_size() + self.n * self.wpb
+        self.master_words() + self.n * self.wpb
+    }
+
+    // The words of the master; 0 where the parameters are not good.
+    pub fn master_size(self) -> usize
+        ensures { λ r. ⌜ r ≡ sizeIf self (masterSize self) ⌝ }
+    {
+        if !self.is_good() {
+            return 0;
+        }
+        self.master_words()
+    }
+
+    // The words of the file; 0 where the parameters are not good.
+    pub fn file_size(self) -> usize
+        ensures { λ r. ⌜ r ≡ sizeIf self (fileSize self) ⌝ }
+    {
+        if !self.is_good() {
+            return 0;
+        }
+        self.file_words()
     }
 
     // Where block b starts; block N + 1 would start where the file ends.
@@ -211,7 +234,7 @@ impl Description {
         requires { ⌜ (goodParams self ≡ true) × (1 ≤ b) × (b ≤ self .n + 1) ⌝ }
         ensures { λ r. ⌜ r ≡ startOf self b ⌝ }
     {
-        self.master_size() + (b - 1) * self.wpb
+        self.master_words() + (b - 1) * self.wpb
     }
 
     // The tables of a file.
@@ -254,7 +277,7 @@ impl Description {
         if !self.is_good() {
             return false;
         }
-        if file != self.file_size() {
+        if file != self.file_words() {
             return false;
         }
         buffer == self.wpb
@@ -317,7 +340,27 @@ pub fn write_block(p: Description, file: &mut [u32], buffer: &[u32], b: usize)
     words::copy_words(file, start, buffer, 0, wpb);
 }
 
-// Lends the current text of block b: a part of the buffer or of the file.
+// Lends the current text of block b, and tells where it lies: it is the buffer itself, or begins at the block's first word in the file.
+pub fn text_part<'a>(
+    p: Description,
+    current: usize,
+    file: &'a [u32],
+    buffer: &'a [u32],
+    b: usize,
+) -> &'a [u32]
+    requires { ⌜ Fitting p (now file) (now buffer) × Block p b ⌝ }
+    ensures { λ r. ⌜ partOf r ≡ textPart p current (file .entry) (buffer .entry) b ⌝ }
+{
+    if b == current {
+        return buffer;
+    }
+    let wpb = p.wpb;
+    let start = p.start(b);
+    let end = start + wpb;
+    &file[start..end]
+}
+
+// The same for a plan, which needs its words alone.
 pub fn text_of<'a>(
     p: Description,
     current: usize,
@@ -328,11 +371,5 @@ pub fn text_of<'a>(
     requires { ⌜ Fitting p (now file) (now buffer) × Block p b ⌝ }
     ensures { λ r. ⌜ now r ≡ textOf (atEntry p current file buffer) b ⌝ }
 {
-    if b == current {
-        return buffer;
-    }
-    let wpb = p.wpb;
-    let start = p.start(b);
-    let end = start + wpb;
-    &file[start..end]
+    text_part(p, current, file, buffer, b)
 }

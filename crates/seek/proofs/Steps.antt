@@ -2,14 +2,11 @@
 use mathlib.Core.Path.{_≡_, refl, ap, _∙_}
 use mathlib.Core.Bool.{Bool}
 use mathlib.Core.List.{List}
-use Prim.Native.Nat.{ℕ, _≤_}
-use native.Mathlib.Omega.{arith}
+use Prim.Native.Nat.{ℕ}
 use lib.ListN.{length}
 use Rattle.numbers.specs.Numbers.{badFile}
 use Rattle.numbers.specs.Checked.{Checked, refused, _>>=_}
-use Rattle.drum.specs.declared.Description.{Description}
-use Rattle.drum.specs.Blocks.{Texts, Fitting}
-use Rattle.drum.proofs.Good.{caps}
+use Rattle.drum.specs.Blocks.{Texts}
 use Rattle.rules.specs.declared.Look.{Look}
 use Rattle.rules.specs.declared.Look.the-variants.{Bad, Found, Missing}
 use Rattle.rules.specs.declared.Done.{Done}
@@ -20,15 +17,6 @@ use Rattle.rules.specs.Seek.{seekDone, seekSteps, updatDone, updatSteps}
 use Rattle.rules.specs.Told.{gave, told}
 use Rattle.lookup.specs.Answers.{asLook}
 use Rattle.lookup.proofs.Fits.{look-fits}
-
--- the key lies in a record, and in a workspace of a record's length
-pub key-in-row : (p : Description) (f b : List ℕ) → Fitting p f b → p .k ≤ p .wpr
-key-in-row p f b fit = caps p (fit .good) .facts .key
-
-pub key-within : (p : Description) (f b work : List ℕ) → Fitting p f b → length work ≡ p .wpr → p .k ≤ length work
-key-within p f b work fit e =
-    let k = key-in-row p f b fit in
-    omega arith
 
 -- a bad number found by the lookup is the call's answer
 after-look : (done : Look → Checked Effect) → done Bad ≡ refused badFile → (l : Look) → done l ≡ (asLook l >>= done)

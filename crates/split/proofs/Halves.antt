@@ -15,14 +15,14 @@ use Rattle.table.proofs.Places.{row-le, row-lt, row-next}
 use Rattle.table.proofs.Lengths.{length-laid, length-low, length-high}
 use Rattle.drum.specs.declared.Description.{Description}
 use Rattle.drum.specs.Params.{fileSize, goodParams}
-use Rattle.drum.specs.Blocks.{Block, blockAt, putBlock}
+use Rattle.drum.specs.Blocks.{Block, putBlock}
 use Rattle.drum.proofs.Good.{caps}
-use Rattle.drum.proofs.Blocks.{block-same, block-over, block-swap}
-use Rattle.split.specs.Halves.{Full, staying, leaving, halved, lowEntry}
+use Rattle.drum.proofs.Blocks.{block-swap}
+use Rattle.split.specs.Halves.{FullTable, staying, leaving, halved, lowEntry}
 use Rattle.split.proofs.Laid.{ins, length-ins, insert-laid, take-ins-low, drop-ins-low, take-ins-high, drop-ins-high}
 
 -- a full block has few rows
-pub full-most : (p : Description) (h : Shape) (n i : ℕ) → goodParams p ≡ true → Full p h n i → n ≤ 4096
+pub full-most : (p : Description) (h : Shape) (n i : ℕ) → goodParams p ≡ true → FullTable p h n i → n ≤ 4096
 full-most p h n i g x =
     let q = caps p g in
     let m = mul-le-mul-left n (x .stride-least) in
@@ -61,7 +61,8 @@ sizes s n low i hs hi hl hm =
       rows = omega (arith, mul-le-mul-left n hs);
     }
 
-module _ (p : Description) (h : Shape) (n i : ℕ) (x : Full p h n i) (low : ℕ) (hl : 1 ≤ low) (hm : low ≤ n) (t r : List ℕ) (ht : length t ≡ p .wpb) (hr : length r ≡ h .stride) where
+module _ (p : Description) (h : Shape) (n i : ℕ) (x : FullTable p h n i) (low : ℕ) (hl : 1 ≤ low) (hm : low ≤ n) (t r : List ℕ) (ht : length t ≡ p .wpb)
+    (hr : length r ≡ h .stride) where
   z : Sizes (h .stride) n low i
   z = sizes (h .stride) n low i (x .stride-least) (x .place-most) hl hm
 
@@ -76,7 +77,9 @@ module _ (p : Description) (h : Shape) (n i : ℕ) (x : Full p h n i) (low : ℕ
   one-more = ap (λ (b : ℕ). take (i * h .stride) (part b (n * h .stride) t) ++ r ++ drop (i * h .stride) (part b (n * h .stride) t)) (x .base-one)
 
   length-more : length (oneMore h n i r t) ≡ n * h .stride + h .stride
-  length-more = ap length one-more ∙ length-ins (part 1 (n * h .stride) t) (i * h .stride) r place-in ∙ ap (λ (y : ℕ). y + length r) rows-are ∙ ap (λ (y : ℕ). n * h .stride + y) hr
+  length-more =
+      ap length one-more ∙ length-ins (part 1 (n * h .stride) t) (i * h .stride) r place-in ∙ ap (λ (y : ℕ). y + length r) rows-are
+      ∙ ap (λ (y : ℕ). n * h .stride + y) hr
 
   pub length-leaving : length (leaving (p .wpb) h n low i r t) ≡ p .wpb
   length-leaving =
@@ -130,7 +133,8 @@ module _ (p : Description) (h : Shape) (n i : ℕ) (x : Full p h n i) (low : ℕ
         ∙ take-ins-low (part 1 (n * h .stride) t) r (i * h .stride) (low * h .stride) place-in past
         ∙ take-part 1 (low * h .stride) (n * h .stride) t (z .low-fits)))
 
-    pub high-leaving : inserted h (i - low) r (laid (p .wpb) (n - low) (part (1 + low * h .stride) (n * h .stride - low * h .stride) t)) ≡ leaving (p .wpb) h n low i r t
+    pub high-leaving : inserted h (i - low) r (laid (p .wpb) (n - low) (part (1 + low * h .stride) (n * h .stride - low * h .stride) t))
+        ≡ leaving (p .wpb) h n low i r t
     high-leaving =
         let q : ℕ = low * h .stride in
         let m : ℕ = n * h .stride - q in
@@ -143,22 +147,14 @@ module _ (p : Description) (h : Shape) (n i : ℕ) (x : Full p h n i) (low : ℕ
         ∙ ap (λ (y : ℕ). ins (part (1 + q) m t) y r) (sym b) in
         let e : n - low + 1 ≡ n + 1 - low = omega arith in
         let hi′ = x .place-most in
-        insert-laid h (p .wpb) (n - low) (i - low) (part (1 + q) m t) r (x .base-one) (k ∙ sym (z .rest)) (omega arith) (omega (arith, z .low-fits, z .one, x .rows-fit))
+        let kr = k ∙ sym (z .rest) in
+        insert-laid h (p .wpb) (n - low) (i - low) (part (1 + q) m t) r (x .base-one) kr (omega arith) (omega (arith, z .low-fits, z .one, x .rows-fit))
         ∙ ap (λ (c : ℕ). laid (p .wpb) c (ins (part (1 + q) m t) ((i - low) * h .stride) r)) e
         ∙ ap (laid (p .wpb) (n + 1 - low)) (sym a)
 
--- a block written, and changed where it lies, is the block changed and written
-pub block-changed : (p : Description) (f f₁ f₂ : List ℕ) (b : ℕ) (t u : List ℕ) → length f ≡ fileSize p → Block p b → length t ≡ p .wpb → length u ≡ p .wpb
-    → f₁ ≡ putBlock p f b t → (g : List ℕ → List ℕ) → f₂ ≡ putBlock p f₁ b (g (blockAt p f₁ b)) → g t ≡ u → f₂ ≡ putBlock p f b u
-block-changed p f f₁ f₂ b t u hf hb ht hu e₁ g e₂ e =
-    e₂
-    ∙ ap (λ (y : List ℕ). putBlock p y b (g (blockAt p y b))) e₁
-    ∙ ap (λ (y : List ℕ). putBlock p (putBlock p f b t) b (g y)) (block-same p f hf b hb t ht)
-    ∙ ap (putBlock p (putBlock p f b t) b) e
-    ∙ block-over p f hf b hb t ht u hu
-
 -- the halves in their blocks, and the entry, by the calls that leave them
-module _ (p : Description) (h : Shape) (n i : ℕ) (x : Full p h n i) (t r : List ℕ) (ht : length t ≡ p .wpb) (hr : length r ≡ h .stride) (low : ℕ) (el : low ≡ lowCount n)
+module _ (p : Description) (h : Shape) (n i : ℕ) (x : FullTable p h n i) (t r : List ℕ) (ht : length t ≡ p .wpb) (hr : length r ≡ h .stride) (low : ℕ)
+    (el : low ≡ lowCount n)
     (b₁ : List ℕ) (eb : b₁ ≡ staying (p .wpb) h n low i r t) where
   pub kept-low : b₁ ≡ lowText (p .wpb) h n i r t
   unfolding lowText
@@ -179,4 +175,5 @@ module _ (p : Description) (h : Shape) (n i : ℕ) (x : Full p h n i) (t r : Lis
   pub low-entry-by : (e : List ℕ) (old : ℕ) → e ≡ part (place h (low - 1)) (h .width) b₁ ++ (old ∷ []) → e ≡ lowEntry p h n i r t old
   unfolding lowBound keyAt
   low-entry-by e old q =
-      q ∙ ap (λ (c : ℕ). part (place h (c - 1)) (h .width) b₁ ++ (old ∷ [])) el ∙ ap (λ (y : List ℕ). part (place h (lowCount n - 1)) (h .width) y ++ (old ∷ [])) kept-low
+      q ∙ ap (λ (c : ℕ). part (place h (c - 1)) (h .width) b₁ ++ (old ∷ [])) el
+      ∙ ap (λ (y : List ℕ). part (place h (lowCount n - 1)) (h .width) y ++ (old ∷ [])) kept-low

@@ -53,7 +53,8 @@ module _ (rows r : List ℕ) (x y : ℕ) (hx : x ≤ length rows) where
       let e : y ≡ length p + z = omega arith in
       let g : y - length r - x ≡ z = omega arith in
       let u : take x (take (y - length r) rows) ≡ take x rows = take-take x (y - length r) rows (omega arith) in
-      let v : drop x (take (y - length r) rows) ≡ take z (drop x rows) = drop-take x (y - length r) rows (omega arith) ∙ ap (λ (i : ℕ). take i (drop x rows)) g in
+      let v : drop x (take (y - length r) rows) ≡ take z (drop x rows) = drop-take x (y - length r) rows (omega arith)
+      ∙ ap (λ (i : ℕ). take i (drop x rows)) g in
       ap (λ (i : ℕ). take i (p ++ drop x rows)) e ∙ take-append-add p (drop x rows) z ∙ sym (rw (u, v))
 
   pub drop-ins-high : x + length r ≤ y → drop y (ins rows x r) ≡ drop (y - length r) rows
@@ -69,7 +70,8 @@ module _ (rows r : List ℕ) (x y : ℕ) (hx : x ≤ length rows) where
       ∙ ap (λ (i : ℕ). drop i rows) g
 
 -- what is left when the words past the first q of the rows become 0, under the count c
-pub keep-by : (t t₁ t₂ : List ℕ) (q m c : ℕ) → t₁ ≡ put t (1 + q) (zeros m) → t₂ ≡ set t₁ 0 c → 1 + q ≤ length t → m ≡ length t - 1 - q → t₂ ≡ laid (length t) c (part 1 q t)
+pub keep-by : (t t₁ t₂ : List ℕ) (q m c : ℕ) → t₁ ≡ put t (1 + q) (zeros m) → t₂ ≡ set t₁ 0 c → 1 + q ≤ length t → m ≡ length t - 1 - q
+    → t₂ ≡ laid (length t) c (part 1 q t)
 unfolding put laid part
 keep-by [] t₁ t₂ q m c e₁ e₂ k em = absurd (not-suc-le-zero {n = q} (omega arith))
 keep-by (x ∷ xs) t₁ t₂ q m c e₁ e₂ k em =
@@ -82,7 +84,8 @@ keep-by (x ∷ xs) t₁ t₂ q m c e₁ e₂ k em =
     rw (e₂, e₁, a, d, e) (append-nil _)
 
 -- a row put into a text that has room
-open-laid : (w c : ℕ) (rows r : List ℕ) (x : ℕ) → x ≤ length rows → 1 + length rows + length r ≤ w → opened (laid w c rows) (1 + x) (1 + length rows) r ≡ laid w c (ins rows x r)
+open-laid : (w c : ℕ) (rows r : List ℕ) (x : ℕ) → x ≤ length rows → 1 + length rows + length r ≤ w
+    → opened (laid w c rows) (1 + x) (1 + length rows) r ≡ laid w c (ins rows x r)
 unfolding opened put laid part ins
 open-laid w c rows r x h k =
     let m : ℕ = w - 1 - length rows in
@@ -99,7 +102,8 @@ open-laid w c rows r x h k =
     let n : w - 1 - length (ins rows x r) ≡ m - length r = omega (arith, length-ins rows x r h) in
     rw (a, b, f, i, j, l, n, g) (simp (append-assoc, append-assoc (take x rows) (r ++ drop x rows)))
 
-pub insert-laid : (h : Shape) (w c i : ℕ) (rows r : List ℕ) → h .base ≡ 1 → length rows ≡ c * h .stride → i ≤ c → 1 + length rows + length r ≤ w → inserted h i r (laid w c rows) ≡ laid w (c + 1) (ins rows (i * h .stride) r)
+pub insert-laid : (h : Shape) (w c i : ℕ) (rows r : List ℕ) → h .base ≡ 1 → length rows ≡ c * h .stride → i ≤ c → 1 + length rows + length r ≤ w
+    → inserted h i r (laid w c rows) ≡ laid w (c + 1) (ins rows (i * h .stride) r)
 unfolding inserted laid
 insert-laid h w c i rows r eb el hi hw =
     let t : List ℕ = laid w c rows in

@@ -1,3 +1,6 @@
 pub mod Laid
-pub mod Halves
 pub mod Entries
+pub mod Halves
+pub mod Entered
+pub mod Shared
+pub mod Divided

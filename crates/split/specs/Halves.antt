@@ -10,7 +10,7 @@ use Rattle.drum.specs.declared.Description.{Description}
 use Rattle.drum.specs.Blocks.{putBlock}
 
 -- a block full of n rows of this shape, and a place for one more
-pub record Full (p : Description) (h : Shape) (n i : ℕ) : Type 0 where
+pub record FullTable (p : Description) (h : Shape) (n i : ℕ) : Type 0 where
   pub base-one : h .base ≡ 1
   pub stride-least : 1 ≤ h .stride
   pub rows-least : 2 ≤ n

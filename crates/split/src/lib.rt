@@ -3,17 +3,26 @@
 use drum::Description;
 use table::Shape;
 ghost use mathlib.Core.Path.{_≡_};
-ghost use mathlib.Core.Bool.{true};
 ghost use mathlib.Core.List.{[], _∷_, _++_};
 ghost use Prim.Native.Nat.{_+_, _≤_, _<_};
 ghost use lib.ListN.{length};
 ghost use Rattle.words.specs.Words.{part};
-ghost use Rattle.table.specs.Tables.{count, place, laid};
+ghost use Rattle.table.specs.Tables.{place, laid};
 ghost use Rattle.table.specs.Splits.{lowCount, renamed, entered};
-ghost use Rattle.drum.specs.Params.{goodParams, fileSize};
-ghost use Rattle.drum.specs.Blocks.{Fitting, Block, blockAt, putBlock};
-ghost use Rattle.split.specs.Halves.{Full, staying, leaving, halved, lowEntry};
+ghost use Rattle.drum.specs.Params.{indexShape};
+ghost use Rattle.drum.specs.Blocks.{blockAt, putBlock};
+ghost use Rattle.split.specs.Cuts.{EntersIn, Enters, Shares, Divides, DividesIn, lower, upper, halvedBy, entryBy};
 ghost use Rattle.words.specs.Slices.{was, became};
+
+// A full block of `rows` rows, and a row more that is put in at a place: the lower rows stay in block old, the others go to block new.
+pub struct Cut {
+    pub desc: Description,
+    pub shape: Shape,
+    pub rows: usize,
+    pub place: usize,
+    pub old: usize,
+    pub new: usize,
+}
 
 // Of n rows and one more, how many stay in the old block.
 pub fn low_count(n: usize) -> usize
@@ -53,230 +62,143 @@ fn rename(h: Shape, t: &mut [u32], i: usize, b: usize)
 
 // Lets entry i of a table that has room become two: the entry given, and after it the old one, which names block b.
 pub fn enter(h: Shape, t: &mut [u32], i: usize, entry: &[u32], b: usize)
-    requires { ⌜
-        (1 ≤ h .base)
-        × (h .width < h .stride)
-        × (place h (count (now t)) + h .stride ≤ length (now t))
-        × (i < count (now t))
-        × (count (now t) < 262143)
-        × (h .stride ≤ length (now entry))
-        × (b ≤ 262143)
-        ⌝ }
+    requires { ⌜ Enters h i (now t) × (h .stride ≤ length (now entry)) × (b ≤ 262143) ⌝ }
     ensures { λ _. ⌜ became t ≡ entered h i (part 0 (h .stride) (was entry)) b (was t) ⌝ }
 {
     rename(h, t, i, b);
     table::insert_row(h, t, i, entry, 0);
 }
 
-// The same in block x of the file, where it lies.
-pub fn enter_in(
-    p: Description,
-    h: Shape,
-    file: &mut [u32],
-    x: usize,
-    i: usize,
-    entry: &[u32],
-    b: usize,
-)
-    requires { ⌜
-        (goodParams p ≡ true)
-        × (length (now file) ≡ fileSize p)
-        × Block p x
-        × (1 ≤ h .base)
-        × (h .width < h .stride)
-        × (place h (count (blockAt p (now file) x)) + h .stride ≤ p .wpb)
-        × (i < count (blockAt p (now file) x))
-        × (count (blockAt p (now file) x) < 262143)
-        × (h .stride ≤ length (now entry))
-        × (b ≤ 262143)
-        ⌝ }
+// The same in index block x of the file, where it lies.
+pub fn enter_in(p: Description, file: &mut [u32], x: usize, i: usize, entry: &[u32], b: usize)
+    requires { ⌜ EntersIn p (now file) x i × (p .k + 1 ≤ length (now entry)) × (b ≤ 262143) ⌝ }
     ensures { λ _. ⌜
         became file
-        ≡ putBlock p (was file) x (entered h i (part 0 (h .stride) (was entry)) b (blockAt p (was file) x))
+        ≡ putBlock p (was file) x (entered (indexShape p) i (part 0 (p .k + 1) (was entry)) b (blockAt p (was file) x))
         ⌝ }
 {
-    let start = p.start(x);
-    let end = start + p.wpb;
-    enter(h, &mut file[start..end], i, entry, b);
+    let h = p.index_shape();
+    drum::inside::set_name_in(p, file, x, h, i, b);
+    drum::inside::insert_in(p, file, x, h, i, entry);
 }
 
-// Of a full buffer and a row put in at place i, the lower `low` rows stay, the row among them; the others go to block new.
-fn keep_row(
-    p: Description,
-    h: Shape,
-    file: &mut [u32],
-    buffer: &mut [u32],
-    new: usize,
-    n: usize,
-    low: usize,
-    i: usize,
-    row: &[u32],
-)
+// Of a full buffer and a row put in, the lower `low` rows stay, the row among them; the others go to the new block.
+fn keep_row(cut: Cut, low: usize, file: &mut [u32], buffer: &mut [u32], row: &[u32])
     requires { ⌜
-        Fitting p (now file) (now buffer)
-        × Block p new
-        × Full p h n i
-        × (h .stride ≤ length (now row))
-        × (low ≤ n)
-        × (i < low)
+        Shares cut low (now file) (now buffer) × (cut .shape .stride ≤ length (now row)) × (cut .place < low)
         ⌝ }
     ensures { λ _. ⌜
         (became file
-        ≡ putBlock p (was file) new (leaving (p .wpb) h n low i (part 0 (h .stride) (was row)) (was buffer)))
-        × (became buffer ≡ staying (p .wpb) h n low i (part 0 (h .stride) (was row)) (was buffer))
+        ≡ putBlock (cut .desc) (was file) (cut .new)
+        (upper cut low (part 0 (cut .shape .stride) (was row)) (was buffer)))
+        × (became buffer ≡ lower cut low (part 0 (cut .shape .stride) (was row)) (was buffer))
         ⌝ }
 {
-    let stride = h.stride;
-    let kept = (low - 1) * stride;
-    acts::lay_block(
-        p,
+    let h = cut.shape;
+    let kept = (low - 1) * h.stride;
+    let from = 1 + kept;
+    let end = 1 + cut.rows * h.stride;
+    drum::inside::lay_block(
+        cut.desc,
         file,
-        new,
-        n + 1 - low,
-        buffer,
-        1 + kept,
-        n * stride - kept,
+        cut.new,
+        cut.rows + 1 - low,
+        &buffer[from..end],
     );
     keep(buffer, low - 1, kept);
-    table::insert_row(h, buffer, i, row, 0);
+    table::insert_row(h, buffer, cut.place, row, 0);
 }
 
 // The same, the row among the others.
-fn send_row(
-    p: Description,
-    h: Shape,
-    file: &mut [u32],
-    buffer: &mut [u32],
-    new: usize,
-    n: usize,
-    low: usize,
-    i: usize,
-    row: &[u32],
-)
+fn send_row(cut: Cut, low: usize, file: &mut [u32], buffer: &mut [u32], row: &[u32])
     requires { ⌜
-        Fitting p (now file) (now buffer)
-        × Block p new
-        × Full p h n i
-        × (h .stride ≤ length (now row))
-        × (1 ≤ low)
-        × (low ≤ i)
+        Shares cut low (now file) (now buffer) × (cut .shape .stride ≤ length (now row)) × (low ≤ cut .place)
         ⌝ }
     ensures { λ _. ⌜
         (became file
-        ≡ putBlock p (was file) new (leaving (p .wpb) h n low i (part 0 (h .stride) (was row)) (was buffer)))
-        × (became buffer ≡ staying (p .wpb) h n low i (part 0 (h .stride) (was row)) (was buffer))
+        ≡ putBlock (cut .desc) (was file) (cut .new)
+        (upper cut low (part 0 (cut .shape .stride) (was row)) (was buffer)))
+        × (became buffer ≡ lower cut low (part 0 (cut .shape .stride) (was row)) (was buffer))
         ⌝ }
 {
-    let stride = h.stride;
-    let kept = low * stride;
-    acts::lay_block(p, file, new, n - low, buffer, 1 + kept, n * stride - kept);
-    acts::insert_in(p, h, file, new, i - low, row, 0);
+    let h = cut.shape;
+    let kept = low * h.stride;
+    let from = 1 + kept;
+    let end = 1 + cut.rows * h.stride;
+    drum::inside::lay_block(cut.desc, file, cut.new, cut.rows - low, &buffer[from..end]);
+    drum::inside::insert_in(cut.desc, file, cut.new, h, cut.place - low, row);
     keep(buffer, low, kept);
 }
 
 // The same, wherever the row falls. All that moves words in a split is behind this promise.
-fn share_rows(
-    p: Description,
-    h: Shape,
-    file: &mut [u32],
-    buffer: &mut [u32],
-    new: usize,
-    n: usize,
-    low: usize,
-    i: usize,
-    row: &[u32],
-)
-    requires { ⌜
-        Fitting p (now file) (now buffer)
-        × Block p new
-        × Full p h n i
-        × (h .stride ≤ length (now row))
-        × (1 ≤ low)
-        × (low ≤ n)
-        ⌝ }
+fn share_rows(cut: Cut, low: usize, file: &mut [u32], buffer: &mut [u32], row: &[u32])
+    requires { ⌜ Shares cut low (now file) (now buffer) × (cut .shape .stride ≤ length (now row)) ⌝ }
     ensures { λ _. ⌜
         (became file
-        ≡ putBlock p (was file) new (leaving (p .wpb) h n low i (part 0 (h .stride) (was row)) (was buffer)))
-        × (became buffer ≡ staying (p .wpb) h n low i (part 0 (h .stride) (was row)) (was buffer))
+        ≡ putBlock (cut .desc) (was file) (cut .new)
+        (upper cut low (part 0 (cut .shape .stride) (was row)) (was buffer)))
+        × (became buffer ≡ lower cut low (part 0 (cut .shape .stride) (was row)) (was buffer))
         ⌝ }
 {
-    if i < low {
-        keep_row(p, h, file, buffer, new, n, low, i, row);
+    if cut.place < low {
+        keep_row(cut, low, file, buffer, row);
         return;
     }
-    send_row(p, h, file, buffer, new, n, low, i, row);
+    send_row(cut, low, file, buffer, row);
 }
 
-// Splits the full block in the buffer, a row put in at place i: the halves are written to the blocks old and new, and the entry of the
-// old one is made, its bound the highest key that stays.
-pub fn divide(
-    p: Description,
-    h: Shape,
-    file: &mut [u32],
-    buffer: &mut [u32],
-    entry: &mut [u32],
-    old: usize,
-    new: usize,
-    n: usize,
-    i: usize,
-    row: &[u32],
-)
+// Splits the full block in the buffer, a row put in: the halves are written to their blocks, and the entry of the old one is made, its
+// bound the highest key that stays.
+pub fn divide(cut: Cut, file: &mut [u32], buffer: &mut [u32], entry: &mut [u32], row: &[u32])
     requires { ⌜
-        Fitting p (now file) (now buffer)
-        × Block p old
-        × Block p new
-        × (old ≡ new → ⊥)
-        × Full p h n i
-        × (h .width ≤ h .stride)
-        × (h .stride ≤ length (now row))
-        × (h .width + 1 ≤ length (now entry))
+        Divides cut (now file) (now buffer)
+        × (cut .shape .stride ≤ length (now row))
+        × (cut .shape .width + 1 ≤ length (now entry))
         ⌝ }
     ensures { λ _. ⌜
-        (became file ≡ halved p h n i (part 0 (h .stride) (was row)) (was buffer) old new (was file))
-        × (part 0 (h .width + 1) (became entry) ≡ lowEntry p h n i (part 0 (h .stride) (was row)) (was buffer) old)
+        (became file ≡ halvedBy cut (part 0 (cut .shape .stride) (was row)) (was buffer) (was file))
+        × (part 0 (cut .shape .width + 1) (became entry)
+        ≡ entryBy cut (part 0 (cut .shape .stride) (was row)) (was buffer))
         ⌝ }
 {
-    let low = low_count(n);
-    share_rows(p, h, file, buffer, new, n, low, i, row);
-    drum::write_block(p, file, buffer, old);
-    make_entry(entry, buffer, h.base + (low - 1) * h.stride, h.width, old);
+    let h = cut.shape;
+    let low = low_count(cut.rows);
+    share_rows(cut, low, file, buffer, row);
+    drum::write_block(cut.desc, file, buffer, cut.old);
+    make_entry(
+        entry,
+        buffer,
+        h.base + (low - 1) * h.stride,
+        h.width,
+        cut.old,
+    );
 }
 
-// Splits the full block old of the file, entry i of which becomes two, as for `enter`; and its own entry is made.
+// Splits the full block old of the file, whose entry at the place becomes two, as for `enter`; and its own entry is made.
 pub fn divide_in(
-    p: Description,
-    h: Shape,
+    cut: Cut,
     file: &mut [u32],
     buffer: &mut [u32],
     above: &mut [u32],
-    old: usize,
-    new: usize,
-    n: usize,
-    i: usize,
     entry: &[u32],
     b: usize,
 )
     requires { ⌜
-        Fitting p (now file) (now buffer)
-        × Block p old
-        × Block p new
-        × (old ≡ new → ⊥)
-        × Full p h n i
-        × (i < n)
-        × (h .width < h .stride)
-        × (h .stride ≤ length (now entry))
-        × (h .width + 1 ≤ length (now above))
-        × (b ≤ 262143)
+        DividesIn cut b (now file) (now buffer)
+        × (cut .shape .stride ≤ length (now entry))
+        × (cut .shape .width + 1 ≤ length (now above))
         ⌝ }
     ensures { λ _. ⌜
         (became file
-        ≡ halved p h n i (part 0 (h .stride) (was entry)) (renamed h i b (blockAt p (was file) old)) old new
+        ≡ halvedBy cut (part 0 (cut .shape .stride) (was entry))
+        (renamed (cut .shape) (cut .place) b (blockAt (cut .desc) (was file) (cut .old)))
         (was file))
-        × (part 0 (h .width + 1) (became above)
-        ≡ lowEntry p h n i (part 0 (h .stride) (was entry)) (renamed h i b (blockAt p (was file) old)) old)
+        × (part 0 (cut .shape .width + 1) (became above)
+        ≡ entryBy cut (part 0 (cut .shape .stride) (was entry))
+        (renamed (cut .shape) (cut .place) b (blockAt (cut .desc) (was file) (cut .old))))
         ⌝ }
 {
-    drum::read_block(p, file, buffer, old);
-    rename(h, buffer, i, b);
-    divide(p, h, file, buffer, above, old, new, n, i, entry);
+    drum::read_block(cut.desc, file, buffer, cut.old);
+    rename(cut.shape, buffer, cut.place, b);
+    divide(cut, file, buffer, above, entry);
 }

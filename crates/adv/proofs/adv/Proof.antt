@@ -10,10 +10,13 @@ do-adv-requires c κs =
     let planned = c .before .before .before .plan-adv .ensures in
     (search, search, search (step-fits, planned))
 
-returns : tie.Need-returns
-returns c = search adv-told
-
 pub adv-spec : {M : Type 1} → statement M
 adv-spec =
     tie.close
-    (tie.spec (λ c κs. search needs) do-adv-requires (λ c. search needs) (λ c. search needs) (λ c. search needs) returns)
+    (tie.spec
+    (λ c κs. search needs)
+    do-adv-requires
+    (λ c. search needs)
+    (λ c. search needs)
+    (λ c. search needs)
+    (λ c. search adv-told))

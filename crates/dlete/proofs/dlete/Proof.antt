@@ -7,16 +7,12 @@ use borrow.Author.Needs.{needs}
 use Rattle.dlete.proofs.dlete.Statement.{statement}
 use Rattle.dlete.proofs.dlete.Tie as tie
 
-plan-dlete-requires : tie.Need-plan-dlete-requires
-plan-dlete-requires c κs = (search, omega (arith, key-within))
-
-do-dlete-requires : tie.Need-do-dlete-requires
-do-dlete-requires c κs = (search, search plan-fits)
-
-returns : tie.Need-returns
-returns c = search dlete-told
-
 pub dlete-spec : {M : Type 1} → statement M
 dlete-spec =
     tie.close
-    (tie.spec plan-dlete-requires do-dlete-requires (λ c. search needs) (λ c. search needs) returns)
+    (tie.spec
+    (λ c κs. (search, omega (arith, key-within)))
+    (λ c κs. (search, search plan-fits))
+    (λ c. search needs)
+    (λ c. search needs)
+    (λ c. search dlete-told))

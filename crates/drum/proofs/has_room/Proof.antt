@@ -15,12 +15,6 @@ last : {a b c d e f g : Bool} (x : Bool) → a ≡ true → b ≡ true → c ≡
 unfolding every
 last x h₁ h₂ h₃ h₄ h₅ h₆ h₇ = simp (h₁, h₂, h₃, h₄, h₅, h₆, h₇, and-true)
 
-d-requires : tie.Need-d-requires
-d-requires c κs = search needs
-
-i-requires : tie.Need-i-requires
-i-requires c κs = search needs
-
 returns : tie.Need-returns
 unfolding every
 returns c = simp (← c .before .before .d .ensures, ← c .before .i .ensures, lt-leb _ _ (c .if1 .taken))
@@ -62,8 +56,8 @@ pub has-room-spec : {M : Type 1} → statement M
 has-room-spec =
     tie.close
     (tie.spec
-    d-requires
-    i-requires
+    (λ c κs. search needs)
+    (λ c κs. search needs)
     returns
     returns-2
     returns-3

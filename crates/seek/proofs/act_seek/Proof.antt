@@ -4,24 +4,6 @@ use Rattle.seek.proofs.Found.{found-way, found-row, missing-path, missi
 use Rattle.seek.proofs.act_seek.Statement.{statement}
 use Rattle.seek.proofs.act_seek.Tie as tie
 
-reach-requires : tie.Need-reach-requires
-reach-requires c κs = (search, search found-way)
-
-give-requires : tie.Need-give-requires
-give-requires c κs = (search found-row, search)
-
-stop-requires : tie.Need-stop-requires
-stop-requires c κs = (search, (search missing-path, λ on. (search missing-least, search missing-most)))
-
-returns : tie.Need-returns
-returns c = search seek-bad
-
-returns-2 : tie.Need-returns-2
-returns-2 c = search seek-found
-
-returns-3 : tie.Need-returns-3
-returns-3 c = search seek-missing
-
 pub act-seek-spec : {M : Type 1} → statement M
 act-seek-spec =
     tie.close
@@ -29,15 +11,15 @@ act-seek-spec =
     (λ c. search needs)
     (λ c κs. search needs)
     (λ c. search needs)
-    reach-requires
-    give-requires
+    (λ c κs. (search, search found-way))
+    (λ c κs. (search found-row, search))
     (λ c. search needs)
-    stop-requires
-    returns
-    (λ c. search needs)
-    (λ c. search needs)
-    (λ c. search needs)
-    returns-2
+    (λ c κs. (search, (search missing-path, λ on. (search missing-least, search missing-most))))
+    (λ c. search seek-bad)
     (λ c. search needs)
     (λ c. search needs)
-    returns-3)
+    (λ c. search needs)
+    (λ c. search seek-found)
+    (λ c. search needs)
+    (λ c. search needs)
+    (λ c. search seek-missing))

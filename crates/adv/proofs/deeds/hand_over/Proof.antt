@@ -18,9 +18,6 @@ all-are-requires : tie.Need-all-are-requires
 unfolding detailShape
 all-are-requires c κs = omega arith
 
-returns : tie.Need-returns
-returns c = (search hands, search)
-
 pub hand-over-spec : {M : Type 1} → statement M
 hand-over-spec =
     tie.close
@@ -31,4 +28,4 @@ hand-over-spec =
     all-are-requires
     (λ c κs. search needs)
     (λ c. search needs)
-    returns)
+    (λ c. (search hands, search)))

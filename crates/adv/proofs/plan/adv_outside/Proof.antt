@@ -5,15 +5,6 @@ use Rattle.adv.proofs.Steps.{outside-bad, outside-by}
 use Rattle.adv.proofs.plan.adv_outside.Statement.{statement}
 use Rattle.adv.proofs.plan.adv_outside.Tie as tie
 
-adv-at-requires : tie.Need-adv-at-requires
-adv-at-requires c κs = (search, search, search start-fits)
-
-returns : tie.Need-returns
-returns c = search outside-bad
-
-returns-2 : tie.Need-returns-2
-returns-2 c = search outside-by
-
 pub adv-outside-spec : {M : Type 1} → statement M
 adv-outside-spec =
     tie.close
@@ -22,6 +13,6 @@ adv-outside-spec =
     (λ c κs. search needs)
     (λ c. search needs)
     (λ c. search needs)
-    adv-at-requires
-    returns
-    returns-2)
+    (λ c κs. (search, search, search start-fits))
+    (λ c. search outside-bad)
+    (λ c. search outside-by))

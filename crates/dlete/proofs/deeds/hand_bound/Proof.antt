@@ -5,15 +5,6 @@ use borrow.Author.Needs.{needs}
 use Rattle.dlete.proofs.deeds.hand_bound.Statement.{statement}
 use Rattle.dlete.proofs.deeds.hand_bound.Tie as tie
 
-returns : tie.Need-returns
-returns c = search not-last
-
-move-down-requires : tie.Need-move-down-requires
-move-down-requires c κs = (search key-before, omega (arith, key-end))
-
-returns-2 : tie.Need-returns-2
-returns-2 c = search last-handed
-
 pub hand-bound-spec : {M : Type 1} → statement M
 hand-bound-spec =
     tie.close
@@ -21,7 +12,7 @@ hand-bound-spec =
     (λ c κs. omega (arith, entry-text))
     (λ c. search needs)
     (λ c. search needs)
-    returns
+    (λ c. search not-last)
     (λ c. omega (arith, key-end, entry-text-most))
     (λ c. omega (arith, key-end, entry-text-most))
     (λ c. omega (arith, key-end, entry-text-most))
@@ -29,6 +20,6 @@ hand-bound-spec =
     (λ c. omega (arith, key-end, entry-text-most))
     (λ c. search row-before-fits)
     (λ c. search key-before-fits)
-    move-down-requires
+    (λ c κs. (search key-before, omega (arith, key-end)))
     (λ c. search needs)
-    returns-2)
+    (λ c. search last-handed))

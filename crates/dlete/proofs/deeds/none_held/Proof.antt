@@ -5,8 +5,5 @@ use borrow.Author.Needs.{needs}
 use Rattle.dlete.proofs.deeds.none_held.Statement.{statement}
 use Rattle.dlete.proofs.deeds.none_held.Tie as tie
 
-returns : tie.Need-returns
-returns c = (refl, search zeroed)
-
 pub none-held-spec : {M : Type 1} → statement M
-none-held-spec = tie.close (tie.spec (λ c κs. search needs) (λ c. search needs) returns)
+none-held-spec = tie.close (tie.spec (λ c κs. search needs) (λ c. search needs) (λ c. (refl, search zeroed)))

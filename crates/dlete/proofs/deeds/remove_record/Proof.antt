@@ -5,19 +5,13 @@ use borrow.Author.Needs.{needs}
 use Rattle.dlete.proofs.deeds.remove_record.Statement.{statement}
 use Rattle.dlete.proofs.deeds.remove_record.Tie as tie
 
-remove-row-requires : tie.Need-remove-row-requires
-remove-row-requires c κs = (search detail-base, search reached-within, search reached-below, search reached-most)
-
-returns : tie.Need-returns
-returns c = search removed-told
-
 pub remove-record-spec : {M : Type 1} → statement M
 remove-record-spec =
     tie.close
     (tie.spec
     (λ c κs. search needs)
     (λ c κs. search needs)
-    remove-row-requires
+    (λ c κs. (search detail-base, search reached-within, search reached-below, search reached-most))
     (λ c. search needs)
     (λ c. search needs)
-    returns)
+    (λ c. search removed-told))

@@ -13,15 +13,9 @@ returns-2 : tie.Need-returns-2
 unfolding D
 returns-2 c = rw (c .if2 .taken, zero-div)
 
-sub-result : tie.Need-sub-result
-sub-result c = search needs
-
-div-result : tie.Need-div-result
-div-result c = search needs
-
 returns-3 : tie.Need-returns-3
 unfolding D
 returns-3 c = search needs
 
 pub d-spec : {M : Type 1} → statement M
-d-spec = tie.close (tie.spec returns returns-2 sub-result div-result returns-3)
+d-spec = tie.close (tie.spec returns returns-2 (λ c. search needs) (λ c. search needs) returns-3)

@@ -5,9 +5,6 @@ use borrow.Author.Needs.{needs}
 use Rattle.drum.proofs.Description.fd.Statement.{statement}
 use Rattle.drum.proofs.Description.fd.Tie as tie
 
-d-requires : tie.Need-d-requires
-d-requires c κs = search needs
-
 returns : tie.Need-returns
 unfolding FD
 returns c = omega arith
@@ -17,4 +14,4 @@ unfolding FD
 returns-2 c = omega arith
 
 pub fd-spec : {M : Type 1} → statement M
-fd-spec = tie.close (tie.spec d-requires returns returns-2)
+fd-spec = tie.close (tie.spec (λ c κs. search needs) returns returns-2)

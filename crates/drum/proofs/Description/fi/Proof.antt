@@ -5,9 +5,6 @@ use borrow.Author.Needs.{needs}
 use Rattle.drum.proofs.Description.fi.Statement.{statement}
 use Rattle.drum.proofs.Description.fi.Tie as tie
 
-i-requires : tie.Need-i-requires
-i-requires c κs = search needs
-
 returns : tie.Need-returns
 unfolding FI
 returns c = omega arith
@@ -17,4 +14,4 @@ unfolding FI
 returns-2 c = omega arith
 
 pub fi-spec : {M : Type 1} → statement M
-fi-spec = tie.close (tie.spec i-requires returns returns-2)
+fi-spec = tie.close (tie.spec (λ c κs. search needs) returns returns-2)

@@ -1,27 +1,14 @@
--- The file's words; none of the numbers grows too large.
-use native.Mathlib.Omega.{arith}
-use Rattle.drum.specs.Params.{fileSize}
-use Rattle.drum.proofs.Good.{caps}
+-- No size of parameters that are not good.
 use borrow.Author.Needs.{needs}
+use Rattle.drum.proofs.Good.{size-none, size-some, was-good}
 use Rattle.drum.proofs.Description.file_size.Statement.{statement}
 use Rattle.drum.proofs.Description.file_size.Tie as tie
 
-master-size-requires : tie.Need-master-size-requires
-master-size-requires c κs = search needs
-
-mul-result : tie.Need-mul-result
-mul-result c =
-    let g = caps _ (c .before .before .pre) in
-    omega arith
-
-add-result : tie.Need-add-result
-add-result c =
-    let g = caps _ (c .before .before .pre) in
-    omega arith
-
-returns : tie.Need-returns
-unfolding fileSize
-returns c = rw (c .before .master-size .ensures)
-
 pub file-size-spec : {M : Type 1} → statement M
-file-size-spec = tie.close (tie.spec master-size-requires mul-result add-result returns)
+file-size-spec =
+    tie.close
+    (tie.spec
+    (λ c κs. search needs)
+    (λ c. search size-none)
+    (λ c κs. search was-good)
+    (λ c. search size-some))

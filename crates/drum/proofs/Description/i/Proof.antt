@@ -13,18 +13,9 @@ returns c =
     let h : c .before .args .self .wpb - 1 < c .before .args .self .k + 1 = omega arith in
     rw (div-eq-of-lt h)
 
-sub-result : tie.Need-sub-result
-sub-result c = search needs
-
-add-result : tie.Need-add-result
-add-result c = search needs
-
-div-result : tie.Need-div-result
-div-result c = search needs
-
 returns-2 : tie.Need-returns-2
 unfolding I
 returns-2 c = search needs
 
 pub i-spec : {M : Type 1} → statement M
-i-spec = tie.close (tie.spec returns sub-result add-result div-result returns-2)
+i-spec = tie.close (tie.spec returns (λ c. search needs) (λ c. search needs) (λ c. search needs) returns-2)

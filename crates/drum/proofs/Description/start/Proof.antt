@@ -8,12 +8,6 @@ use borrow.Author.Needs.{needs}
 use Rattle.drum.proofs.Description.start.Statement.{statement}
 use Rattle.drum.proofs.Description.start.Tie as tie
 
-master-size-requires : tie.Need-master-size-requires
-master-size-requires c κs = search needs
-
-sub-result : tie.Need-sub-result
-sub-result c = search needs
-
 mul-result : tie.Need-mul-result
 mul-result c =
     let g = caps _ (c .before .before .pre .0) in
@@ -28,7 +22,7 @@ add-result c =
 
 returns : tie.Need-returns
 unfolding start
-returns c = rw (c .before .master-size .ensures)
+returns c = rw (c .before .master-words .ensures)
 
 pub start-spec : {M : Type 1} → statement M
-start-spec = tie.close (tie.spec master-size-requires sub-result mul-result add-result returns)
+start-spec = tie.close (tie.spec (λ c κs. search needs) (λ c. search needs) mul-result add-result returns)

@@ -1,4 +1,4 @@
--- Lengths and counts that ADV's code asks: of good parameters, of a block's current text, and of the last row.
+-- Sizes that follow from good parameters, as the code of the calls asks them: of a key, a block and its last row.
 use mathlib.Core.Path.{_≡_, ap, _∙_}
 use mathlib.Core.Bool.{true}
 use mathlib.Core.List.{List}
@@ -9,13 +9,11 @@ use mir.Syntax.{w64}
 use mir.Val.{Fits}
 use Rattle.table.specs.Tables.{count}
 use Rattle.table.proofs.Places.{row-lt}
 use Rattle.drum.specs.declared.Description.{Description}
 use Rattle.drum.specs.Params.{D, I, goodParams}
 use Rattle.drum.specs.Blocks.{Fitting, seen, textOf}
 use Rattle.drum.proofs.Good.{caps}
 use Rattle.drum.proofs.Blocks.{length-textOf}
-use Rattle.rules.specs.declared.Path.{Path}
-use Rattle.rules.specs.Fits.{PathFits}
 
 -- good parameters
 module _ (p : Description) (good : goodParams p ≡ true) where
@@ -25,14 +23,27 @@ module _ (p : Description) (good : goodParams p ≡ true) where
   pub key-short : p .k + 1 < p .wpb
   key-short = caps p good .entry-lt
 
+  -- the key lies in a record, and in a workspace of a record's length
   pub key-in-row : p .k ≤ p .wpr
   key-in-row = caps p good .facts .key
+
+  pub key-within : (work : List ℕ) → length work ≡ p .wpr → p .k ≤ length work
+  key-within work e =
+      let k = key-in-row in
+      omega arith
 
   pub entries-few : I p ≤ 4096
   entries-few = caps p good .i-most
 
   pub sections-few : p .control ≤ 4095
   sections-few = caps p good .facts .control-most
+
+  -- the number of a block fits into a word
+  pub number-small : (x : ℕ) → x ≤ p .n → x ≤ 262143
+  number-small x h =
+      let g = caps p good in
+      let q = g .facts in
+      omega arith
 
 -- the text of a block
 module _ (p : Description) (cur : ℕ) (f b t : List ℕ) (a : ℕ) (e : t ≡ textOf (seen p cur f b) a)
@@ -45,10 +56,6 @@ module _ (p : Description) (cur : ℕ) (f b t : List ℕ) (a : ℕ) (e : t ≡ t
       let l = text-long in
       let w = block-wide p (fit .good) in
       omega arith
-
-pub text-count : (p : Description) (cur : ℕ) (f b t : List ℕ) (w : Path) → t ≡ textOf (seen p cur f b) (w .detail)
-    → PathFits (seen p cur f b) w → count t ≤ D p
-text-count p cur f b t w e h = rw e (h .records-most)
 
 -- the last row of a block lies in it
 module _ (p : Description) (t : List ℕ) (n : ℕ) (en : n ≡ count t) (good : goodParams p ≡ true)
