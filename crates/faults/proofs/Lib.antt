@@ -3,3 +3,4 @@ pub mod Ranges
 pub mod Turns
 pub mod Three
 pub mod Outside
+pub mod Told

@@ -8,7 +8,7 @@ ghost use mathlib.Core.Path.{_≡_};
 ghost use Prim.Native.Nat.{_-_};
 ghost use Rattle.lines.specs.Promise.{givenAs};
 ghost use Rattle.faults.specs.First.{within as withinOf, wpbGood, half as halfOf, mostKey};
-ghost use Rattle.faults.specs.First.{mostSpace, outFault, rangeFault, wordsFault, firstFault};
+ghost use Rattle.faults.specs.First.{mostSpace, outFault, ranged as rangedOf, rangeFault, wordsFault, firstFault};
 
 fn is_within(least: usize, value: usize, most: usize) -> bool
     ensures { λ r. ⌜ r ≡ withinOf least value most ⌝ }
@@ -82,29 +82,28 @@ fn out_fault(what: Parameter, value: usize, least: usize, most: usize) -> Fault
     }
 }
 
-// The first parameter that is out of its range, where one is.
+// That the value is out of the range, else what is wrong besides.
+fn ranged(what: Parameter, value: usize, least: usize, most: usize, more: Fault) -> Fault
+    ensures { λ r. ⌜ r ≡ rangedOf what value least most more ⌝ }
+{
+    if is_within(least, value, most) {
+        return more;
+    }
+    out_fault(what, value, least, most)
+}
+
+// The first parameter that is out of its range, where one is: the last is looked at first, and each before it comes before it.
 fn range_fault(p: Description) -> Fault
     ensures { λ r. ⌜ r ≡ rangeFault p ⌝ }
 {
     if !is_wpb(p.wpb) {
         return out_fault(Parameter::Wpb, p.wpb, 6, 4096);
     }
-    let key = most_key(p);
-    if !is_within(1, p.k, key) {
-        return out_fault(Parameter::K, p.k, 1, key);
-    }
-    let record = half(p);
-    if !is_within(p.k, p.wpr, record) {
-        return out_fault(Parameter::Wpr, p.wpr, p.k, record);
-    }
-    let space = most_space(p);
-    if !is_within(0, p.space, space) {
-        return out_fault(Parameter::Space, p.space, 0, space);
-    }
-    if !is_within(1, p.control, 4095) {
-        return out_fault(Parameter::Control, p.control, 1, 4095);
-    }
-    out_fault(Parameter::N, p.n, 2, 262142)
+    let blocks = out_fault(Parameter::N, p.n, 2, 262142);
+    let control = ranged(Parameter::Control, p.control, 1, 4095, blocks);
+    let space = ranged(Parameter::Space, p.space, 0, most_space(p), control);
+    let record = ranged(Parameter::Wpr, p.wpr, p.k, half(p), space);
+    ranged(Parameter::K, p.k, 1, most_key(p), record)
 }
 
 // A first line that is not of six numbers.

@@ -14,16 +14,21 @@ use Rattle.table.proofs.Places.{row-lt}
 use Rattle.drum.specs.declared.Description.{Description}
 use Rattle.drum.specs.Params.{goodParams, masterSize, fileSize, start}
 use Rattle.drum.proofs.Good.{caps}
-use Rattle.layout.specs.Create.{endRecord, created}
+use Rattle.layout.specs.Create.{endRecord, created, masterOn, indexOn, detailOn}
 
 -- a turn of the loop that writes ONES, and the block behind them
-pub ones-turn : (t t₀ : List ℕ) (at i : ℕ) → t ≡ put t₀ at (ones i) → at + i < length t₀ → set t (at + i) topWord ≡ put t₀ at (ones (i + 1))
-ones-turn t t₀ at i e h =
+pub ones-turn : (t t₀ : List ℕ) (at i k : ℕ) → t ≡ put t₀ at (ones i) → at + k ≤ length t₀ → i < k → set t (at + i) topWord ≡ put t₀ at (ones (i + 1))
+ones-turn t t₀ at i k e h l =
     let n : length (ones i) ≡ i = length-replicate i topWord in
     let p : at + length (ones i) < length t₀ = omega arith in
     rw (e, ← replicate-append-replicate {A = ℕ} i 1 topWord) (rw n at (put-snoc t₀ at (ones i) topWord p))
 
-pub entry-turn : (t t₀ : List ℕ) (at k b : ℕ) → t ≡ put t₀ at (ones k) → at + k < length t₀ → set t (at + k) b ≡ put t₀ at (ones k ++ (b ∷ []))
+pub ones-done : (t t₀ : List ℕ) (at k i : ℕ) → t ≡ put t₀ at (ones i) → i ≤ k → k ≤ i → t ≡ put t₀ at (ones k)
+ones-done t t₀ at k i e h l =
+    let n : i ≡ k = omega arith in
+    rw n at e
+
+pub entry-turn : (t t₀ : List ℕ) (at k b : ℕ) → t ≡ put t₀ at (ones k) → at + k + 1 ≤ length t₀ → set t (at + k) b ≡ put t₀ at (ones k ++ (b ∷ []))
 entry-turn t t₀ at k b e h =
     let n : length (ones k) ≡ k = length-replicate k topWord in
     let p : at + length (ones k) < length t₀ = omega arith in
@@ -80,7 +85,8 @@ module _ (f l : List ℕ) (i m g a m′ : ℕ) (e : f ≡ l ++ zeros m) (n : len
       let y : List ℕ = zeros (length s + m′) in
       let q : f ≡ x ++ y = e ∙ rw (m₁, ← replicate-append-replicate {A = ℕ} g (length s + m′) 0, append-assoc) in
       let t : take a (x ++ y) ≡ x = take-at x y a gap-length in
-      let d₁ : drop (a + length s) (x ++ y) ≡ drop (length s) y = ap (λ (z : ℕ). drop (z + length s) (x ++ y)) (sym gap-length) ∙ drop-append-add x y (length s) in
+      let d₁ : drop (a + length s) (x ++ y) ≡ drop (length s) y =
+      ap (λ (z : ℕ). drop (z + length s) (x ++ y)) (sym gap-length) ∙ drop-append-add x y (length s) in
       let d₂ : drop (length s) y ≡ zeros m′ = drop-zeros (length s) (length s + m′) ∙ ap (λ (z : ℕ). replicate {A = ℕ} z 0) m₂ in
       rw (q, t, d₁, d₂)
 
@@ -111,11 +117,15 @@ module _ (p : Description) (w : Begins p) where
       let v : List ℕ = zeros (p .wpb - 1 - p .wpr) in
       let y : List ℕ = zeros ((p .n - 2) * p .wpb) in
       let j : z ++ (v ++ y) ≡ zeros (p .wpb - 1 - p .k + (p .n - 2) * p .wpb) =
-      sym (append-assoc z v y) ∙ ap (λ (s : List ℕ). s ++ y) (join (p .wpr - p .k) (p .wpb - 1 - p .wpr)) ∙ ap (λ (i : ℕ). zeros i ++ y) e ∙ join (p .wpb - 1 - p .k) ((p .n - 2) * p .wpb) in
+      sym (append-assoc z v y)
+      ∙ ap (λ (s : List ℕ). s ++ y) (join (p .wpr - p .k) (p .wpb - 1 - p .wpr))
+      ∙ ap (λ (i : ℕ). zeros i ++ y) e
+      ∙ join (p .wpb - 1 - p .k) ((p .n - 2) * p .wpb) in
       rw l (ap (λ (s : List ℕ). 1 ∷ s) (append-assoc (x ++ z) v y ∙ append-assoc x z (v ++ y) ∙ ap (λ (s : List ℕ). x ++ s) j))
 
 regroup : (x z₁ z₂ z₃ : List ℕ)
-    → (1 ∷ 0 ∷ 3 ∷ (x ++ (1 ∷ []))) ++ z₁ ++ (1 ∷ (x ++ (2 ∷ []))) ++ z₂ ++ (1 ∷ x) ++ z₃ ≡ (1 ∷ 0 ∷ 3 ∷ (x ++ (1 ∷ z₁))) ++ ((1 ∷ (x ++ (2 ∷ z₂))) ++ (1 ∷ (x ++ z₃)))
+    → (1 ∷ 0 ∷ 3 ∷ (x ++ (1 ∷ []))) ++ z₁ ++ (1 ∷ (x ++ (2 ∷ []))) ++ z₂ ++ (1 ∷ x) ++ z₃
+    ≡ (1 ∷ 0 ∷ 3 ∷ (x ++ (1 ∷ z₁))) ++ ((1 ∷ (x ++ (2 ∷ z₂))) ++ (1 ∷ (x ++ z₃)))
 regroup x z₁ z₂ z₃ = simp append-assoc
 
 -- what is written over zeros, in the order of the code: k words of key, m of the master, b of a block, r behind the second block
@@ -123,7 +133,8 @@ module _ (k m b r : ℕ) (hm : 4 + k ≤ m) (hb : 2 + k ≤ b) where
   abbrev master : List ℕ
   master = 1 ∷ 0 ∷ 3 ∷ (ones k ++ (1 ∷ []))
 
-  master-on : (f f′ : List ℕ) → f ≡ zeros (m + (b + (b + r))) → f′ ≡ put (set (set f 0 1) 2 3) 3 (ones k ++ (1 ∷ [])) → f′ ≡ master ++ zeros (m - 4 - k + (b + (b + r)))
+  master-on : (f f′ : List ℕ) → f ≡ zeros (m + (b + (b + r))) → f′ ≡ put (set (set f 0 1) 2 3) 3 (ones k ++ (1 ∷ []))
+      → f′ ≡ master ++ zeros (m - 4 - k + (b + (b + r)))
   master-on f f′ e e′ =
       let t : ℕ = m + (b + (b + r)) in
       let s : List ℕ = ones k ++ (1 ∷ []) in
@@ -138,10 +149,13 @@ module _ (k m b r : ℕ) (hm : 4 + k ≤ m) (hb : 2 + k ≤ b) where
       → (f′ ≡ l ++ zeros g ++ (1 ∷ s) ++ zeros m′) × (length (l ++ zeros g ++ (1 ∷ s)) ≡ a + 1 + length s)
   block-on f f′ l s i g a m′ e n j e′ =
       let t : ℕ = g + (1 + length s) + m′ in
-      let n₁ : length f ≡ i + t = ap length e ∙ length-append l (zeros t) ∙ (λ z. n z + length-replicate {A = ℕ} t 0 z) in
-      (e′ ∙ word-on f s a 1 (omega arith) ∙ put-on f l i t g a m′ e n j (1 ∷ s) (omega arith), length-on f l i t g a m′ e n j (1 ∷ s) (a + 1 + length s) (omega arith))
+      let n₁ : length f ≡ i + t = ap length e ∙ length-append l (zeros t) ∙ (λ z. n z + length-replicate {A = ℕ} t 0 z) in (
+        e′ ∙ word-on f s a 1 (omega arith) ∙ put-on f l i t g a m′ e n j (1 ∷ s) (omega arith),
+        length-on f l i t g a m′ e n j (1 ∷ s) (a + 1 + length s) (omega arith),
+      )
 
-  all-on : (f f₁ f₂ f₃ : List ℕ) → f ≡ zeros (m + (b + (b + r))) → f₁ ≡ put (set (set f 0 1) 2 3) 3 (ones k ++ (1 ∷ [])) → f₂ ≡ put (set f₁ m 1) (m + 1) (ones k ++ (2 ∷ []))
+  all-on : (f f₁ f₂ f₃ : List ℕ) → f ≡ zeros (m + (b + (b + r))) → f₁ ≡ put (set (set f 0 1) 2 3) 3 (ones k ++ (1 ∷ []))
+      → f₂ ≡ put (set f₁ m 1) (m + 1) (ones k ++ (2 ∷ []))
       → f₃ ≡ put (set f₂ (m + b) 1) (m + b + 1) (ones k)
       → f₃ ≡ (1 ∷ 0 ∷ 3 ∷ (ones k ++ (1 ∷ zeros (m - 4 - k)))) ++ ((1 ∷ (ones k ++ (2 ∷ zeros (b - 2 - k)))) ++ (1 ∷ (ones k ++ zeros (b - 1 - k + r))))
   all-on f f₁ f₂ f₃ e e₁ e₂ e₃ =
@@ -158,14 +172,45 @@ module _ (k m b r : ℕ) (hm : 4 + k ≤ m) (hb : 2 + k ≤ b) where
       let (a₃, h₃) = block-on f₂ f₃ l₂ (ones k) (m + 2 + k) g₂ (m + b) (b - 1 - k + r) (a₂ ∙ ap (λ (z : ℕ). l₂ ++ zeros z) t₂) (omega arith) (omega arith) e₃ in
       a₃ ∙ regroup (ones k) (zeros g₁) (zeros g₂) (zeros (b - 1 - k + r))
 
--- the words of a new file
-pub laid-out : (p : Description) → Begins p → (f f₁ f₂ f₃ f₄ : List ℕ) (first second : ℕ) → length f ≡ fileSize p → first ≡ start p 1 → second ≡ start p 2 → f₁ ≡ put f 0 (zeros (length f))
-    → f₂ ≡ put (set (set f₁ 0 1) 2 3) 3 (ones (p .k) ++ (1 ∷ [])) → f₃ ≡ put (set f₂ first 1) (first + 1) (ones (p .k) ++ (2 ∷ []))
-    → f₄ ≡ put (set f₃ second 1) (second + 1) (ones (p .k)) → f₄ ≡ created p
-unfolding created
-laid-out p w f f₁ f₂ f₃ f₄ first second size q₁ q₂ e₁ e₂ e₃ e₄ =
+-- a word set keeps the length
+pub set-kept : (t u : List ℕ) (i x : ℕ) → length u ≡ length (set t i x) → length u ≡ length t
+set-kept t u i x e = e ∙ length-set t i x
+
+pub sets-kept : (t t₁ u : List ℕ) (i x j y : ℕ) → length u ≡ length (set (set t₁ i x) j y) → length t₁ ≡ length t → length u ≡ length t
+sets-kept t t₁ u i x j y e k = e ∙ length-set (set t₁ i x) j y ∙ length-set t₁ i x ∙ k
+
+-- one part after the other, and the words of a new file
+pub laid-master : (t t₁ t₂ : List ℕ) (k : ℕ) → t₂ ≡ put (set (set t₁ 0 1) 2 3) 3 (ones k ++ (1 ∷ [])) → t₁ ≡ put t 0 (zeros (length t))
+    → t₂ ≡ masterOn k (zeros (length t))
+unfolding masterOn
+laid-master t t₁ t₂ k e₂ e₁ =
+    let z : t₁ ≡ zeros (length t) = e₁ ∙ put-all t (zeros (length t)) (length-replicate (length t) 0) in
+    e₂ ∙ ap (λ (l : List ℕ). put (set (set l 0 1) 2 3) 3 (ones k ++ (1 ∷ []))) z
+
+pub laid-blocks : (t t₁ t₂ : List ℕ) (first second k : ℕ) → t₂ ≡ detailOn second k t₁ → t₁ ≡ indexOn first k t → t₂ ≡ detailOn second k (indexOn first k t)
+laid-blocks t t₁ t₂ first second k e₂ e₁ = e₂ ∙ ap (detailOn second k) e₁
+
+pub laid-out : (p : Description) (f f₁ f₂ : List ℕ) (first second : ℕ) → f₂ ≡ detailOn second (p .k) (indexOn first (p .k) f₁)
+    → f₁ ≡ masterOn (p .k) (zeros (length f)) → first ≡ start p 1 → second ≡ start p 2 → length f ≡ fileSize p → goodParams p ≡ true → f₂ ≡ created p
+unfolding created masterOn indexOn detailOn
+laid-out p f f₁ f₂ first second e₂ e₁ q₁ q₂ size good =
+    let w = begins p good in
     let r : ℕ = (p .n - 2) * p .wpb in
     let t : length f ≡ masterSize p + (p .wpb + (p .wpb + r)) = omega arith in
-    let a : f₁ ≡ zeros (masterSize p + (p .wpb + (p .wpb + r))) = e₁ ∙ put-all f (zeros (length f)) (length-replicate (length f) 0) ∙ ap (λ (n : ℕ). zeros n) t in
+    let e₃ = rw (q₁, q₂, w .first, w .second) at e₂ in
     rw (index-text p w, detail-text p w)
-    (all-on (p .k) (masterSize p) (p .wpb) r (w .master) (w .room) f₁ f₂ f₃ f₄ a e₂ (rw (q₁, w .first) at e₃) (rw (q₂, w .second) at e₄))
+    (all-on (p .k) (masterSize p) (p .wpb) r (w .master) (w .room) (zeros (length f)) f₁ _ f₂ (ap (λ (n : ℕ). zeros n) t) e₁ refl e₃)
+
+-- what is written lies in the file
+module _ (p : Description) (good : goodParams p ≡ true) where
+  pub master-words : 4 + p .k ≤ fileSize p
+  master-words = let w = begins p good in omega arith
+
+  pub index-words : start p 1 + (2 + p .k) ≤ fileSize p
+  index-words = let w = begins p good in omega arith
+
+  pub detail-words : start p 2 + (1 + p .k) ≤ fileSize p
+  detail-words = let w = begins p good in omega arith
+
+  pub two-blocks : 2 ≤ p .n
+  two-blocks = begins p good .two

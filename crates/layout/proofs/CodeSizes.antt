@@ -1,57 +1,154 @@
--- Where the master and the blocks of a file that fits lie, and rows one by one.
-use mathlib.Core.Path.{_≡_, _∙_}
+-- Where rows, the master and the blocks of a file that fits lie.
+use mathlib.Core.Path.{_≡_, refl, ap, _∙_}
+use mathlib.Core.Bool.{Bool, false, not}
 use mathlib.Core.List.{List}
-use Prim.Native.Nat.{ℕ, _+_, _*_, _-_, _≤_, _<_}
+use Prim.Native.Nat.{ℕ, _+_, _*_, _-_, _^_, _≤_, _<_}
 use native.Mathlib.Omega.{arith}
 use lib.ListN.{length}
+use mir.Syntax.{w64}
+use mir.Val.{Fits}
 use Rattle.table.proofs.Places.{row-le, row-next}
 use Rattle.drum.specs.declared.Description.{Description}
-use Rattle.drum.specs.Params.{start, masterSize, fileSize}
+use Rattle.drum.specs.Params.{D, I, start, masterSize, fileSize, sizeIf}
 use Rattle.drum.specs.Blocks.{Block}
-use Rattle.drum.proofs.Good.{caps}
+use Rattle.drum.proofs.Good.{caps, size-good}
 use Rattle.drum.proofs.Blocks.{block-within}
-use Rattle.layout.specs.Inspected.{Fit}
+use Rattle.layout.specs.Inspect.{marked}
+use Rattle.layout.specs.Inspected.{flagged, Fit}
+use Rattle.layout.proofs.CodeMarks.{marked-in}
 
 -- one row of n
-pub row-less : (n s : ℕ) → 0 < n → n * s ≡ (n - 1) * s + s
+row-less : (n s : ℕ) → 0 < n → n * s ≡ (n - 1) * s + s
 row-less n s h =
     let e : n ≡ n - 1 + 1 = omega arith in
-    (λ i. e i * s) ∙ row-next (n - 1) s
+    ap (λ (i : ℕ). i * s) e ∙ row-next (n - 1) s
 
--- n rows of `stride` words, the first at place a, all before place z
-pub record Rows (stride a n z : ℕ) : Type 0 where
-  pub some : 1 ≤ n
-  pub less : n * stride ≡ (n - 1) * stride + stride
-  pub inside : a + n * stride ≤ z
+-- n rows from place a on, before place z: the first with its key, those after it, and the last
+module _ (a n stride z : ℕ) (inside : a + n * stride ≤ z) (some : 0 < n) where
+  pub row-inside : a + stride ≤ z
+  row-inside = omega (arith, row-less n stride some)
 
+  pub row-key : (k : ℕ) → k ≤ stride → a + k ≤ z
+  row-key k h = omega (arith, row-less n stride some)
+
+  pub row-rest : a + stride + (n - 1) * stride ≤ z
+  row-rest = omega (arith, row-less n stride some)
+
+  pub row-last : a + (n - 1) * stride + stride ≤ z
+  row-last = omega (arith, row-less n stride some)
+
+  module _ (short : z * 4 < 2 ^ 63) where
+    pub row-fits : Fits w64 (a + stride)
+    row-fits = let h = row-inside in omega arith
+
+    pub last-span : Fits w64 ((n - 1) * stride)
+    last-span = let h = row-last in omega arith
+
+    pub last-place : Fits w64 (a + (n - 1) * stride)
+    last-place = let h = row-last in omega arith
+
+-- the key that an entry begins with
+pub entry-key : (a n k z : ℕ) → a + n * (k + 1) ≤ z → 0 < n → a + k ≤ z
+entry-key a n k z inside some = row-key a n (k + 1) z inside some k (omega arith)
+
+-- n rows of a block that has room for `most`, and the words behind them: the block of w words at place s, before place z
+module _ (n most stride w s z : ℕ) (room : 1 + most * stride ≤ w) (few : n ≤ most) where
+  pub used-most : 1 + n * stride ≤ w
+  used-most = omega (arith, row-le n most stride few)
+
+  module _ (inside : s + w ≤ z) where
+    pub used-inside : s + (1 + n * stride) ≤ z
+    used-inside = let h = used-most in omega arith
+
+    pub used-rest : s + (1 + n * stride) + (w - (1 + n * stride)) ≤ z
+    used-rest = let h = used-most in omega arith
+
+    module _ (short : z * 4 < 2 ^ 63) where
+      pub used-span : Fits w64 (n * stride)
+      used-span = let h = used-inside in omega arith
+
+      pub used-words : Fits w64 (1 + n * stride)
+      used-words = let h = used-inside in omega arith
+
+      pub used-end : Fits w64 (s + (1 + n * stride))
+      used-end = let h = used-inside in omega arith
+
+-- what good parameters say of the file, of a block's words, of a key and of counts
 module _ (p : Description) (f : List ℕ) (w : Fit p f) where
-  -- a block of the file, and the place behind the last one
-  pub in-file : (b : ℕ) → Block p b → start p b + p .wpb ≤ length f
-  in-file b h = omega (arith, w .size, block-within p b h)
+  pub file-short : length f ≤ 1073995716
+  unfolding fileSize
+  file-short = let c = caps p (w .good) in omega (arith, w .size)
 
-  pub in-file-end : (b : ℕ) → b ≤ p .n + 1 → start p b ≤ length f
+  pub file-long : p .k + 4 ≤ length f
+  unfolding fileSize
+  file-long =
+      let c = caps p (w .good) in
+      let l = row-le 1 (p .control) (p .k + 1) (c .facts .control-least) in
+      omega (arith, w .size)
+
+  pub first-key : 0 + p .k ≤ length f
+  first-key = let h = file-long in omega arith
+
+  pub block-wide : 6 ≤ p .wpb
+  block-wide = caps p (w .good) .facts .wpb-least
+
+  pub key-short : p .k ≤ 63
+  key-short = caps p (w .good) .facts .k-most
+
+  pub key-in-row : p .k ≤ p .wpr
+  key-in-row = caps p (w .good) .facts .key
+
+  pub blocks-few : p .n ≤ 262142
+  blocks-few = caps p (w .good) .facts .n-most
+
+  pub records-room : (most : ℕ) → most ≡ D p → 1 + most * p .wpr ≤ p .wpb
+  records-room most e = rw e (caps p (w .good) .records-fit)
+
+  pub entries-room : (most : ℕ) → most ≡ I p → 1 + most * (p .k + 1) ≤ p .wpb
+  entries-room most e = rw e (caps p (w .good) .entries-fit)
+
+  -- a block of the file, and the place behind the last one
+  pub start-inside : (b s : ℕ) → s ≡ start p b → 1 ≤ b → b ≤ p .n → s + p .wpb ≤ length f
+  start-inside b s e l h = omega (arith, w .size, block-within p b (l, h))
+
+  pub in-file-end : (b s : ℕ) → s ≡ start p b → b ≤ p .n + 1 → s ≤ length f
   unfolding start fileSize
-  in-file-end b k =
+  in-file-end b s e k =
       let l : (b - 1) * p .wpb ≤ p .n * p .wpb = row-le (b - 1) (p .n) (p .wpb) (omega arith) in
       omega (arith, w .size)
 
-  -- the rows of a block that holds at most `cap`
-  pub rows-in-file : (b s n most cap stride : ℕ) → Block p b → s ≡ start p b → most ≡ cap → 1 + cap * stride ≤ p .wpb → n ≤ most → (n ≡ 0 → ⊥)
-      → Rows stride (s + 1) n (length f)
-  rows-in-file b s n most cap stride h es em fit le ne =
-      let i = in-file b h in
-      let l = row-le n cap stride (omega arith) in
-      record { some = omega arith; less = row-less n stride (omega arith); inside = omega arith }
+  pub rest-inside : (b s : ℕ) → s ≡ start p b → b ≤ p .n + 1 → s + (length f - s) ≤ length f
+  rest-inside b s e k = let h = in-file-end b s e k in omega arith
 
-  -- the entries of the master, and the first of them
-  pub entries-in : (n : ℕ) → 1 ≤ n → n ≤ p .control → Rows (p .k + 1) 3 n (masterSize p) × (masterSize p ≤ length f)
-  entries-in n h k =
+-- the entries of the master
+module _ (p : Description) (f : List ℕ) (n : ℕ) (w : Fit p f) (some : 1 ≤ n) (few : n ≤ p .control) where
+  entries-in : (3 + n * (p .k + 1) ≤ masterSize p) × (masterSize p ≤ length f) × (masterSize p ≤ 262084)
+  unfolding fileSize
+  entries-in =
       let c = caps p (w .good) in
-      let l = row-le n (p .control) (p .k + 1) k in
-      (record { some = h; less = row-less n (p .k + 1) h; inside = omega arith }, omega (arith, w .size))
+      let l = row-le n (p .control) (p .k + 1) few in
+      (omega arith, omega (arith, w .size), c .master-most)
 
-  pub entry-in : p .k + 4 ≤ length f
-  entry-in =
-      let c = caps p (w .good) in
-      let e = entries-in 1 (omega arith) (c .facts .control-least) in
-      omega arith
+  pub entries-inside : 3 + n * (p .k + 1) ≤ length f
+  entries-inside = let h = entries-in in omega arith
+
+  pub entries-span : Fits w64 (n * (p .k + 1))
+  entries-span = let h = entries-in in omega arith
+
+  pub entries-end : Fits w64 (3 + n * (p .k + 1))
+  entries-end = let h = entries-in in omega arith
+
+  module _ (m : ℕ) (e : m ≡ sizeIf p (masterSize p)) where
+    pub behind-most : 3 + n * (p .k + 1) ≤ m
+    behind-most = omega (arith, entries-in, size-good p (masterSize p) m e (w .good))
+
+    pub behind-inside : 3 + n * (p .k + 1) + (m - (3 + n * (p .k + 1))) ≤ length f
+    behind-inside = omega (arith, entries-in, size-good p (masterSize p) m e (w .good))
+
+-- a block that was marked is one of the file's
+module _ (p : Description) (b m : ℕ) (ms ms′ : List ℕ) (t : Bool) (q : marked m b ms ≡ flagged t ms′) (y : not t ≡ false) (l : length ms ≡ p .n) where
+  pub block-least : 1 ≤ b
+  block-least = marked-in m b ms t ms′ (p .n) q y l .0
+
+  pub block-most : b ≤ p .n
+  block-most = marked-in m b ms t ms′ (p .n) q y l .1

@@ -1,9 +1,8 @@
--- Each way through a step of the walk, a law for each return: rows, a detail block, an index block, the entries one by one, the chain.
-use mathlib.Core.Path.{_≡_, refl, sym}
+-- Each way through a step of the walk, a law for each return: the entries one by one, a detail block, an index block, the chain.
+use mathlib.Core.Path.{_≡_, sym, ap, _∙_}
 use mathlib.Core.Bool.{Bool, true, false, not}
 use mathlib.Core.List.{List}
 use Prim.Native.Nat.{ℕ, zero, suc, _+_, _-_, _≤_, _<_}
-use native.Mathlib.Nat.{not-suc-le-zero}
 use native.Mathlib.Omega.{arith}
 use lib.ListN.{getD}
 use borrow.Author.Tests.{ne-eqb}
@@ -13,44 +12,30 @@ use Rattle.words.specs.Words.{part, allAre}
 use Rattle.words.specs.Keys.{sameKey}
 use Rattle.drum.specs.declared.Description.{Description}
 use Rattle.drum.specs.Params.{D, I, start}
-use Rattle.layout.specs.Inspect.{keyIn, named, lastRow, above, ascends, recordsOk, rowsIn, marked, through, detailHeld, indexHeld, chainHeld}
+use Rattle.layout.specs.Inspect.{keyHeld, named, lastRow, recordsOk, rowsIn, marked, through, detailHeld, indexHeld, chainHeld}
 use Rattle.layout.specs.Inspected.{flagged, counted}
 use Rattle.layout.proofs.CodeFlags.{counted-none, counted-some, halted, moved, failed, held}
 
--- keys that ascend, one by one
-module _ (p : Description) (f : List ℕ) (stride low a : ℕ) where
-  pub ascend-next : (n : ℕ) → 0 < n → (t : Bool) → t ≡ above p f low a → not t ≡ false → ascends p f stride low a n ≡ ascends p f stride a (a + stride) (n - 1)
-  unfolding ascends
-  ascend-next zero h t e y = absurd (not-suc-le-zero h)
-  ascend-next (suc n) h t e y = let m : suc n - 1 ≡ n = omega arith in rw m (simp (held t _ e y))
-
-  pub ascend-stop : (n : ℕ) → 0 < n → (t : Bool) → t ≡ above p f low a → not t ≡ true → ascends p f stride low a n ≡ false
-  unfolding ascends
-  ascend-stop zero h t e y = absurd (not-suc-le-zero h)
-  ascend-stop (suc n) h t e y = simp (failed t _ e y)
-
-  pub ascend-done : (n : ℕ) → n ≤ 0 → ascends p f stride low a n ≡ true
-  unfolding ascends
-  ascend-done zero h = refl
-  ascend-done (suc n) h = absurd (not-suc-le-zero h)
-
--- entries, one by one
-module _ (step : ℕ → ℕ → List ℕ → Checked (List ℕ)) (stride low e : ℕ) (ms : List ℕ) where
-  pub through-next : (n : ℕ) → 0 < n → (t : Bool) (ms′ : List ℕ) → step low e ms ≡ flagged t ms′ → not t ≡ false
-      → through step stride low e n ms ≡ through step stride e (e + stride) (n - 1) ms′
+-- entries, one by one: what is left gives what all give
+module _ (step : ℕ → ℕ → List ℕ → Checked (List ℕ)) (stride low e n : ℕ) (ms : List ℕ) (whole : Checked (List ℕ))
+    (q : whole ≡ through step stride low e n ms) where
+  pub through-done : n ≤ 0 → whole ≡ passed ms
   unfolding through
-  through-next zero h t ms′ q y = absurd (not-suc-le-zero h)
-  through-next (suc n) h t ms′ q y = let m : suc n - 1 ≡ n = omega arith in rw m (simp (moved t ms′ _ q y))
+  through-done h = let z : n ≡ 0 = omega arith in q ∙ rw z
 
-  pub through-stop : (n : ℕ) → 0 < n → (t : Bool) (ms′ : List ℕ) → step low e ms ≡ flagged t ms′ → not t ≡ true → through step stride low e n ms ≡ refused badFile
-  unfolding through
-  through-stop zero h t ms′ q y = absurd (not-suc-le-zero h)
-  through-stop (suc n) h t ms′ q y = simp (halted t ms′ _ q y)
+  module _ (t : Bool) (ms′ : List ℕ) (r : step low e ms ≡ flagged t ms′) (some : 0 < n) where
+    one-more : n ≡ suc (n - 1)
+    one-more = omega arith
 
-  pub through-done : (n : ℕ) → n ≤ 0 → through step stride low e n ms ≡ passed ms
-  unfolding through
-  through-done zero h = refl
-  through-done (suc n) h = absurd (not-suc-le-zero h)
+    pub through-stop : not t ≡ true → whole ≡ refused badFile
+    unfolding through
+    through-stop y = q ∙ rw one-more (simp (halted t ms′ _ r y))
+
+    pub through-next : not t ≡ false → whole ≡ through step stride e (e + stride) (n - 1) ms′
+    unfolding through
+    through-next y =
+        let k : suc (n - 1) - 1 ≡ n - 1 = omega arith in
+        q ∙ rw (one-more, k) (simp (moved t ms′ _ r y))
 
 -- a detail block or an index block: b is the block that the entry names, s its start, n the count of its rows
 module _ (p : Description) (f : List ℕ) (low e b : ℕ) (eb : b ≡ named p f e) (ms : List ℕ) (t : Bool) (ms′ : List ℕ) (q : marked 1 b ms ≡ flagged t ms′) where
@@ -62,55 +47,65 @@ module _ (p : Description) (f : List ℕ) (low e b : ℕ) (eb : b ≡ named p f 
   unfolding indexHeld
   index-unmarked y = simp (← eb, halted t ms′ _ q y)
 
-  module _ (y : not t ≡ false) (s most : ℕ) (es : s ≡ start p b) (n : ℕ) where
+  module _ (s most n : ℕ) (es : s ≡ start p b) (y : not t ≡ false) where
     module _ (em : most ≡ D p) (r : rowsIn p f most (p .wpr) s ≡ counted n) where
       pub detail-rows : n ≡ 0 → detailHeld p f low e ms ≡ refused badFile
       unfolding detailHeld
       detail-rows z = simp (← eb, ← es, ← em, moved t ms′ _ q y, counted-none n _ r z)
 
-      pub detail-records : (n ≡ 0 → ⊥) → (g : Bool) → g ≡ recordsOk p f low e (s + 1) n → detailHeld p f low e ms ≡ flagged g ms′
+      pub detail-records : (g : Bool) → g ≡ recordsOk p f low e (s + 1) n → (n ≡ 0 → ⊥) → detailHeld p f low e ms ≡ flagged g ms′
       unfolding detailHeld
-      detail-records z true h = simp (← eb, ← es, ← em, moved t ms′ _ q y, counted-some n _ r z, sym h)
-      detail-records z false h = simp (← eb, ← es, ← em, moved t ms′ _ q y, counted-some n _ r z, sym h)
+      detail-records true h z = simp (← eb, ← es, ← em, moved t ms′ _ q y, counted-some n _ r z, sym h)
+      detail-records false h z = simp (← eb, ← es, ← em, moved t ms′ _ q y, counted-some n _ r z, sym h)
 
     module _ (em : most ≡ I p) (r : rowsIn p f most (p .k + 1) s ≡ counted n) where
       pub index-rows : n ≡ 0 → indexHeld p f low e ms ≡ refused badFile
       unfolding indexHeld
       index-rows z = simp (← eb, ← es, ← em, moved t ms′ _ q y, counted-none n _ r z)
 
-      module _ (z : n ≡ 0 → ⊥) (g : Bool) (h : g ≡ sameKey (keyIn p f (lastRow (s + 1) (p .k + 1) n)) (keyIn p f e)) where
+      module _ (last : ℕ) (g : Bool) (el : last ≡ lastRow (s + 1) (p .k + 1) n) (h : g ≡ sameKey (part last (p .k) f) (part e (p .k) f)) (z : n ≡ 0 → ⊥) where
+        bound : g ≡ sameKey (keyHeld p f (lastRow (s + 1) (p .k + 1) n)) (keyHeld p f e)
+        unfolding keyHeld
+        bound = h ∙ ap (λ (x : ℕ). sameKey (part x (p .k) f) (part e (p .k) f)) el
+
         pub index-bound : not g ≡ true → indexHeld p f low e ms ≡ refused badFile
         unfolding indexHeld
-        index-bound x = simp (← eb, ← es, ← em, moved t ms′ _ q y, counted-some n _ r z, failed g _ h x)
+        index-bound x = simp (← eb, ← es, ← em, moved t ms′ _ q y, counted-some n _ r z, failed g _ bound x)
 
-        pub index-entries : not g ≡ false → indexHeld p f low e ms ≡ through (detailHeld p f) (p .k + 1) low (s + 1) n ms′
+        pub index-entries : (d : Checked (List ℕ)) → through (detailHeld p f) (p .k + 1) low (s + 1) n ms′ ≡ d → not g ≡ false → indexHeld p f low e ms ≡ d
         unfolding indexHeld
-        index-entries x = simp (← eb, ← es, ← em, moved t ms′ _ q y, counted-some n _ r z, held g _ h x)
+        index-entries d ed x = simp (← eb, ← es, ← em, moved t ms′ _ q y, counted-some n _ r z, held g _ bound x) ed
 
--- the chain from block b on
-module _ (p : Description) (f : List ℕ) (ms : List ℕ) (b : ℕ) where
-  pub chain-end : (fuel : ℕ) → b ≡ 0 → chainHeld p f fuel b ms ≡ passed ms
+-- the chain from block b on: what is left gives what all give
+module _ (p : Description) (f ms : List ℕ) (b fuel : ℕ) (whole : Checked (List ℕ)) (q : whole ≡ chainHeld p f fuel b ms) where
+  pub chain-end : b ≡ 0 → whole ≡ passed ms
   unfolding chainHeld
-  chain-end zero e = rw (e, chainHeld)
-  chain-end (suc n) e = rw (e, chainHeld)
+  chain-end e = q ∙ go fuel
+    where
+      go : (n : ℕ) → chainHeld p f n b ms ≡ passed ms
+      go zero = rw (e, chainHeld)
+      go (suc n) = rw (e, chainHeld)
 
-  pub chain-long : (fuel : ℕ) → (b ≡ 0 → ⊥) → fuel ≡ 0 → chainHeld p f fuel b ms ≡ refused badFile
-  unfolding chainHeld
-  chain-long fuel e z = rw (z, ne-eqb b 0 e, chainHeld)
-
-  module _ (e : b ≡ 0 → ⊥) (t : Bool) (ms′ : List ℕ) (q : marked 2 b ms ≡ flagged t ms′) where
-    pub chain-unmarked : (fuel : ℕ) → (fuel ≡ 0 → ⊥) → not t ≡ true → chainHeld p f fuel b ms ≡ refused badFile
+  module _ (e : b ≡ 0 → ⊥) where
+    pub chain-long : fuel ≡ 0 → whole ≡ refused badFile
     unfolding chainHeld
-    chain-unmarked zero z y = absurd (z refl)
-    chain-unmarked (suc n) z y = rw (ne-eqb b 0 e, chainHeld) (simp (halted t ms′ _ q y))
+    chain-long z = q ∙ rw (z, ne-eqb b 0 e, chainHeld)
 
-    module _ (y : not t ≡ false) (s : ℕ) (es : s ≡ start p b) (g : Bool) (h : g ≡ allAre 0 (part (s + 1) (p .wpb - 1) f)) where
-      pub chain-words : (fuel : ℕ) → (fuel ≡ 0 → ⊥) → not g ≡ true → chainHeld p f fuel b ms ≡ refused badFile
-      unfolding chainHeld
-      chain-words zero z x = absurd (z refl)
-      chain-words (suc n) z x = rw (ne-eqb b 0 e, chainHeld) (simp (← es, moved t ms′ _ q y, failed g _ h x))
+    module _ (t : Bool) (ms′ : List ℕ) (r : marked 2 b ms ≡ flagged t ms′) (z : fuel ≡ 0 → ⊥) where
+      once-more : fuel ≡ suc (fuel - 1)
+      once-more = omega arith
 
-      pub chain-next : (fuel b′ : ℕ) → (fuel ≡ 0 → ⊥) → not g ≡ false → b′ ≡ getD f s 0 → chainHeld p f fuel b ms ≡ chainHeld p f (fuel - 1) b′ ms′
+      pub chain-unmarked : not t ≡ true → whole ≡ refused badFile
       unfolding chainHeld
-      chain-next zero b′ z x l = absurd (z refl)
-      chain-next (suc n) b′ z x l = let m : suc n - 1 ≡ n = omega arith in rw (ne-eqb b 0 e, m, l, chainHeld) (simp (← es, moved t ms′ _ q y, held g _ h x))
+      chain-unmarked y = q ∙ rw (once-more, ne-eqb b 0 e, chainHeld) (simp (halted t ms′ _ r y))
+
+      module _ (s : ℕ) (g : Bool) (es : s ≡ start p b) (h : g ≡ allAre 0 (part (s + 1) (p .wpb - 1) f)) (y : not t ≡ false) where
+        pub chain-words : not g ≡ true → whole ≡ refused badFile
+        unfolding chainHeld
+        chain-words x = q ∙ rw (once-more, ne-eqb b 0 e, chainHeld) (simp (← es, moved t ms′ _ r y, failed g _ h x))
+
+        pub chain-next : (b′ : ℕ) → b′ ≡ getD f s 0 → not g ≡ false → whole ≡ chainHeld p f (fuel - 1) b′ ms′
+        unfolding chainHeld
+        chain-next b′ l x =
+            let k : suc (fuel - 1) - 1 ≡ fuel - 1 = omega arith in
+            q ∙ rw (once-more, k, ne-eqb b 0 e, l, chainHeld) (simp (← es, moved t ms′ _ r y, held g _ h x))

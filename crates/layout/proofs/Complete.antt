@@ -15,7 +15,7 @@ use Rattle.numbers.specs.Checked.{passed}
 use Rattle.drum.specs.declared.Description.{Description}
 use Rattle.drum.specs.Params.{start, masterSize}
 use Rattle.drum.specs.Blocks.{blockAt, sections, chainHead, lowestUnused, Block}
-use Rattle.layout.specs.Inspect.{keyIn, lastRow, masterOk, restOk, layoutMarks}
+use Rattle.layout.specs.Inspect.{keyHeld, lastRow, masterOk, restOk, layoutMarks}
 use Rattle.layout.specs.Tree.{Tree, leavesOf, marksOf}
 use Rattle.layout.specs.Holds.{Holds}
 use Rattle.layout.proofs.Good.{Sized, start-next, start-end}
@@ -72,7 +72,7 @@ module _ (p : Description) (f : List ℕ) (z : Sized p f) where
         let s : 1 ≤ secs = rw (sections-length p f secs 3) at (h .control .0) in
         let b = 3 + secs * (p .k + 1) in
         let a : allAre 0 (part b (masterSize p - b) f) ≡ true = rw (sections-length p f secs 3) at (master-words p f z (treeAt p f) h .behind) in
-        let l : keyIn p f (lastRow 3 (p .k + 1) secs) ≡ ones (p .k) = sym (sections-last p f z secs 0 3 s facts) ∙ h .last in
+        let l : keyHeld p f (lastRow 3 (p .k + 1) secs) ≡ ones (p .k) = sym (sections-last p f z secs 0 3 s facts) ∙ h .last in
         both-and _ _ a (isOnes-eq (p .k) _ l)
 
     rest : (ms : List ℕ) → length ms ≡ p .n → ((c : ℕ) → Block p c → used ms c + cond (leb (lowestUnused f) c) 1 0 ≡ 1)

@@ -11,7 +11,7 @@ use Rattle.words.proofs.Parts.{length-part, part-add}
 use Rattle.drum.specs.declared.Description.{Description}
 use Rattle.drum.specs.Params.{D, I, start}
 use Rattle.drum.specs.Blocks.{Block}
-use Rattle.layout.specs.Inspect.{keyIn, named}
+use Rattle.layout.specs.Inspect.{keyHeld, named}
 use Rattle.layout.specs.Tree.{Leaf, Section, boundOf, leavesIn, leafBlocks, blocksIn}
 use Rattle.layout.specs.Holds.{All, OneTo, LeafOk, LeavesOk, indexEntries, masterEntries, IndexIn, DetailIn}
 use Rattle.layout.proofs.Good.{Sized, row-more, cap-d, cap-i, block-in}
@@ -54,7 +54,7 @@ module _ (p : Description) (f : List ℕ) (z : Sized p f) where
       block-words p f (l .block) (length (l .records)) (flatten (l .records)) (block-in p f z (l .block) i) (omega (arith, cap-d p (z .good))) t
 
   leaf-is : (l : Leaf) (before : List (List ℕ)) (a : ℕ) → LeafOk p before l → Block p (l .block) → DetailIn p f l
-      → keyIn p f a ≡ l .bound → named p f a ≡ l .block → leafAt p f a ≡ l
+      → keyHeld p f a ≡ l .bound → named p f a ≡ l .block → leafAt p f a ≡ l
   unfolding leafAt
   leaf-is l before a o i t k b =
       let w = leaf-words l before o i t in

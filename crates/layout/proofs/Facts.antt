@@ -17,21 +17,22 @@ use Rattle.drum.specs.Params.{D, I, start}
 use Rattle.drum.specs.Blocks.{blockAt, freeText, Block}
 use Rattle.table.specs.Tables.{laid}
 use Rattle.layout.specs.Create.{endRecord}
-use Rattle.layout.specs.Inspect.{keyIn, named, lastRow, recordsOk, endOk}
+use Rattle.layout.specs.Inspect.{keyHeld, named, lastRow, recordsOk, endOk}
 use Rattle.layout.specs.Tree.{Leaf, Section, boundOf, leavesIn, leafBlocks, blocksIn, headOf}
 use Rattle.layout.specs.Holds.{All, OneTo, LeafOk, LeavesOk, indexEntries, masterEntries, IndexIn, DetailIn, ChainIn}
 use Rattle.layout.proofs.Good.{Sized, row-more, cap-d, cap-i, block-in}
 use Rattle.layout.proofs.Lists.{append-parts, length-flatten, all-append, all-left, all-right, all-blocks}
-use Rattle.layout.proofs.Read.{LeafFacts, SectionFacts, Leaves, Sections, Chain, Linked, rowsAt, leafAt, leavesAt, sectionAt, sectionsAt, rows-length, leaves-length}
+use Rattle.layout.proofs.Read.{LeafFacts, SectionFacts, LeavesAt, Sections, Chain, Linked, rowsAt, leafAt, leavesAt, sectionAt, sectionsAt, rows-length}
+use Rattle.layout.proofs.Read.{leaves-length}
 use Rattle.layout.proofs.Texts.{block-words, entry-is, last-bound}
 use Rattle.layout.proofs.Order.{befores, before-some, rising-back, last-bounded, rows-words, last-row}
-use Rattle.layout.proofs.Trees.{Ends, leaves-left, leaves-right, bound-width, index-length}
+use Rattle.layout.proofs.Trees.{LeafEnds, leaves-left, leaves-right, bound-width, index-length}
 
 module _ (p : Description) (f : List ℕ) (z : Sized p f) where
   -- the end record
   end-both : (r : ℕ) → r + p .wpr ≤ length f → part r (p .wpr) f ≡ endRecord p
-      → (isOnes (keyIn p f r) && allAre 0 (part (r + p .k) (p .wpr - p .k) f)) ≡ true
-  unfolding endRecord keyIn
+      → (isOnes (keyHeld p f r) && allAre 0 (part (r + p .k) (p .wpr - p .k) f)) ≡ true
+  unfolding endRecord keyHeld
   end-both r h q =
       let g = z .good .key in
       let m = p .wpr - p .k in
@@ -42,17 +43,17 @@ module _ (p : Description) (f : List ℕ) (z : Sized p f) where
       let (a, b) = append-parts (part r (p .k) f) (ones (p .k)) (part (r + p .k) m f) (zeros m) n t in
       rw (a, b, isOnes-ones, allAre-replicate)
 
-  end-back : (e r : ℕ) → r + p .wpr ≤ length f → (isOnes (keyIn p f e) ≡ false) ⊎ (part r (p .wpr) f ≡ endRecord p) → endOk p f e r ≡ true
+  end-back : (e r : ℕ) → r + p .wpr ≤ length f → (isOnes (keyHeld p f e) ≡ false) ⊎ (part r (p .wpr) f ≡ endRecord p) → endOk p f e r ≡ true
   unfolding endOk
   end-back e r h (inl q) = simp q
-  end-back e r h (inr q) = go (isOnes (keyIn p f e))
+  end-back e r h (inr q) = go (isOnes (keyHeld p f e))
     where
-      go : (t : Bool) → (not t || (isOnes (keyIn p f r) && allAre 0 (part (r + p .k) (p .wpr - p .k) f))) ≡ true
+      go : (t : Bool) → (not t || (isOnes (keyHeld p f r) && allAre 0 (part (r + p .k) (p .wpr - p .k) f))) ≡ true
       go false = refl
       go true = end-both r h q
 
   -- detail blocks
-  leaf-facts : (low e : ℕ) → Block p (named p f e) → LeafOk p (befores p f low) (leafAt p f e) → DetailIn p f (leafAt p f e) → Ends p (leafAt p f e)
+  leaf-facts : (low e : ℕ) → Block p (named p f e) → LeafOk p (befores p f low) (leafAt p f e) → DetailIn p f (leafAt p f e) → LeafEnds p (leafAt p f e)
       → LeafFacts p f low e
   unfolding leafAt recordsOk
   leaf-facts low e i o t d =
@@ -71,7 +72,7 @@ module _ (p : Description) (f : List ℕ) (z : Sized p f) where
       let r = lastRow (s + 1) (p .wpr) n in
       let k : r + p .wpr ≤ length f = omega (arith, cap-d p (z .good)) in
       let up = rising-back p f (p .wpr) kwpr n low (s + 1) (omega arith) (o .order) in
-      let top = last-bounded p f (p .wpr) kwpr n (s + 1) (keyIn p f e) (c .0) (o .bounded) in
+      let top = last-bounded p f (p .wpr) kwpr n (s + 1) (keyHeld p f e) (c .0) (o .bounded) in
       let end = end-back e r k (⊎-elim inl (λ x. inr (sym (last-row f (p .wpr) n (s + 1) (c .0)) ∙ x)) d) in
       record { rows = record { count = refl; fits = c; behind = rw fl at (w .behind) }; good = simp (up, top, end) }
 
@@ -79,13 +80,13 @@ module _ (p : Description) (f : List ℕ) (z : Sized p f) where
   unfolding leafAt
   block-at e i = i
 
-  before-at : (e : ℕ) (ls : List Leaf) → LeavesOk p (leafAt p f e .bound ∷ []) ls → LeavesOk p (keyIn p f e ∷ []) ls
+  before-at : (e : ℕ) (ls : List Leaf) → LeavesOk p (leafAt p f e .bound ∷ []) ls → LeavesOk p (keyHeld p f e ∷ []) ls
   unfolding leafAt
   before-at e ls o = o
 
   leaves-facts : (n low e : ℕ) → 1 ≤ e → LeavesOk p (befores p f low) (leavesAt p f e n) → All (λ (l : Leaf). Block p (l .block)) (leavesAt p f e n)
-      → All (DetailIn p f) (leavesAt p f e n) → All (Ends p) (leavesAt p f e n) → Leaves p f low e n
-  unfolding Leaves LeavesOk All leavesAt
+      → All (DetailIn p f) (leavesAt p f e n) → All (LeafEnds p) (leavesAt p f e n) → LeavesAt p f low e n
+  unfolding LeavesAt LeavesOk All leavesAt
   leaves-facts zero low e s o i t d = tt
   leaves-facts (suc n) low e s (o, os) (i, is) (t, ts) (d, ds) =
       let i′ = block-at e i in
@@ -93,11 +94,11 @@ module _ (p : Description) (f : List ℕ) (z : Sized p f) where
       (i′, leaf-facts low e i′ o t d, leaves-facts n e next (omega arith) (rw (before-some p f e s) (before-at e (leavesAt p f next n) os)) is ts ds)
 
   -- index blocks
-  section-facts : (low e : ℕ) → keyIn p f e ≡ boundOf (sectionAt p f e .leaves) → Block p (named p f e)
+  section-facts : (low e : ℕ) → keyHeld p f e ≡ boundOf (sectionAt p f e .leaves) → Block p (named p f e)
       → LeavesOk p (befores p f low) (sectionAt p f e .leaves) → OneTo (I p) (length (sectionAt p f e .leaves))
       → All (λ (l : Leaf). Block p (l .block)) (sectionAt p f e .leaves)
       → blockAt p f (named p f e) ≡ laid (p .wpb) (length (sectionAt p f e .leaves)) (indexEntries (sectionAt p f e .leaves))
-      → All (DetailIn p f) (sectionAt p f e .leaves) → All (Ends p) (sectionAt p f e .leaves) → SectionFacts p f low e
+      → All (DetailIn p f) (sectionAt p f e .leaves) → All (LeafEnds p) (sectionAt p f e .leaves) → SectionFacts p f low e
   unfolding sectionAt
   section-facts low e key i o c is t ts ds =
       let b = start p (named p f e) in
@@ -111,7 +112,7 @@ module _ (p : Description) (f : List ℕ) (z : Sized p f) where
       let w = block-words p f (named p f e) (length ls) (indexEntries ls) fits (omega (arith, cap-i p (z .good))) t in
       record {
         rows = record { count = refl; fits = c′; behind = rw fl at (w .behind) };
-        same = rw (key ∙ last-bound p f n (b + 1) (c′ .0)) (sameKey-refl (keyIn p f (lastRow (b + 1) (p .k + 1) n)));
+        same = rw (key ∙ last-bound p f n (b + 1) (c′ .0)) (sameKey-refl (keyHeld p f (lastRow (b + 1) (p .k + 1) n)));
         leaves = leaves-facts n low (b + 1) (omega arith) o is ts ds;
       }
 
@@ -121,7 +122,7 @@ module _ (p : Description) (f : List ℕ) (z : Sized p f) where
 
   pub sections-facts : (n low e : ℕ) → 1 ≤ e → e + n * (p .k + 1) ≤ length f → LeavesOk p (befores p f low) (leavesIn (sectionsAt p f e n))
       → All (λ (s : Section). OneTo (I p) (length (s .leaves))) (sectionsAt p f e n) → All (Block p) (blocksIn (sectionsAt p f e n))
-      → All (IndexIn p f) (sectionsAt p f e n) → All (DetailIn p f) (leavesIn (sectionsAt p f e n)) → All (Ends p) (leavesIn (sectionsAt p f e n))
+      → All (IndexIn p f) (sectionsAt p f e n) → All (DetailIn p f) (leavesIn (sectionsAt p f e n)) → All (LeafEnds p) (leavesIn (sectionsAt p f e n))
       → part e (n * (p .k + 1)) f ≡ masterEntries (sectionsAt p f e n) → Sections p f low e n
   unfolding Sections All leavesIn blocksIn masterEntries sectionsAt
   sections-facts zero low e s h o c i t ts ds q = tt
@@ -138,9 +139,9 @@ module _ (p : Description) (f : List ℕ) (z : Sized p f) where
       let i₁ = all-blocks (Block p) ls (all-left (Block p) (leafBlocks ls) (blocksIn (sectionsAt p f next n)) is) in
       let i₂ = all-right (Block p) (leafBlocks ls) (blocksIn (sectionsAt p f next n)) is in (
         i′,
-        section-facts low e key i′ o₁ c i₁ (rw (section-block e) at t) (all-left (DetailIn p f) ls rest ts) (all-left (Ends p) ls rest ds),
+        section-facts low e key i′ o₁ c i₁ (rw (section-block e) at t) (all-left (DetailIn p f) ls rest ts) (all-left (LeafEnds p) ls rest ds),
         sections-facts n e next (omega arith) (omega arith) (rw (before-some p f e s, key) o₂) cs i₂ t′
-            (all-right (DetailIn p f) ls rest ts) (all-right (Ends p) ls rest ds) r,
+            (all-right (DetailIn p f) ls rest ts) (all-right (LeafEnds p) ls rest ds) r,
       )
 
   -- the chain

@@ -15,12 +15,14 @@ use Rattle.numbers.specs.Checked.{Checked, passed, refused, _>>=_, _>>_, requir
 use Rattle.drum.specs.declared.Description.{Description}
 use Rattle.drum.specs.Params.{D, I, start}
 use Rattle.drum.specs.Blocks.{sections, chainHead, lowestUnused, Block}
-use Rattle.layout.specs.Inspect.{keyIn, named, lastRow, recordsOk, rowsIn, marked, through, detailHeld, indexHeld, chainHeld, restOk, masterOk, walked, layoutMarks}
+use Rattle.layout.specs.Inspect.{keyHeld, named, lastRow, recordsOk, rowsIn, marked, through, detailHeld, indexHeld, chainHeld, restOk, masterOk, walked}
+use Rattle.layout.specs.Inspect.{layoutMarks}
 use Rattle.layout.specs.Tree.{leafBlocks, blocksIn}
 use Rattle.layout.specs.Holds.{OneTo}
 use Rattle.numbers.proofs.Passed.{Passed, chain, bind-passed, then-passed, clash, required, ranged}
 use Rattle.layout.proofs.Marks.{markAll, mark-append, mark-facts, mark-length, all-length, one}
-use Rattle.layout.proofs.Read.{RowsOk, LeafFacts, Leaves, Sections, Chain, Linked, leafAt, leavesAt, sectionAt, sectionsAt, chainAt, chain-none, chain-some}
+use Rattle.layout.proofs.Read.{RowsOk, LeafFacts, LeavesAt, Sections, Chain, Linked, leafAt, leavesAt, sectionAt, sectionsAt, chainAt, chain-none}
+use Rattle.layout.proofs.Read.{chain-some}
 
 rows-lines : (p : Description) (f : List ℕ) (most stride s n : ℕ) (x : Bool)
     → within 1 most (getD f s 0) ≡ passed n
@@ -60,12 +62,12 @@ record IndexFacts (p : Description) (f : List ℕ) (low e : ℕ) (ms ms′ : Lis
   middle : List ℕ
   mark : marked 1 (named p f e) ms ≡ passed middle
   rows : RowsOk p f (I p) (p .k + 1) (start p (named p f e)) (getD f (start p (named p f e)) 0)
-  same : sameKey (keyIn p f (lastRow (start p (named p f e) + 1) (p .k + 1) (getD f (start p (named p f e)) 0))) (keyIn p f e) ≡ true
+  same : sameKey (keyHeld p f (lastRow (start p (named p f e) + 1) (p .k + 1) (getD f (start p (named p f e)) 0))) (keyHeld p f e) ≡ true
   below : through (detailHeld p f) (p .k + 1) low (start p (named p f e) + 1) (getD f (start p (named p f e)) 0) middle ≡ passed ms′
 
 index-lines : (p : Description) (f : List ℕ) (low e : ℕ) (ms middle : List ℕ) (n : ℕ) (x : Bool)
     → marked 1 (named p f e) ms ≡ passed middle → rowsIn p f (I p) (p .k + 1) (start p (named p f e)) ≡ passed n
-    → require (sameKey (keyIn p f (lastRow (start p (named p f e) + 1) (p .k + 1) n)) (keyIn p f e)) badFile ≡ passed x
+    → require (sameKey (keyHeld p f (lastRow (start p (named p f e) + 1) (p .k + 1) n)) (keyHeld p f e)) badFile ≡ passed x
     → Passed (IndexFacts p f low e ms) (through (detailHeld p f) (p .k + 1) low (start p (named p f e) + 1) n middle)
 index-lines p f low e ms middle n x m r g =
     let w = rows-facts p f (I p) (p .k + 1) (start p (named p f e)) .holds n r in
@@ -86,8 +88,8 @@ index-facts p f low e ms = search (chain, index-lines) depth 12
 -- all entries of an index block
 leaves-found : (p : Description) (f : List ℕ) (n low e : ℕ) (ms ms′ : List ℕ) → length ms ≡ p .n
     → through (detailHeld p f) (p .k + 1) low e n ms ≡ passed ms′
-    → (markAll 1 (leafBlocks (leavesAt p f e n)) ms ≡ passed ms′) × Leaves p f low e n
-unfolding through leavesAt leafAt leafBlocks markAll Leaves
+    → (markAll 1 (leafBlocks (leavesAt p f e n)) ms ≡ passed ms′) × LeavesAt p f low e n
+unfolding through leavesAt leafAt leafBlocks markAll LeavesAt
 leaves-found p f zero low e ms ms′ h q = (q, tt)
 leaves-found p f (suc n) low e ms ms′ h q =
     let (s, q₁, q₂) = bind-passed (detailHeld p f low e ms) (through (detailHeld p f) (p .k + 1) e (e + (p .k + 1)) n) ms′ q in

@@ -2,6 +2,7 @@ pub mod Bounds
 pub mod CodeCreate
 pub mod CodeFlags
 pub mod CodeMarks
+pub mod CodeRows
 pub mod CodeSizes
 pub mod CodeSteps
 pub mod CodeWhole

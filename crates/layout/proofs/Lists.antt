@@ -11,7 +11,7 @@ use borrow.Author.Tests.{eq-eqb, ne-eqb, not-true}
 use Rattle.words.specs.Words.{allAre, noneIs, zeros}
 use Rattle.words.proofs.Keys.{clash}
 use Rattle.words.proofs.All.{and-both}
-use Rattle.layout.specs.Tree.{Leaf, lastOf, boundOf, recordsIn, leafBlocks}
+use Rattle.layout.specs.Tree.{Leaf, lastIn, boundOf, recordsIn, leafBlocks}
 use Rattle.layout.specs.Holds.{All}
 use Rattle.layout.proofs.Good.{row-more}
 
@@ -56,8 +56,8 @@ length-flatten stride (r ∷ rows) (e, h) =
     rw (length-append r (flatten rows), row-more (length rows) stride, length-flatten stride rows h, e)
 
 -- the last of a list
-pub last-right : (xs ys : List (List ℕ)) → 1 ≤ length ys → lastOf (xs ++ ys) ≡ lastOf ys
-unfolding lastOf
+pub last-right : (xs ys : List (List ℕ)) → 1 ≤ length ys → lastIn (xs ++ ys) ≡ lastIn ys
+unfolding lastIn
 last-right [] ys h = refl
 last-right (x ∷ []) [] h = absurd (not-suc-le-zero h)
 last-right (x ∷ []) (y ∷ ys) h = refl

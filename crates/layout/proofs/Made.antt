@@ -18,7 +18,8 @@ use Rattle.drum.specs.Params.{goodParams, fileSize}
 use Rattle.drum.specs.Blocks.{Block}
 use Rattle.layout.specs.Create.{endRecord, created}
 use Rattle.layout.specs.Inspect.{layoutMarks}
-use Rattle.layout.specs.Tree.{lastOf, boundOf, leavesIn, recordsIn, leafBlocks, blocksIn, times, markOf, marksFrom, marksOf, freshLeaf, freshSection, freshTree}
+use Rattle.layout.specs.Tree.{lastIn, boundOf, leavesIn, recordsIn, leafBlocks, blocksIn, times, markOf, marksFrom, marksOf, freshLeaf, freshSection}
+use Rattle.layout.specs.Tree.{freshTree}
 use Rattle.layout.specs.Holds.{All, Holds, LeafOk, LeavesOk, ChainIn, indexEntries, ascending}
 use Rattle.layout.proofs.Good.{Good, good-facts}
 use Rattle.layout.proofs.Complete.{complete-for}
@@ -51,7 +52,8 @@ module _ (p : Description) (g : Good p) where
 
   -- every sentence
   holds-made : Holds p (created p) (freshTree p)
-  unfolding freshTree freshSection freshLeaf All leavesIn recordsIn blocksIn leafBlocks boundOf lastOf indexEntries flatten ChainIn LeavesOk indexPiece detailPiece
+  unfolding freshTree freshSection freshLeaf All leavesIn recordsIn blocksIn leafBlocks boundOf lastIn indexEntries flatten ChainIn LeavesOk
+      indexPiece detailPiece
   holds-made = record {
     size = length-made p g;
     words = words-made p g;

@@ -16,7 +16,7 @@ use Rattle.layout.specs.Inspect.{named, rowsIn, marked, through, detailH
 use Rattle.layout.specs.Tree.{leafBlocks, blocksIn}
 use Rattle.numbers.proofs.Passed.{bind-passed}
 use Rattle.layout.proofs.Marks.{markAll, mark-append}
-use Rattle.layout.proofs.Read.{RowsOk, LeafFacts, SectionFacts, Leaves, Sections, Chain, Linked, leafAt, leavesAt, sectionAt, sectionsAt, chainAt}
+use Rattle.layout.proofs.Read.{RowsOk, LeafFacts, SectionFacts, LeavesAt, Sections, Chain, Linked, leafAt, leavesAt, sectionAt, sectionsAt, chainAt}
 use Rattle.layout.proofs.Found.{LayoutFacts}
 
 rows-pass : (p : Description) (f : List ℕ) (most stride s : ℕ) → RowsOk p f most stride s (getD f s 0)
@@ -29,9 +29,9 @@ module _ (p : Description) (f : List ℕ) where
   unfolding detailHeld
   detail-pass low e ms ms′ m w = simp (m, rows-pass p f (D p) (p .wpr) (start p (named p f e)) (w .rows), w .good)
 
-  leaves-pass : (n low e : ℕ) (ms ms′ : List ℕ) → Leaves p f low e n → markAll 1 (leafBlocks (leavesAt p f e n)) ms ≡ passed ms′
+  leaves-pass : (n low e : ℕ) (ms ms′ : List ℕ) → LeavesAt p f low e n → markAll 1 (leafBlocks (leavesAt p f e n)) ms ≡ passed ms′
       → through (detailHeld p f) (p .k + 1) low e n ms ≡ passed ms′
-  unfolding through leavesAt leafAt leafBlocks markAll Leaves
+  unfolding through leavesAt leafAt leafBlocks markAll LeavesAt
   leaves-pass zero low e ms ms′ t q = q
   leaves-pass (suc n) low e ms ms′ (i, w, t) q =
       let (s, q₁, q₂) = bind-passed (marked 1 (named p f e) ms) (markAll 1 (leafBlocks (leavesAt p f (e + (p .k + 1)) n))) ms′ q in

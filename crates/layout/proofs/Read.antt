@@ -11,7 +11,7 @@ use Rattle.words.specs.Keys.{sameKey}
 use Rattle.drum.specs.declared.Description.{Description}
 use Rattle.drum.specs.Params.{D, I, start}
 use Rattle.drum.specs.Blocks.{sections, chainHead, lowestUnused, Block}
-use Rattle.layout.specs.Inspect.{keyIn, named, lastRow, recordsOk}
+use Rattle.layout.specs.Inspect.{keyHeld, named, lastRow, recordsOk}
 use Rattle.layout.specs.Tree.{Leaf, Section, Tree}
 use Rattle.layout.specs.Holds.{OneTo}
 use Rattle.layout.proofs.Good.{row-more}
@@ -23,7 +23,7 @@ rowsAt f stride a (suc n) = part a stride f ∷ rowsAt f stride (a + stride) n
 unfoldable pub leafAt : Description → List ℕ → ℕ → Leaf
 leafAt p f e =
     let s = start p (named p f e) in
-    record { bound = keyIn p f e; block = named p f e; records = rowsAt f (p .wpr) (s + 1) (getD f s 0) }
+    record { bound = keyHeld p f e; block = named p f e; records = rowsAt f (p .wpr) (s + 1) (getD f s 0) }
 
 unfoldable pub leavesAt : Description → List ℕ → ℕ → ℕ → List Leaf
 leavesAt p f e zero = []
@@ -54,15 +54,15 @@ pub record LeafFacts (p : Description) (f : List ℕ) (low e : ℕ) : Type 0 whe
   pub rows : RowsOk p f (D p) (p .wpr) (start p (named p f e)) (getD f (start p (named p f e)) 0)
   pub good : recordsOk p f low e (start p (named p f e) + 1) (getD f (start p (named p f e)) 0) ≡ true
 
-unfoldable pub Leaves : Description → List ℕ → ℕ → ℕ → ℕ → Type 0
-Leaves p f low e zero = Unit {0}
-Leaves p f low e (suc n) = Block p (named p f e) × LeafFacts p f low e × Leaves p f e (e + (p .k + 1)) n
+unfoldable pub LeavesAt : Description → List ℕ → ℕ → ℕ → ℕ → Type 0
+LeavesAt p f low e zero = Unit {0}
+LeavesAt p f low e (suc n) = Block p (named p f e) × LeafFacts p f low e × LeavesAt p f e (e + (p .k + 1)) n
 
 -- the index block under the master's entry at place e
 pub record SectionFacts (p : Description) (f : List ℕ) (low e : ℕ) : Type 0 where
   pub rows : RowsOk p f (I p) (p .k + 1) (start p (named p f e)) (getD f (start p (named p f e)) 0)
-  pub same : sameKey (keyIn p f (lastRow (start p (named p f e) + 1) (p .k + 1) (getD f (start p (named p f e)) 0))) (keyIn p f e) ≡ true
-  pub leaves : Leaves p f low (start p (named p f e) + 1) (getD f (start p (named p f e)) 0)
+  pub same : sameKey (keyHeld p f (lastRow (start p (named p f e) + 1) (p .k + 1) (getD f (start p (named p f e)) 0))) (keyHeld p f e) ≡ true
+  pub leaves : LeavesAt p f low (start p (named p f e) + 1) (getD f (start p (named p f e)) 0)
 
 unfoldable pub Sections : Description → List ℕ → ℕ → ℕ → ℕ → Type 0
 Sections p f low e zero = Unit {0}

@@ -10,14 +10,16 @@ use Rattle.numbers.specs.Numbers.{badFile}
 use Rattle.numbers.specs.Checked.{passed, refused}
 use Rattle.drum.specs.declared.Description.{Description}
 use Rattle.drum.specs.Params.{D, I, masterSize, fileSize, start, every, goodParams}
-use Rattle.layout.specs.Inspect.{keyIn, above, ascends, endOk, recordsOk, rowsIn, marked, through, detailHeld, indexHeld, chainHeld, restOk, masterOk, walked, layoutMarks}
+use Rattle.layout.specs.Inspect.{keyHeld, above, ascends, endOk, recordsOk, rowsIn, marked, through, detailHeld, indexHeld, chainHeld, restOk, masterOk}
+use Rattle.layout.specs.Inspect.{walked, layoutMarks}
 
 abbrev small : Description
 small = record { wpb = 8; wpr = 3; k = 1; space = 0; control = 2; n = 6 }
 
 -- opens every definition that the test is made of
 unfoldable testing : ℕ
-unfolding part allAre noneIs allWords isOnes keyLt keyLe sameKey D I masterSize fileSize start every goodParams keyIn above ascends endOk recordsOk rowsIn marked through detailHeld indexHeld chainHeld restOk masterOk walked layoutMarks
+unfolding part allAre noneIs allWords isOnes keyLt keyLe sameKey D I masterSize fileSize start every goodParams
+    keyHeld above ascends endOk recordsOk rowsIn marked through detailHeld indexHeld chainHeld restOk masterOk walked layoutMarks
 testing = 0
 
 -- a master and four blocks; blocks 5 and 6 were never used. The master names index block 1

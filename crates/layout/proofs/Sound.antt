@@ -16,7 +16,7 @@ use Rattle.words.proofs.All.{and-both, allAre-getD}
 use Rattle.drum.specs.declared.Description.{Description}
 use Rattle.drum.specs.Params.{start, masterSize}
 use Rattle.drum.specs.Blocks.{sections, chainHead, lowestUnused, Block}
-use Rattle.layout.specs.Inspect.{keyIn, lastRow, masterOk, restOk}
+use Rattle.layout.specs.Inspect.{keyHeld, lastRow, masterOk, restOk}
 use Rattle.layout.specs.Tree.{blocksIn, times}
 use Rattle.layout.specs.Holds.{Holds, masterText}
 use Rattle.layout.proofs.Good.{Sized, master-fits, master-in}
@@ -87,13 +87,13 @@ module _ (p : Description) (f : List ℕ) (z : Sized p f) (ms : List ℕ) (w : L
   -- the master
   record Mastered : Type 0 where
     behind : allAre 0 (part (3 + sections f * (p .k + 1)) (masterSize p - (3 + sections f * (p .k + 1))) f) ≡ true
-    last : isOnes (keyIn p f (lastRow 3 (p .k + 1) (sections f))) ≡ true
+    last : isOnes (keyHeld p f (lastRow 3 (p .k + 1) (sections f))) ≡ true
 
   mastered : Mastered
   unfolding masterOk
   mastered =
       let b = 3 + sections f * (p .k + 1) in
-      let (x, y) = and-both (allAre 0 (part b (masterSize p - b) f)) (isOnes (keyIn p f (lastRow 3 (p .k + 1) (sections f)))) (w .master) in
+      let (x, y) = and-both (allAre 0 (part b (masterSize p - b) f)) (isOnes (keyHeld p f (lastRow 3 (p .k + 1) (sections f)))) (w .master) in
       record { behind = x; last = y }
 
   master-text : part 0 (masterSize p) f ≡ masterText p (treeAt p f)

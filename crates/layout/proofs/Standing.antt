@@ -15,12 +15,13 @@ use Rattle.table.specs.Tables.{laid}
 use Rattle.drum.specs.declared.Description.{Description}
 use Rattle.drum.specs.Params.{D, I, start}
 use Rattle.drum.specs.Blocks.{blockAt, freeText, Block}
-use Rattle.layout.specs.Inspect.{keyIn, named}
+use Rattle.layout.specs.Inspect.{keyHeld, named}
 use Rattle.layout.specs.Tree.{Section, boundOf, leavesIn, headOf}
 use Rattle.layout.specs.Holds.{All, OneTo, masterEntries, IndexIn, DetailIn, ChainIn}
 use Rattle.layout.proofs.Good.{Sized, cap-d, cap-i, start-le, block-in}
 use Rattle.layout.proofs.Lists.{all-append}
-use Rattle.layout.proofs.Read.{LeafFacts, SectionFacts, Leaves, Sections, Chain, Linked, leafAt, leavesAt, sectionAt, sectionsAt, rows-length, leaves-length}
+use Rattle.layout.proofs.Read.{LeafFacts, SectionFacts, LeavesAt, Sections, Chain, Linked, leafAt, leavesAt, sectionAt, sectionsAt, rows-length}
+use Rattle.layout.proofs.Read.{leaves-length}
 use Rattle.layout.proofs.Texts.{zeros-are, rows-flat, block-part, block-text, entry-more, entry-words, entries-flat, last-bound}
 
 module _ (p : Description) (f : List ℕ) (z : Sized p f) where
@@ -31,8 +32,8 @@ module _ (p : Description) (f : List ℕ) (z : Sized p f) where
       rw (rows-length f (p .wpr) (getD f s 0) (s + 1), rows-flat f (p .wpr) (getD f s 0) (s + 1))
       (block-text p f (D p) (p .wpr) (named p f e) (getD f s 0) (block-in p f z (named p f e) i) (cap-d p (z .good)) (w .rows))
 
-  leaves-texts : (n low e : ℕ) → Leaves p f low e n → All (DetailIn p f) (leavesAt p f e n)
-  unfolding Leaves All leavesAt
+  leaves-texts : (n low e : ℕ) → LeavesAt p f low e n → All (DetailIn p f) (leavesAt p f e n)
+  unfolding LeavesAt All leavesAt
   leaves-texts zero low e h = tt
   leaves-texts (suc n) low e (i, w, h) = (leaf-text low e i w, leaves-texts n e (e + (p .k + 1)) h)
 
@@ -51,7 +52,7 @@ module _ (p : Description) (f : List ℕ) (z : Sized p f) where
   unfolding sectionAt
   section-leaves low e w = leaves-texts _ low _ (w .leaves)
 
-  pub section-bound : (low e : ℕ) → SectionFacts p f low e → boundOf (sectionAt p f e .leaves) ≡ keyIn p f e
+  pub section-bound : (low e : ℕ) → SectionFacts p f low e → boundOf (sectionAt p f e .leaves) ≡ keyHeld p f e
   unfolding sectionAt
   section-bound low e w = last-bound p f _ _ (w .rows .fits .0) ∙ sameKey-true _ _ (w .same)
 

@@ -13,7 +13,7 @@ use Rattle.table.specs.Tables.{laid}
 use Rattle.drum.specs.declared.Description.{Description}
 use Rattle.drum.specs.Params.{start}
 use Rattle.drum.specs.Blocks.{blockAt}
-use Rattle.layout.specs.Inspect.{keyIn, named, lastRow}
+use Rattle.layout.specs.Inspect.{keyHeld, named, lastRow}
 use Rattle.layout.specs.Tree.{boundOf}
 use Rattle.layout.specs.Holds.{indexEntries}
 use Rattle.layout.proofs.Good.{row-more}
@@ -92,24 +92,24 @@ module _ (p : Description) where
   entry-more n = rw (row-more n (p .k + 1)) (omega arith)
 
   pub entry-words : (f : List ℕ) (a u : ℕ) → a + p .k < length f
-      → part a (p .k + suc u) f ≡ keyIn p f a ++ (named p f a ∷ part (a + (p .k + 1)) u f)
-  unfolding keyIn
+      → part a (p .k + suc u) f ≡ keyHeld p f a ++ (named p f a ∷ part (a + (p .k + 1)) u f)
+  unfolding keyHeld
   entry-words f a u h =
       let e : suc (a + p .k) ≡ a + (p .k + 1) = omega arith in
       rw (part-add a (p .k) (suc u) f, part-cons (a + p .k) u f h, e)
 
-  pub length-key : (f : List ℕ) (e : ℕ) → e + p .k ≤ length f → length (keyIn p f e) ≡ p .k
-  unfolding keyIn
+  pub length-key : (f : List ℕ) (e : ℕ) → e + p .k ≤ length f → length (keyHeld p f e) ≡ p .k
+  unfolding keyHeld
   length-key f e h = length-part e (p .k) f h
 
   pub entry-is : (f : List ℕ) (a : ℕ) (key : List ℕ) (b : ℕ) (ws : List ℕ) (n : ℕ) → a + suc n * (p .k + 1) ≤ length f → length key ≡ p .k
-      → part a (suc n * (p .k + 1)) f ≡ key ++ (b ∷ ws) → (keyIn p f a ≡ key) × (named p f a ≡ b) × (part (a + (p .k + 1)) (n * (p .k + 1)) f ≡ ws)
+      → part a (suc n * (p .k + 1)) f ≡ key ++ (b ∷ ws) → (keyHeld p f a ≡ key) × (named p f a ≡ b) × (part (a + (p .k + 1)) (n * (p .k + 1)) f ≡ ws)
   entry-is f a key b ws n h l e =
       let m = entry-more n in
-      let t : keyIn p f a ++ (named p f a ∷ part (a + (p .k + 1)) (n * (p .k + 1)) f) ≡ key ++ (b ∷ ws) =
+      let t : keyHeld p f a ++ (named p f a ∷ part (a + (p .k + 1)) (n * (p .k + 1)) f) ≡ key ++ (b ∷ ws) =
       sym (entry-words f a (n * (p .k + 1)) (omega arith)) ∙ ap (λ (x : ℕ). part a x f) (sym m) ∙ e in
       let more = named p f a ∷ part (a + (p .k + 1)) (n * (p .k + 1)) f in
-      let (x, y) = append-parts (keyIn p f a) key more (b ∷ ws) (length-key f a (omega arith) ∙ sym l) t in
+      let (x, y) = append-parts (keyHeld p f a) key more (b ∷ ws) (length-key f a (omega arith) ∙ sym l) t in
       (x, cc, cc)
 
   -- the entries of an index block
@@ -120,8 +120,8 @@ module _ (p : Description) where
       let m = entry-more n in
       rw (m, entries-flat f n (a + (p .k + 1)) (omega arith), entry-words f a (n * (p .k + 1)) (omega arith))
 
-  pub last-bound : (f : List ℕ) (n a : ℕ) → 1 ≤ n → boundOf (leavesAt p f a n) ≡ keyIn p f (lastRow a (p .k + 1) n)
+  pub last-bound : (f : List ℕ) (n a : ℕ) → 1 ≤ n → boundOf (leavesAt p f a n) ≡ keyHeld p f (lastRow a (p .k + 1) n)
   unfolding boundOf leavesAt leafAt
   last-bound f zero a h = absurd (not-suc-le-zero h)
   last-bound f (suc zero) a h = rw (last-one a (p .k + 1))
-  last-bound f (suc (suc n)) a h = last-bound f (suc n) (a + (p .k + 1)) (omega arith) ∙ ap (keyIn p f) (last-next a (p .k + 1) n)
+  last-bound f (suc (suc n)) a h = last-bound f (suc n) (a + (p .k + 1)) (omega arith) ∙ ap (keyHeld p f) (last-next a (p .k + 1) n)

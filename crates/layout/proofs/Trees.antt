@@ -14,7 +14,7 @@ use Rattle.words.proofs.All.{and-both, isOnes-true, allWords-take, ones-top}
 use Rattle.drum.specs.declared.Description.{Description}
 use Rattle.drum.specs.Params.{I}
 use Rattle.layout.specs.Create.{endRecord}
-use Rattle.layout.specs.Tree.{Leaf, Section, lastOf, boundOf, leavesIn, recordsIn}
+use Rattle.layout.specs.Tree.{Leaf, Section, lastIn, boundOf, leavesIn, recordsIn}
 use Rattle.layout.specs.Holds.{All, OneTo, LeavesOk, indexEntries, masterEntries, ascending, keysOf}
 use Rattle.layout.proofs.Good.{row-more}
 use Rattle.layout.proofs.Lists.{last-right}
@@ -69,8 +69,8 @@ module _ (p : Description) where
       (omega (arith, bound-width before (s .leaves) o₁ (c .0)))
 
   -- only the last bound is ONES: of each detail block, it is not, or the last record is the end record
-  abbrev pub Ends : Leaf → Type 0
-  Ends l = (isOnes (l .bound) ≡ false) ⊎ (lastOf (l .records) ≡ endRecord p)
+  abbrev pub LeafEnds : Leaf → Type 0
+  LeafEnds l = (isOnes (l .bound) ≡ false) ⊎ (lastIn (l .records) ≡ endRecord p)
 
   top-not : (b : List ℕ) (rs : List (List ℕ)) → length b ≡ p .k → 1 ≤ length rs → All (λ r. p .k ≤ length r) rs
       → ascending (b ∷ keysOf p rs) ≡ true → All (λ r. allWords r ≡ true) rs → isOnes b ≡ false
@@ -97,7 +97,7 @@ module _ (p : Description) where
   full before l ls (o, h) = rw (length-append (l .records) (recordsIn ls)) (omega (arith, o .counted))
 
   pub ends : (kwpr : p .k ≤ p .wpr) (before : List (List ℕ)) (ls : List Leaf) → LeavesOk p before ls
-      → All (λ (l : Leaf). All (λ r. allWords r ≡ true) (l .records)) ls → lastOf (recordsIn ls) ≡ endRecord p → All Ends ls
+      → All (λ (l : Leaf). All (λ r. allWords r ≡ true) (l .records)) ls → lastIn (recordsIn ls) ≡ endRecord p → All LeafEnds ls
   unfolding LeavesOk All recordsIn
   ends k before [] o w e = tt
   ends k before (l ∷ []) (o, h) w e = (inr (rw (append-nil (l .records)) at e), tt)

@@ -1,7 +1,8 @@
 -- Document 01, "Layout", last line: the words of a new file.
-use Prim.Native.Nat.{ℕ, _*_, _-_}
+use Prim.Native.Nat.{ℕ, _+_, _*_, _-_}
 use mathlib.Core.List.{List, [], _∷_, _++_}
-use Rattle.words.specs.Words.{zeros}
+use lib.ListN.{set}
+use Rattle.words.specs.Words.{put, zeros}
 use Rattle.words.specs.Keys.{ones}
 use Rattle.table.specs.Tables.{laid}
 use Rattle.drum.specs.declared.Description.{Description}
@@ -18,3 +19,15 @@ created p =
     ++ (laid (p .wpb) 1 (ones (p .k) ++ (2 ∷ []))
     ++ (laid (p .wpb) 1 (endRecord p)
     ++ zeros ((p .n - 2) * p .wpb)))
+
+-- over words 0, the master's words that are not 0: one section, the lowest block never used, the section's entry [L1, L3, L4]
+unfoldable pub masterOn : ℕ → List ℕ → List ℕ
+masterOn k t = put (set (set t 0 1) 2 3) 3 (ones k ++ (1 ∷ []))
+
+-- over words 0, the index block's at word a: its count and one entry [L5]
+unfoldable pub indexOn : ℕ → ℕ → List ℕ → List ℕ
+indexOn a k t = put (set t a 1) (a + 1) (ones k ++ (2 ∷ []))
+
+-- over words 0, the detail block's at word a: its count and the end record's key [L6, L14]
+unfoldable pub detailOn : ℕ → ℕ → List ℕ → List ℕ
+detailOn a k t = put (set t a 1) (a + 1) (ones k)

@@ -12,7 +12,7 @@ use Rattle.drum.specs.declared.Description.{Description}
 use Rattle.drum.specs.Params.{D, I, masterSize, fileSize}
 use Rattle.drum.specs.Blocks.{blockAt, freeText, Block}
 use Rattle.layout.specs.Create.{endRecord}
-use Rattle.layout.specs.Tree.{Leaf, Section, Tree, lastOf, boundOf, leavesOf, contents, reachedBlocks, headOf, times}
+use Rattle.layout.specs.Tree.{Leaf, Section, Tree, lastIn, boundOf, leavesOf, contents, reachedBlocks, headOf, times}
 
 -- P holds of each in a list
 unfoldable pub All : {A : Type 0} → (A → Type 0) → List A → Type 0
@@ -107,7 +107,7 @@ pub record Holds (p : Description) (f : List ℕ) (t : Tree) : Type 0 where
   -- "The last bound is ONES."
   pub last : boundOf (leavesOf t) ≡ ones (p .k)
   -- "The last record of the file is the end record: key ONES, data 0."
-  pub end : lastOf (contents t) ≡ endRecord p
+  pub end : lastIn (contents t) ≡ endRecord p
   -- "Every block 1..N is reached once from the master, or on the chain once, or at or above word 2, and only one of these."
   pub once : (b : ℕ) → Block p b → times b (reachedBlocks t) + times b (t .chain) + cond (leb (t .lowest) b) 1 0 ≡ 1
   -- "block 1..N": nothing else is reached

@@ -15,8 +15,8 @@ use Rattle.drum.specs.Params.{D, I, masterSize, start}
 use Rattle.drum.specs.Blocks.{sections, chainHead, lowestUnused}
 
 -- the key at place a
-unfoldable pub keyIn : Description → List ℕ → ℕ → List ℕ
-keyIn p f a = part a (p .k) f
+unfoldable pub keyHeld : Description → List ℕ → ℕ → List ℕ
+keyHeld p f a = part a (p .k) f
 
 -- the block that the entry at place e names: "entries: key and .. block"
 abbrev pub named : Description → List ℕ → ℕ → ℕ
@@ -28,7 +28,7 @@ lastRow a stride n = a + (n - 1) * stride
 
 -- the key at place a is above the one at `low`, if there is one
 unfoldable pub above : Description → List ℕ → ℕ → ℕ → Bool
-above p f low a = eqb low 0 || keyLt (keyIn p f low) (keyIn p f a)
+above p f low a = eqb low 0 || keyLt (keyHeld p f low) (keyHeld p f a)
 
 -- "all are strictly ascending": the keys of the n rows from place a on, the first above the one at `low` [L13]
 unfoldable pub ascends : Description → List ℕ → ℕ → ℕ → ℕ → ℕ → Bool
@@ -37,13 +37,13 @@ ascends p f stride low a (suc n) = above p f low a && ascends p f stride a (a + 
 
 -- "The last record of the file is the end record: key ONES, data 0": under the bound ONES, which only the last bound can be, the last record is that [L14]
 unfoldable pub endOk : Description → List ℕ → ℕ → ℕ → Bool
-endOk p f e r = not (isOnes (keyIn p f e)) || (isOnes (keyIn p f r) && allAre 0 (part (r + p .k) (p .wpr - p .k) f))
+endOk p f e r = not (isOnes (keyHeld p f e)) || (isOnes (keyHeld p f r) && allAre 0 (part (r + p .k) (p .wpr - p .k) f))
 
 -- "its block's keys are at most that [bound], and above the bound before it": the n records from place a on, under the entry at e [L10]
 unfoldable pub recordsOk : Description → List ℕ → ℕ → ℕ → ℕ → ℕ → Bool
 recordsOk p f low e a n =
     let r = lastRow a (p .wpr) n in
-    ascends p f (p .wpr) low a n && (keyLe (keyIn p f r) (keyIn p f e) && endOk p f e r)
+    ascends p f (p .wpr) low a n && (keyLe (keyHeld p f r) (keyHeld p f e) && endOk p f e r)
 
 -- "word 0 count", "No block in use is empty", "All other words are 0": the count of the rows in the block that starts at s [L8, L15]
 unfoldable pub rowsIn : Description → List ℕ → ℕ → ℕ → ℕ → Checked ℕ
@@ -81,7 +81,7 @@ indexHeld p f low e marks = do
   ms ← marked 1 (named p f e) marks
   let s = start p (named p f e)
   n ← rowsIn p f (I p) (p .k + 1) s
-  require (sameKey (keyIn p f (lastRow (s + 1) (p .k + 1) n)) (keyIn p f e)) badFile
+  require (sameKey (keyHeld p f (lastRow (s + 1) (p .k + 1) n)) (keyHeld p f e)) badFile
   through (detailHeld p f) (p .k + 1) low (s + 1) n ms
 
 -- the chain from block b on: "Free block: word 0 the next free block or 0. All other words are 0". It has at most `fuel` blocks [L7, L8]
@@ -104,7 +104,7 @@ restOk p f lowest marks =
 unfoldable pub masterOk : Description → List ℕ → ℕ → Bool
 masterOk p f n =
     let behind = 3 + n * (p .k + 1) in
-    allAre 0 (part behind (masterSize p - behind) f) && isOnes (keyIn p f (lastRow 3 (p .k + 1) n))
+    allAre 0 (part behind (masterSize p - behind) f) && isOnes (keyHeld p f (lastRow 3 (p .k + 1) n))
 
 -- the walk itself, once the master's three numbers are in range
 unfoldable pub walked : Description → List ℕ → Checked (List ℕ)

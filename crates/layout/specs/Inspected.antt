@@ -1,5 +1,5 @@
 -- How the inspector's functions answer: a flag with the marks it leaves, or a number that is not 0, for what a step of the definition gives.
-use Prim.Native.Nat.{ℕ, zero, suc}
+use Prim.Native.Nat.{ℕ, zero, suc, _+_, _≤_}
 use mathlib.Core.Path.{_≡_}
 use mathlib.Core.Bool.{Bool, true, false}
 use mathlib.Core.List.{List}
@@ -8,6 +8,7 @@ use Rattle.drum.specs.declared.Description.{Description}
 use Rattle.words.specs.Words.{zeros}
 use Rattle.numbers.specs.Numbers.{badFile}
 use Rattle.drum.specs.Params.{goodParams, fileSize}
+use Rattle.drum.specs.Blocks.{sections, lowestUnused}
 use Rattle.numbers.specs.Checked.{Checked, passed, refused}
 
 -- true, and the marks left are those of the step; false, and they mean nothing
@@ -24,6 +25,13 @@ counted (suc n) = passed (suc n)
 pub record Fit (p : Description) (f : List ℕ) : Type 0 where
   pub good : goodParams p ≡ true
   pub size : length f ≡ fileSize p
+
+-- the master's numbers in range: "sections outside 1..CONTROL" are bad, and the lowest block never used is one of 1..N+1 [B1, L3]
+pub record Ranged (p : Description) (f : List ℕ) : Type 0 where
+  pub sections-least : 1 ≤ sections f
+  pub sections-most : sections f ≤ p .control
+  pub lowest-least : 1 ≤ lowestUnused f
+  pub lowest-most : lowestUnused f ≤ p .n + 1
 
 -- the marks that the inspector leaves: "answering 070003 it leaves all 0" [S6]
 unfoldable pub leftMarks : ℕ → Checked (List ℕ) → List ℕ

@@ -25,10 +25,10 @@ pub record Tree : Type 0 where
   pub lowest : ℕ
 
 -- "The last record": of a list of records [L14]
-unfoldable pub lastOf : List (List ℕ) → List ℕ
-lastOf [] = []
-lastOf (r ∷ []) = r
-lastOf (r ∷ s ∷ rs) = lastOf (s ∷ rs)
+unfoldable pub lastIn : List (List ℕ) → List ℕ
+lastIn [] = []
+lastIn (r ∷ []) = r
+lastIn (r ∷ s ∷ rs) = lastIn (s ∷ rs)
 
 -- "An index block's last bound", "The last bound": of a list of detail blocks [L11, L12]
 unfoldable pub boundOf : List Leaf → List ℕ
@@ -37,12 +37,12 @@ boundOf (l ∷ []) = l .bound
 boundOf (l ∷ m ∷ ls) = boundOf (m ∷ ls)
 
 -- "Index block: .. then entries": all detail blocks under a list of sections
-unfoldable pub leavesIn : List Section → List Leaf
+abbrev pub leavesIn : List Section → List Leaf
 leavesIn [] = []
 leavesIn (s ∷ ss) = s .leaves ++ leavesIn ss
 
 -- "Detail block: .. then records": all records of a list of detail blocks
-unfoldable pub recordsIn : List Leaf → List (List ℕ)
+abbrev pub recordsIn : List Leaf → List (List ℕ)
 recordsIn [] = []
 recordsIn (l ∷ ls) = l .records ++ recordsIn ls
 

@@ -1,15 +1,25 @@
 // The walk's steps: a detail block, an index block with its detail blocks, the sections, the chain. Each marks the blocks it comes to; a
 // block that was marked before is refused before its words are looked at.
 use super::marking::mark;
+use super::rows::last_row;
 use super::rows::records_ok;
 use super::rows::rows_in;
 use drum::Description;
 ghost use mathlib.Core.Path.{_≡_};
 ghost use Prim.Native.Nat.{_+_, _*_, _≤_};
 ghost use lib.ListN.{length};
+ghost use Rattle.drum.specs.Params.{start};
 ghost use Rattle.layout.specs.Inspect.{through, detailHeld, indexHeld, chainHeld};
 ghost use Rattle.layout.specs.Inspected.{flagged, Fit};
 ghost use Rattle.words.specs.Slices.{was, became};
+
+// Where block b begins in the file, in which it lies whole.
+fn start_of(p: Description, f: &[u32], b: usize) -> usize
+    requires { ⌜ Fit p (now f) × (1 ≤ b) × (b ≤ p .n) ⌝ }
+    ensures { λ r. ⌜ (r ≡ start p b) × (r + p .wpb ≤ length (was f)) ⌝ }
+{
+    p.start(b)
+}
 
 // The detail block under the entry at place e.
 pub fn detail_held(p: Description, f: &[u32], low: usize, e: usize, marks: &mut [u8]) -> bool
@@ -22,7 +32,7 @@ pub fn detail_held(p: Description, f: &[u32], low: usize, e: usize, marks: &mut 
     if !mark(1, b, marks) {
         return false;
     }
-    let s = p.start(b);
+    let s = start_of(p, f, b);
     let most = p.d();
     let n = rows_in(p, f, most, p.wpr, s);
     if n == 0 {
@@ -72,13 +82,13 @@ pub fn index_held(p: Description, f: &[u32], low: usize, e: usize, marks: &mut [
     if !mark(1, b, marks) {
         return false;
     }
-    let s = p.start(b);
+    let s = start_of(p, f, b);
     let most = p.i();
     let n = rows_in(p, f, most, k + 1, s);
     if n == 0 {
         return false;
     }
-    let last = s + 1 + (n - 1) * (k + 1);
+    let last = last_row(f, s + 1, k + 1, n);
     if !words::same_key(f, last, f, e, k) {
         return false;
     }
@@ -121,7 +131,7 @@ pub fn chain_held(p: Description, f: &[u32], head: usize, marks: &mut [u8]) -> b
         if !mark(2, b, marks) {
             return false;
         }
-        let s = p.start(b);
+        let s = start_of(p, f, b);
         if !words::all_are(f, s + 1, wpb - 1, 0) {
             return false;
         }

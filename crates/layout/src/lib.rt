@@ -9,6 +9,7 @@ use drum::Description;
 use marking::all_set;
 use marking::clear;
 use marking::none_set;
+use rows::last_row;
 ghost use mathlib.Core.Path.{_≡_};
 ghost use mathlib.Core.Bool.{true};
 ghost use mathlib.Core.List.{[], _∷_, _++_};
@@ -17,9 +18,9 @@ ghost use lib.ListN.{length};
 ghost use Rattle.words.specs.Words.{put, zeros};
 ghost use Rattle.words.specs.Keys.{ones};
 ghost use Rattle.drum.specs.Params.{goodParams, fileSize};
-ghost use Rattle.layout.specs.Create.{created};
-ghost use Rattle.layout.specs.Inspect.{restOk, masterOk, layoutMarks};
-ghost use Rattle.layout.specs.Inspected.{flagged, Fit, leftMarks};
+ghost use Rattle.layout.specs.Create.{created, masterOn, indexOn, detailOn};
+ghost use Rattle.layout.specs.Inspect.{restOk, masterOk, walked, layoutMarks};
+ghost use Rattle.layout.specs.Inspected.{flagged, Fit, Ranged, leftMarks};
 ghost use Rattle.words.specs.Slices.{was, became};
 
 // Whether the file is as under Layout; the marks if so, and all 0 if not.
@@ -38,7 +39,7 @@ pub fn inspect(p: Description, f: &[u32], marks: &mut [u8]) -> bool
     false
 }
 
-// The whole walk, on marks that are all 0.
+// The whole walk, on marks that are all 0: first that no word is too large, and the master's numbers.
 fn walk(p: Description, f: &[u32], marks: &mut [u8]) -> bool
     requires { ⌜ Fit p (now f) ⌝ }
     requires { ⌜ now marks ≡ zeros (p .n) ⌝ }
@@ -48,7 +49,6 @@ fn walk(p: Description, f: &[u32], marks: &mut [u8]) -> bool
         return false;
     }
     let n = words::word_at(f, 0);
-    let head = words::word_at(f, 1);
     let lowest = words::word_at(f, 2);
     if n < 1 {
         return false;
@@ -62,6 +62,18 @@ fn walk(p: Description, f: &[u32], marks: &mut [u8]) -> bool
     if p.n + 1 < lowest {
         return false;
     }
+    walk_on(p, f, marks)
+}
+
+// The walk itself: master, sections, chain and rest.
+fn walk_on(p: Description, f: &[u32], marks: &mut [u8]) -> bool
+    requires { ⌜ Fit p (now f) × Ranged p (now f) ⌝ }
+    requires { ⌜ now marks ≡ zeros (p .n) ⌝ }
+    ensures { λ r. ⌜ walked p (was f) ≡ flagged r (became marks) ⌝ }
+{
+    let n = words::word_at(f, 0);
+    let head = words::word_at(f, 1);
+    let lowest = words::word_at(f, 2);
     if !master_ok(p, f, n) {
         return false;
     }
@@ -86,7 +98,7 @@ fn master_ok(p: Description, f: &[u32], n: usize) -> bool
     if !words::all_are(f, behind, m - behind, 0) {
         return false;
     }
-    words::all_are(f, 3 + (n - 1) * (k + 1), k, 262143)
+    words::all_are(f, last_row(f, 3, k + 1, n), k, 262143)
 }
 
 // Whether each block below `lowest` is marked, and the others are not and all 0.
@@ -110,18 +122,48 @@ pub fn lay_out(p: Description, file: &mut [u32])
     requires { ⌜ (goodParams p ≡ true) × (length (now file) ≡ fileSize p) ⌝ }
     ensures { λ _. ⌜ became file ≡ created p ⌝ }
 {
-    let k = p.k;
-    let size = file.len();
     let first = p.start(1);
     let second = p.start(2);
-    words::zero_words(file, 0, size);
-    file[0] = 1;
-    file[2] = 3;
-    lay_entry(file, 3, k, 1);
-    file[first] = 1;
-    lay_entry(file, first + 1, k, 2);
-    file[second] = 1;
-    lay_ones(file, second + 1, k);
+    lay_master(file, p.k);
+    lay_blocks(file, first, second, p.k);
+}
+
+// Writes 0 in every word, and then the master's that are not: one section, the lowest block never used, the section's entry.
+fn lay_master(t: &mut [u32], k: usize)
+    requires { ⌜ 4 + k ≤ length (now t) ⌝ }
+    ensures { λ _. ⌜ became t ≡ masterOn k (zeros (length (was t))) ⌝ }
+{
+    words::zero_words(t, 0, t.len());
+    t[0] = 1;
+    t[2] = 3;
+    lay_entry(t, 3, k, 1);
+}
+
+// Writes the words of the two blocks that are not 0: of the index block at word `first`, of the detail block at word `second`.
+fn lay_blocks(t: &mut [u32], first: usize, second: usize, k: usize)
+    requires { ⌜ (first + (2 + k) ≤ length (now t)) × (second + (1 + k) ≤ length (now t)) ⌝ }
+    ensures { λ _. ⌜ became t ≡ detailOn second k (indexOn first k (was t)) ⌝ }
+{
+    lay_index(t, first, k);
+    lay_detail(t, second, k);
+}
+
+// Writes the index block's, at word `at`: one entry.
+fn lay_index(t: &mut [u32], at: usize, k: usize)
+    requires { ⌜ at + (2 + k) ≤ length (now t) ⌝ }
+    ensures { λ _. ⌜ became t ≡ indexOn at k (was t) ⌝ }
+{
+    t[at] = 1;
+    lay_entry(t, at + 1, k, 2);
+}
+
+// Writes the detail block's, at word `at`: the end record.
+fn lay_detail(t: &mut [u32], at: usize, k: usize)
+    requires { ⌜ at + (1 + k) ≤ length (now t) ⌝ }
+    ensures { λ _. ⌜ became t ≡ detailOn at k (was t) ⌝ }
+{
+    t[at] = 1;
+    lay_ones(t, at + 1, k);
 }
 
 // Writes an entry at word `at`: the bound ONES, and a block.

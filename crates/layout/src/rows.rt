@@ -3,9 +3,17 @@ use drum::Description;
 ghost use mathlib.Core.Path.{_≡_};
 ghost use Prim.Native.Nat.{_+_, _*_, _≤_};
 ghost use lib.ListN.{length};
-ghost use Rattle.layout.specs.Inspect.{above as isAbove, ascends as ascending, endOk, recordsOk, rowsIn};
+ghost use Rattle.layout.specs.Inspect.{above as isAbove, ascends as ascending, endOk, lastRow, recordsOk, rowsIn};
 ghost use Rattle.layout.specs.Inspected.{counted};
 ghost use Rattle.words.specs.Slices.{was};
+
+// Where the last of the n rows from place a on begins.
+pub fn last_row(f: &[u32], a: usize, stride: usize, n: usize) -> usize
+    requires { ⌜ (1 ≤ n) × (a + n * stride ≤ length (now f)) ⌝ }
+    ensures { λ r. ⌜ (r ≡ lastRow a stride n) × (r + stride ≤ length (was f)) ⌝ }
+{
+    a + (n - 1) * stride
+}
 
 // Whether the key at place a is above the one at low, if there is one.
 pub fn above(p: Description, f: &[u32], low: usize, a: usize) -> bool
@@ -67,17 +75,17 @@ pub fn records_ok(p: Description, f: &[u32], low: usize, e: usize, a: usize, n: 
     if !ascends(p, f, wpr, low, a, n) {
         return false;
     }
-    let r = a + (n - 1) * wpr;
+    let r = last_row(f, a, wpr, n);
     if words::key_below(f, e, f, r, p.k) {
         return false;
     }
     end_ok(p, f, e, r)
 }
 
-// The count of the rows in the block that starts at s, 0 if it is bad or a word behind the rows is not 0.
+// The count of the rows in the block that starts at s, 0 if it is bad or a word behind the rows is not 0; the rows lie in the file.
 pub fn rows_in(p: Description, f: &[u32], most: usize, stride: usize, s: usize) -> usize
     requires { ⌜ (1 + most * stride ≤ p .wpb) × (s + p .wpb ≤ length (now f)) ⌝ }
-    ensures { λ r. ⌜ (rowsIn p (was f) most stride s ≡ counted r) × (r ≤ most) ⌝ }
+    ensures { λ r. ⌜ (rowsIn p (was f) most stride s ≡ counted r) × (s + (1 + r * stride) ≤ length (was f)) ⌝ }
 {
     let wpb = p.wpb;
     let n = words::word_at(f, s);

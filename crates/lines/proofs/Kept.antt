@@ -16,15 +16,15 @@ use Rattle.lines.specs.Promise.{Took, toLineFeed, read, took}
 use Rattle.lines.proofs.Letters.{letterWith, letter-is, restWith, stores, rested-is}
 
 -- t has the lent words of s, changed or not, and where the name fits s it fits t
-pub record Keeps (s t : Read) : Type 0 where
+pub record KeepsRead (s t : Read) : Type 0 where
   pub names : length (t .name) ≡ length (s .name)
   pub values : length (t .numbers) ≡ length (s .numbers)
   pub fits : s .reading .spelled ≤ length (s .name) → t .reading .spelled ≤ length (t .name)
 
-keeps-self : (s : Read) → Keeps s s
+keeps-self : (s : Read) → KeepsRead s s
 keeps-self s = record { names = refl; values = refl; fits = λ h. h }
 
-keeps-on : (s t u : Read) → Keeps s t → Keeps t u → Keeps s u
+keeps-on : (s t u : Read) → KeepsRead s t → KeepsRead t u → KeepsRead s u
 keeps-on s t u a b = record { names = b .names ∙ a .names; values = b .values ∙ a .values; fits = λ h. b .fits (a .fits h) }
 
 -- a byte is kept only where there is room for it
@@ -34,10 +34,10 @@ spells-room r name e =
     let h = and-both (eqb (r .others) 0) (eqb (r .numbers) 0 && ltb (r .spelled) (length name)) e in
     ltb-true (r .spelled) (length name) (and-both (eqb (r .numbers) 0) (ltb (r .spelled) (length name)) (h .1) .1)
 
-pub letter-keeps : (s : Read) (b : ℕ) → Keeps s (letter s b)
-letter-keeps s b = subst (Keeps s) (sym (letter-is s b)) (go (spells (s .reading) (s .name)) refl)
+pub letter-keeps : (s : Read) (b : ℕ) → KeepsRead s (letter s b)
+letter-keeps s b = subst (KeepsRead s) (sym (letter-is s b)) (go (spells (s .reading) (s .name)) refl)
   where
-    go : (t : Bool) → spells (s .reading) (s .name) ≡ t → Keeps s (letterWith t s b)
+    go : (t : Bool) → spells (s .reading) (s .name) ≡ t → KeepsRead s (letterWith t s b)
     go true e = record {
       names = length-set (s .name) (s .reading .spelled) b;
       values = refl;
@@ -45,40 +45,40 @@ letter-keeps s b = subst (Keeps s) (sym (letter-is s b)) (go (spells (s .reading
     }
     go false e = record { names = refl; values = refl; fits = λ h. h }
 
-pub rested-keeps : (s : Read) → Keeps s (rested s)
+pub rested-keeps : (s : Read) → KeepsRead s (rested s)
 unfolding resting
-rested-keeps s = subst (Keeps s) (sym (rested-is s)) (go (s .reading .inside) (stores s))
+rested-keeps s = subst (KeepsRead s) (sym (rested-is s)) (go (s .reading .inside) (stores s))
   where
-    go : (i t : Bool) → Keeps s (restWith i t s)
+    go : (i t : Bool) → KeepsRead s (restWith i t s)
     go true true = record { names = refl; values = length-set (s .numbers) (s .reading .numbers) (s .reading .value); fits = λ h. h }
     go true false = record { names = refl; values = refl; fits = λ h. h }
     go false t = record { names = refl; values = refl; fits = λ h. h }
 
-pub step-keeps : (s : Read) (b : ℕ) → Keeps s (step s b)
+pub step-keeps : (s : Read) (b : ℕ) → KeepsRead s (step s b)
 unfolding step
 step-keeps s b = go (isBlank b)
   where
-    go : (t : Bool) → Keeps s (cond t (rested s) (letter s b))
+    go : (t : Bool) → KeepsRead s (cond t (rested s) (letter s b))
     go true = rested-keeps s
     go false = letter-keeps s b
 
-pub steps-keep : (s : Read) (l : List ℕ) → Keeps s (steps s l)
+pub steps-keep : (s : Read) (l : List ℕ) → KeepsRead s (steps s l)
 unfolding steps
 steps-keep s [] = keeps-self s
 steps-keep s (b ∷ l) = keeps-on s (step s b) (steps (step s b) l) (step-keeps s b) (steps-keep (step s b) l)
 
-pub line-keeps : (s : Read) (l : List ℕ) → Keeps s (readLine s l)
+pub line-keeps : (s : Read) (l : List ℕ) → KeepsRead s (readLine s l)
 unfolding readLine
 line-keeps s l = keeps-on s (steps s l) (rested (steps s l)) (steps-keep s l) (rested-keeps (steps s l))
 
-pub part-keeps : (s : Read) (at : ℕ) (l : List ℕ) → Keeps s (toLineFeed s at l .kept)
+pub part-keeps : (s : Read) (at : ℕ) (l : List ℕ) → KeepsRead s (toLineFeed s at l .kept)
 unfolding toLineFeed
 part-keeps s at [] = keeps-self s
 part-keeps s at (b ∷ l) = go (isLineFeed b) (part-keeps (step s b) (suc at) l)
   where
     go : (t : Bool)
-        → Keeps (step s b) (toLineFeed (step s b) (suc at) l .kept)
-        → Keeps s (cond t (record { kept = rested s; at = suc at; ended = true }) (toLineFeed (step s b) (suc at) l) .kept)
+        → KeepsRead (step s b) (toLineFeed (step s b) (suc at) l .kept)
+        → KeepsRead s (cond t (record { kept = rested s; at = suc at; ended = true }) (toLineFeed (step s b) (suc at) l) .kept)
     go true r = rested-keeps s
     go false r = keeps-on s (step s b) (toLineFeed (step s b) (suc at) l .kept) (step-keeps s b) r
 

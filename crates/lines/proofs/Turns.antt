@@ -1,9 +1,9 @@
 -- The loops' turns: reading up to a line feed, and comparing a name; and the names one after the other.
 use Prim.Native.Nat.{ℕ, suc, _+_, _-_, _≤_, _<_}
-use mathlib.Core.Bool.{true, false, and-false}
+use mathlib.Core.Bool.{Bool, true, false, and-false}
 use mathlib.Core.Path.{_≡_, sym, ap, _∙_}
 use mathlib.Core.List.{List, _∷_}
-use mathlib.Core.Option.{none, some}
+use mathlib.Core.Option.{Option, none, some}
 use native.Mathlib.Numerals.{add-one}
 use native.Mathlib.Omega.{arith}
 use lib.Dec.{eqb}
@@ -20,7 +20,9 @@ use Rattle.texts.specs.Results.{spelling}
 use Rattle.lines.specs.declared.Reading.{Reading}
 use Rattle.lines.specs.Lines.{isLineFeed, namedIn, named, carries, described}
 use Rattle.lines.specs.Reading.{Read, rested, step, callIn, callOf, parametersIn}
-use Rattle.lines.specs.Promise.{toLineFeed}
+use Rattle.lines.specs.declared.Named as code
+use Rattle.lines.specs.declared.Named.the-variants.{Nothing, Kind}
+use Rattle.lines.specs.Promise.{namedAs, toLineFeed}
 
 -- reading up to a line feed, from byte `at` on
 module _ (s : Read) (at : ℕ) (bytes : List ℕ) where
@@ -78,27 +80,60 @@ module _ (c : Call) (cs : List Call) (w : List ℕ) where
   unfolding namedIn
   named-later h = rw h
 
--- the call that a line is, where its first word names c
-pub call-nothing : (p : Description) (r : Reading) (name : List ℕ) → none ≡ named (part 0 (r .spelled) name) → none ≡ callOf p r name
-unfolding callOf callIn
-call-nothing p r name e = ap (callIn p r) e
+-- the first of three names, the second, the third, or one of the rest
+module _ (w : List ℕ) (c₁ c₂ c₃ : Call) (rest : List Call) (m : Option Call) (t₁ : Bool) (e₁ : t₁ ≡ sameKey w (spelling c₁)) where
+  pub first-of : m ≡ some c₁ → t₁ ≡ true → m ≡ namedIn (c₁ ∷ c₂ ∷ c₃ ∷ rest) w
+  first-of em h = em ∙ sym (named-first c₁ _ w (sym e₁ ∙ h))
 
-module _ (p : Description) (r : Reading) (name : List ℕ) (c : Call) (e : some c ≡ named (part 0 (r .spelled) name)) where
-  call-in : callIn p r (some c) ≡ callOf p r name
+  module _ (t₂ : Bool) (e₂ : t₂ ≡ sameKey w (spelling c₂)) (f₁ : t₁ ≡ false) where
+    later₁ : namedIn (c₁ ∷ c₂ ∷ c₃ ∷ rest) w ≡ namedIn (c₂ ∷ c₃ ∷ rest) w
+    later₁ = named-later c₁ _ w (sym e₁ ∙ f₁)
+
+    pub second-of : m ≡ some c₂ → t₂ ≡ true → m ≡ namedIn (c₁ ∷ c₂ ∷ c₃ ∷ rest) w
+    second-of em h = em ∙ sym (later₁ ∙ named-first c₂ _ w (sym e₂ ∙ h))
+
+    module _ (t₃ : Bool) (e₃ : t₃ ≡ sameKey w (spelling c₃)) (f₂ : t₂ ≡ false) where
+      later₂ : namedIn (c₁ ∷ c₂ ∷ c₃ ∷ rest) w ≡ namedIn (c₃ ∷ rest) w
+      later₂ = later₁ ∙ named-later c₂ _ w (sym e₂ ∙ f₂)
+
+      pub third-of : m ≡ some c₃ → t₃ ≡ true → m ≡ namedIn (c₁ ∷ c₂ ∷ c₃ ∷ rest) w
+      third-of em h = em ∙ sym (later₂ ∙ named-first c₃ _ w (sym e₃ ∙ h))
+
+      pub rest-of : m ≡ namedIn rest w → t₃ ≡ false → m ≡ namedIn (c₁ ∷ c₂ ∷ c₃ ∷ rest) w
+      rest-of em h = em ∙ sym (later₂ ∙ named-later c₃ _ w (sym e₃ ∙ h))
+
+-- the call that a line is: k what its first word names
+module _ (p : Description) (r : Reading) (name : List ℕ) (k : code.Named) (e : namedAs k ≡ named (part 0 (r .spelled) name)) where
+  call-in : callIn p r (namedAs k) ≡ callOf p r name
   unfolding callOf
   call-in = ap (callIn p r) e
 
-  pub call-others : (r .others ≡ 1 → ⊥) → none ≡ callOf p r name
+  pub call-nothing : k ≡ Nothing → none ≡ callOf p r name
   unfolding callIn
-  call-others h = (rw (ne-eqb _ _ h)) ∙ call-in
+  call-nothing ek = rw ek at call-in
 
-  pub call-numbers : (r .numbers ≡ carries p c → ⊥) → none ≡ callOf p r name
-  unfolding callIn
-  call-numbers h = (rw (ne-eqb _ _ h, and-false (eqb (r .others) 1))) ∙ call-in
+  module _ (c : Call) (ek : k ≡ Kind c) where
+    call-as : callIn p r (some c) ≡ callOf p r name
+    call-as = rw ek at call-in
 
-  pub call-whole : r .others ≡ 1 → r .numbers ≡ carries p c → some c ≡ callOf p r name
-  unfolding callIn
-  call-whole h k = (rw (eq-eqb _ _ h, eq-eqb _ _ k)) ∙ call-in
+    pub call-others : (r .others ≡ 1 → ⊥) → none ≡ callOf p r name
+    unfolding callIn
+    call-others h = (rw (ne-eqb _ _ h)) ∙ call-as
+
+    module _ (n : ℕ) (en : n ≡ carries p c) where
+      pub call-numbers : (r .numbers ≡ n → ⊥) → none ≡ callOf p r name
+      unfolding callIn
+      call-numbers h = (rw (ne-eqb _ _ (λ (q : r .numbers ≡ carries p c). h (q ∙ sym en)), and-false (eqb (r .others) 1))) ∙ call-as
+
+      pub call-whole : r .others ≡ 1 → r .numbers ≡ n → some c ≡ callOf p r name
+      unfolding callIn
+      call-whole h q = (rw (eq-eqb _ _ h, eq-eqb _ _ (q ∙ en))) ∙ call-as
+
+-- six numbers read one by one, each step handing the description on
+pub described-by : (v : List ℕ) (p : Description) (a b c d e f : ℕ) → p ≡ record { wpb = a; wpr = b; k = c; space = d; control = e; n = f }
+    → a ≡ getD v 0 0 → b ≡ getD v 1 0 → c ≡ getD v 2 0 → d ≡ getD v 3 0 → e ≡ getD v 4 0 → f ≡ getD v 5 0 → p ≡ described v
+unfolding described
+described-by v p a b c d e f h g₀ g₁ g₂ g₃ g₄ g₅ = h ∙ (λ j. record { wpb = g₀ j; wpr = g₁ j; k = g₂ j; space = g₃ j; control = g₄ j; n = g₅ j })
 
 -- the parameters that a line gives
 module _ (r : Reading) (numbers : List ℕ) where

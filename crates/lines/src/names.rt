@@ -7,10 +7,10 @@ use rules::Call;
 ghost use mathlib.Core.Path.{_≡_};
 ghost use mathlib.Core.Option.{some};
 ghost use Prim.Native.Nat.{_≤_};
-ghost use lib.ListN.{length};
+ghost use lib.ListN.{length, drop};
 ghost use Rattle.words.specs.Words.{part};
 ghost use Rattle.words.specs.Keys.{sameKey};
-ghost use Rattle.lines.specs.Lines.{named, carries as carried};
+ghost use Rattle.lines.specs.Lines.{kinds, namedIn, named, described, carries as carried};
 ghost use Rattle.lines.specs.Reading.{callOf, parametersIn};
 ghost use Rattle.lines.specs.Promise.{namedAs, givenAs};
 ghost use Rattle.words.specs.Slices.{was};
@@ -40,7 +40,7 @@ fn kind(call: Call) -> Named
     Named::Kind { call }
 }
 
-// The call that the first n bytes of `name` name.
+// The call that the first n bytes of `name` name: the names are tried in their order, three by three.
 fn call_spelled(name: &[u8], n: usize) -> Named
     requires { ⌜ n ≤ length (now name) ⌝ }
     ensures { λ r. ⌜ namedAs r ≡ named (part 0 n (was name)) ⌝ }
@@ -54,6 +54,14 @@ fn call_spelled(name: &[u8], n: usize) -> Named
     if is_name(name, n, b"CLOSE") {
         return kind(Call::Close);
     }
+    next_spelled(name, n)
+}
+
+// The same, of the names after the third.
+fn next_spelled(name: &[u8], n: usize) -> Named
+    requires { ⌜ n ≤ length (now name) ⌝ }
+    ensures { λ r. ⌜ namedAs r ≡ namedIn (drop 3 kinds) (part 0 n (was name)) ⌝ }
+{
     if is_name(name, n, b"SEEK") {
         return kind(Call::Seek { at: 0 });
     }
@@ -63,6 +71,14 @@ fn call_spelled(name: &[u8], n: usize) -> Named
     if is_name(name, n, b"NSERT") {
         return kind(Call::Nsert { at: 0 });
     }
+    last_spelled(name, n)
+}
+
+// The same, of the names after the sixth.
+fn last_spelled(name: &[u8], n: usize) -> Named
+    requires { ⌜ n ≤ length (now name) ⌝ }
+    ensures { λ r. ⌜ namedAs r ≡ namedIn (drop 6 kinds) (part 0 n (was name)) ⌝ }
+{
     if is_name(name, n, b"DLETE") {
         return kind(Call::Dlete { at: 0 });
     }
@@ -121,6 +137,26 @@ pub fn call_of(p: Description, r: Reading, name: &[u8]) -> Named
     }
 }
 
+// The description that the first six numbers are.
+fn set_up(numbers: &[u32]) -> Description
+    requires { ⌜ 6 ≤ length (now numbers) ⌝ }
+    ensures { λ r. ⌜ r ≡ described (was numbers) ⌝ }
+{
+    let wpb = words::word_at(numbers, 0);
+    let wpr = words::word_at(numbers, 1);
+    let k = words::word_at(numbers, 2);
+    let space = words::word_at(numbers, 3);
+    let control = words::word_at(numbers, 4);
+    let n = words::word_at(numbers, 5);
+    Description::new()
+        .with_wpb(wpb)
+        .with_wpr(wpr)
+        .with_k(k)
+        .with_space(space)
+        .with_control(control)
+        .with_n(n)
+}
+
 // The parameters that a first line gives, of what was kept of it.
 pub fn parameters_of(r: Reading, numbers: &[u32]) -> Parameters
     requires { ⌜ 6 ≤ length (now numbers) ⌝ }
@@ -132,13 +168,5 @@ pub fn parameters_of(r: Reading, numbers: &[u32]) -> Parameters
     if r.numbers != 6 {
         return Parameters::Nothing;
     }
-    let p = Description {
-        wpb: words::word_at(numbers, 0),
-        wpr: words::word_at(numbers, 1),
-        k: words::word_at(numbers, 2),
-        space: words::word_at(numbers, 3),
-        control: words::word_at(numbers, 4),
-        n: words::word_at(numbers, 5),
-    };
-    Parameters::Given { p }
+    Parameters::Given { p: set_up(numbers) }
 }

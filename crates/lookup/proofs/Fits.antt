@@ -15,12 +15,10 @@ use Rattle.drum.specs.declared.Description.{Description}
 use Rattle.drum.specs.Params.{D, detailShape}
 use Rattle.drum.specs.Blocks.{Texts, seen}
 use Rattle.rules.specs.declared.Which.the-variants.{First, Last, Place}
-use Rattle.rules.specs.declared.Way.{Way}
-use Rattle.rules.specs.declared.Way.the-variants.{Here, By}
 use Rattle.rules.specs.declared.Look.{Look}
 use Rattle.rules.specs.declared.Look.the-variants.{Bad, Found, Missing}
 use Rattle.rules.specs.Paths.{entryOf, pathUnder, pathBy}
-use Rattle.rules.specs.Lookup.{onBuffer, look, bringing, reached, textAt}
+use Rattle.rules.specs.Lookup.{onBuffer, look}
 use Rattle.rules.specs.Fits.{BufferFits, LookFits}
 use Rattle.rules.proofs.Fits.{tested-fits, look-passed}
 use Rattle.lookup.specs.Answers.{asLook}
@@ -60,7 +58,8 @@ module _ (v : Texts) (test : Bool) where
   unfolding onBuffer
   test-and = go (eqb (v .current) 0) (within 1 (v .desc .n) (v .current)) (within 1 (D (v .desc)) (count (v .buffer)))
     where
-      go : (t : Bool) (m n : Checked ℕ) → cond t (passed false) (m >> (n >> passed test)) ≡ (cond t (passed false) (m >> (n >> passed true)) >>= (λ here. passed (here && test)))
+      go : (t : Bool) (m n : Checked ℕ)
+          → cond t (passed false) (m >> (n >> passed test)) ≡ (cond t (passed false) (m >> (n >> passed true)) >>= (λ here. passed (here && test)))
       go true m n = refl
       go false (refused x) n = refl
       go false (passed x) (refused y) = refl
@@ -81,9 +80,3 @@ pub detail-found : (p : Description) (h : Shape) (w : Want) (key t : List ℕ) (
     → i ≡ firstWhere (fits w h (part 0 (h .width) key) t) n → i ≡ firstWhere (fits w (detailShape p) (part 0 (p .k) key) t) n
 unfolding detailShape
 detail-found p h w key t n i e f = f ∙ ap (λ (x : Shape). firstWhere (fits w x (part 0 (x .width) key) t) n) e
-
--- the text that a way brings to the buffer
-pub text-at : (v : Texts) (flag : Bool) (way : Way) → reached v flag way .buffer ≡ textAt v way
-unfolding reached bringing
-text-at v flag Here = refl
-text-at v flag (By w) = refl

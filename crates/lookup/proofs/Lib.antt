@@ -1,1 +1,5 @@
 pub mod Fits
+pub mod Sizes
+pub mod Entries
+pub mod Ways
+pub mod Looks

@@ -2,6 +2,7 @@
 // texts; the places come back beside the block numbers.
 use drum::Description;
 use rules::Entry;
+use rules::Held;
 use rules::Look;
 use rules::Path;
 use rules::Way;
@@ -11,15 +12,16 @@ use table::Want;
 ghost use mathlib.Core.Path.{_≡_};
 ghost use mathlib.Core.Bool.{true};
 ghost use mathlib.Core.List.{[]};
-ghost use Prim.Native.Nat.{_+_, _*_, _≤_, _<_};
+ghost use Prim.Native.Nat.{_+_, _≤_, _<_};
 ghost use lib.ListN.{length};
 ghost use Rattle.numbers.specs.Checked.{passed};
 ghost use Rattle.words.specs.Words.{part};
-ghost use Rattle.table.specs.Tables.{count, place};
+ghost use Rattle.table.specs.Tables.{place, blockIn};
 ghost use Rattle.drum.specs.Blocks.{Fitting, Block, seen, atEntry};
 ghost use Rattle.rules.specs.Paths.{chosen, entryOf, pathAt, pathUnder, pathBy};
 ghost use Rattle.rules.specs.Lookup.{onBuffer, flushOk, lookAt, lookOutside, look as looked};
 ghost use Rattle.lookup.specs.Answers.{asPick, asRoute, asTest, asLook};
+ghost use Rattle.lookup.specs.Tables.{Entries, CountedRows};
 ghost use Rattle.rules.specs.Fits.{PathFits, BufferFits};
 ghost use Rattle.words.specs.Slices.{was};
 
@@ -41,13 +43,7 @@ pub enum Test {
 
 // The place that is wanted in a table of n rows.
 fn place_of(which: Which, h: Shape, t: &[u32], n: usize, key: &[u32]) -> usize
-    requires { ⌜
-        (n ≡ count (now t))
-        × (1 ≤ n)
-        × (place h n ≤ length (now t))
-        × (h .width ≤ h .stride)
-        × (h .width ≤ length (now key))
-        ⌝ }
+    requires { ⌜ CountedRows h (now t) n (now key) ⌝ }
     ensures { λ r. ⌜ r ≡ chosen which h (part 0 (h .width) (was key)) (was t) ⌝ }
 {
     match which {
@@ -58,15 +54,17 @@ fn place_of(which: Which, h: Shape, t: &[u32], n: usize, key: &[u32]) -> usize
     }
 }
 
+// The block that row i, an entry, names.
+fn block_in(h: Shape, t: &[u32], i: usize) -> usize
+    requires { ⌜ place h i + h .width < length (now t) ⌝ }
+    ensures { λ r. ⌜ r ≡ blockIn h (was t) i ⌝ }
+{
+    words::word_at(t, h.base + i * h.stride + h.width)
+}
+
 // The entry that is wanted, of the master or of an index block.
 pub fn entry_of(p: Description, h: Shape, most: usize, which: Which, t: &[u32], key: &[u32]) -> Pick
-    requires { ⌜
-        (1 ≤ h .base)
-        × (h .width ≡ p .k)
-        × (h .stride ≡ p .k + 1)
-        × (place h most ≤ length (now t))
-        × (p .k ≤ length (now key))
-        ⌝ }
+    requires { ⌜ Entries p h most (now t) (now key) ⌝ }
     ensures { λ r. ⌜ asPick r ≡ entryOf p h most which (part 0 (p .k) (was key)) (was t) ⌝ }
 {
     let n = words::word_at(t, 0);
@@ -80,7 +78,7 @@ pub fn entry_of(p: Description, h: Shape, most: usize, which: Which, t: &[u32], 
     if n <= i {
         return Pick::Bad;
     }
-    let b = words::word_at(t, h.base + i * h.stride + h.width);
+    let b = block_in(h, t, i);
     if b < 1 {
         return Pick::Bad;
     }
@@ -125,17 +123,20 @@ fn path_at<'a>(
 
 // The way by master entry m and the entry of its index block that is wanted.
 fn path_under<'a>(
-    p: Description,
-    current: usize,
+    at: Held,
     file: &'a [u32],
     buffer: &'a [u32],
     which: Which,
     key: &[u32],
     m: Entry,
 ) -> Route
-    requires { ⌜ Fitting p (now file) (now buffer) × (p .k ≤ length (now key)) × Block p (m .block) ⌝ }
-    ensures { λ r. ⌜ asRoute r ≡ pathUnder (atEntry p current file buffer) which (part 0 (p .k) (was key)) m ⌝ }
+    requires { ⌜ Fitting (at .desc) (now file) (now buffer) × (at .desc .k ≤ length (now key)) × Block (at .desc) (m .block) ⌝ }
+    ensures { λ r. ⌜
+        asRoute r ≡ pathUnder (atEntry (at .desc) (at .current) file buffer) which (part 0 (at .desc .k) (was key)) m
+        ⌝ }
 {
+    let p = at.desc;
+    let current = at.current;
     let index = m.block;
     let h = p.index_shape();
     let t = drum::text_of(p, current, file, buffer, index);
@@ -148,22 +149,24 @@ fn path_under<'a>(
 
 // The way by the master's entry that is wanted, and its index block's.
 pub fn path_by<'a>(
-    p: Description,
-    current: usize,
+    at: Held,
     file: &'a [u32],
     buffer: &'a [u32],
     top: Which,
     which: Which,
     key: &[u32],
 ) -> Route
-    requires { ⌜ Fitting p (now file) (now buffer) × (p .k ≤ length (now key)) ⌝ }
-    ensures { λ r. ⌜ asRoute r ≡ pathBy (atEntry p current file buffer) top which (part 0 (p .k) (was key)) ⌝ }
+    requires { ⌜ Fitting (at .desc) (now file) (now buffer) × (at .desc .k ≤ length (now key)) ⌝ }
+    ensures { λ r. ⌜
+        asRoute r ≡ pathBy (atEntry (at .desc) (at .current) file buffer) top which (part 0 (at .desc .k) (was key))
+        ⌝ }
 {
+    let p = at.desc;
     let h = p.master_shape();
     let found = entry_of(p, h, p.control, top, file, key);
     match found {
         Pick::Bad => Route::Bad,
-        Pick::At(m) => path_under(p, current, file, buffer, which, key, m),
+        Pick::At(m) => path_under(at, file, buffer, which, key, m),
     }
 }
 
@@ -238,15 +241,12 @@ fn look_outside<'a>(
     requires { ⌜ Fitting p (now file) (now buffer) × (p .k ≤ length (now key)) ⌝ }
     ensures { λ r. ⌜ asLook r ≡ lookOutside (atEntry p current file buffer) flag (part 0 (p .k) (was key)) ⌝ }
 {
-    let route = path_by(
-        p,
+    let at = Held {
+        desc: p,
         current,
-        file,
-        buffer,
-        Which::Covering,
-        Which::Covering,
-        key,
-    );
+        flag,
+    };
+    let route = path_by(at, file, buffer, Which::Covering, Which::Covering, key);
     match route {
         Route::Bad => Look::Bad,
         Route::To(w) => {

@@ -31,7 +31,8 @@ module _ (t : List ℕ) (p : ℕ) (key : List ℕ) (at m : ℕ) where
   word-equal d = eqb-true _ _ (not-false (eqb (getD t (p + m) 0) (getD key (at + m) 0)) d)
 
 -- one word that differs rules the row out
-pub other-word : (t : List ℕ) (p : ℕ) (key : List ℕ) (at width m : ℕ) → m < width → (getD t (p + m) 0 ≡ getD key (at + m) 0 → ⊥) → sameKey (part p width t) (part at width key) ≡ false
+pub other-word : (t : List ℕ) (p : ℕ) (key : List ℕ) (at width m : ℕ) → m < width → (getD t (p + m) 0 ≡ getD key (at + m) 0 → ⊥)
+    → sameKey (part p width t) (part at width key) ≡ false
 other-word t p key at width m h n =
     sameKey-ne _ _ (λ e. n (sym (getD-part p width m t h) ∙ ap (λ (l : List ℕ). getD l m 0) e ∙ getD-part at width m key h))
 

@@ -124,7 +124,8 @@ module _ (h : Shape) (i : ℕ) (t : List ℕ) where
   part-renamed x b n g = ap (take n) (drop-renamed x b g)
 
 -- an entry that becomes two
-module _ (h : Shape) (i : ℕ) (r : List ℕ) (x : ℕ) (t : List ℕ) (hb : 1 ≤ h .base) (hw : h .width < h .stride) (hi : i ≤ count t) (hr : length r ≡ h .stride) (room : place h (count t) + h .stride ≤ length t) where
+module _ (h : Shape) (i : ℕ) (r : List ℕ) (x : ℕ) (t : List ℕ) (hb : 1 ≤ h .base) (hw : h .width < h .stride) (hi : i ≤ count t) (hr : length r ≡ h .stride)
+    (room : place h (count t) + h .stride ≤ length t) where
   named : List ℕ
   named = renamed h i x t
 

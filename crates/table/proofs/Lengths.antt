@@ -53,7 +53,8 @@ module _ (h : Shape) (i : ℕ) (t : List ℕ) where
   unfolding renamed
   count-renamed b hb = getD-set-other t (place h i + h .width) 0 b 0 (λ e. omega arith)
 
-pub length-entered : (h : Shape) (i : ℕ) (t r : List ℕ) (b : ℕ) → 1 ≤ h .base → i ≤ count t → length r ≡ h .stride → place h (count t) + h .stride ≤ length t → length (entered h i r b t) ≡ length t
+pub length-entered : (h : Shape) (i : ℕ) (t r : List ℕ) (b : ℕ) → 1 ≤ h .base → i ≤ count t → length r ≡ h .stride → place h (count t) + h .stride ≤ length t
+    → length (entered h i r b t) ≡ length t
 unfolding entered
 length-entered h i t r b hb hi hr room =
     let c : count (renamed h i b t) ≡ count t = count-renamed h i t b hb in

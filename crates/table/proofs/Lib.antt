@@ -2,6 +2,7 @@ pub mod Places
 pub mod Searches
 pub mod Differs
 pub mod Moves
+pub mod Turns
 pub mod Lists
 pub mod Rows
 pub mod RowSearch

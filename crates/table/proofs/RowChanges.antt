@@ -96,8 +96,10 @@ module _ (h : Shape) (rest : List ℕ) (eb : h .base ≡ suc (length rest)) (bs 
       ∙ set-count n m rest (bs ++ cs) (zeros (h .stride) ++ pad))
 
 -- an entry becomes two: r, and after it the entry's key with another block
-pub entered-encode : (h : Shape) (rest : List ℕ) → h .base ≡ suc (length rest) → h .stride ≡ h .width + 1 → (bs cs : List (List ℕ)) → Each (h .stride) bs → Each (h .stride) cs
-    → (n m : ℕ) (k : List ℕ) (old new : ℕ) (r room pad : List ℕ) → n ≡ length (bs ++ ((k ++ (old ∷ [])) ∷ cs)) → m ≡ length (bs ++ (r ∷ ((k ++ (new ∷ [])) ∷ cs))) → length k ≡ h .width → length r ≡ h .stride → length room ≡ h .stride
+pub entered-encode : (h : Shape) (rest : List ℕ) → h .base ≡ suc (length rest) → h .stride ≡ h .width + 1 → (bs cs : List (List ℕ)) → Each (h .stride) bs
+    → Each (h .stride) cs
+    → (n m : ℕ) (k : List ℕ) (old new : ℕ) (r room pad : List ℕ) → n ≡ length (bs ++ ((k ++ (old ∷ [])) ∷ cs))
+    → m ≡ length (bs ++ (r ∷ ((k ++ (new ∷ [])) ∷ cs))) → length k ≡ h .width → length r ≡ h .stride → length room ≡ h .stride
     → entered h (length bs) r new (encode (n ∷ rest) (bs ++ ((k ++ (old ∷ [])) ∷ cs)) (room ++ pad)) ≡ encode (m ∷ rest) (bs ++ (r ∷ ((k ++ (new ∷ [])) ∷ cs))) pad
 unfolding entered
 entered-encode h rest eb es bs cs hb hc n m k old new r room pad en em ek hr ho =

@@ -56,12 +56,14 @@ module _ {A : Type 0} where
   firstIn-same p q (x ∷ xs) h = rw (h .0, firstIn-same p q xs (h .1))
 
   -- a search by number that tests the elements is the search over them
-  pub firstWhere-firstIn : (d : A) (test : ℕ → Bool) (p : A → Bool) (l : List A) → ((i : ℕ) → i < length l → test i ≡ p (getD l i d)) → firstWhere test (length l) ≡ firstIn p l
+  pub firstWhere-firstIn : (d : A) (test : ℕ → Bool) (p : A → Bool) (l : List A) → ((i : ℕ) → i < length l → test i ≡ p (getD l i d))
+      → firstWhere test (length l) ≡ firstIn p l
   unfolding firstWhere firstIn
   firstWhere-firstIn d test p [] h = refl
   firstWhere-firstIn d test p (x ∷ xs) h = go (p x) (h 0 (omega arith)) (firstWhere-firstIn d (λ i. test (suc i)) p xs (λ i k. h (suc i) (omega arith)))
     where
-      go : (t : Bool) → test 0 ≡ t → firstWhere (λ i. test (suc i)) (length xs) ≡ firstIn p xs → firstWhere test (suc (length xs)) ≡ cond t 0 (suc (firstIn p xs))
+      go : (t : Bool) → test 0 ≡ t → firstWhere (λ i. test (suc i)) (length xs) ≡ firstIn p xs
+          → firstWhere test (suc (length xs)) ≡ cond t 0 (suc (firstIn p xs))
       go true e r = rw (e, firstWhere)
       go false e r = rw (e, firstWhere) (ap suc r)
 
@@ -74,14 +76,16 @@ firstIn-map g q (x ∷ xs) = rw (firstIn-map g q xs)
 abbrev pub wants : Want → ℕ → List ℕ → List ℕ → Bool
 wants w width key r = wanted w key (take width r)
 
-pub search-encode : (w : Want) (h : Shape) (front : List ℕ) → h .base ≡ length front → h .width ≤ h .stride → (key : List ℕ) (rows : List (List ℕ)) → Each (h .stride) rows → (pad : List ℕ)
+pub search-encode : (w : Want) (h : Shape) (front : List ℕ) → h .base ≡ length front → h .width ≤ h .stride → (key : List ℕ) (rows : List (List ℕ))
+    → Each (h .stride) rows → (pad : List ℕ)
     → firstWhere (fits w h key (encode front rows pad)) (length rows) ≡ firstIn (wants w (h .width) key) rows
 unfolding fits
 search-encode w h front eb kw key rows e pad =
     firstWhere-firstIn [] (fits w h key (encode front rows pad)) (wants w (h .width) key) rows (λ i hi. ap (wanted w key) (key-at h front eb rows e pad i hi kw))
 
 -- the three searches of a table with its count
-module _ (h : Shape) (rest : List ℕ) (eb : h .base ≡ suc (length rest)) (kw : h .width ≤ h .stride) (key : List ℕ) (n : ℕ) (rows : List (List ℕ)) (en : n ≡ length rows) (e : Each (h .stride) rows) (pad : List ℕ) where
+module _ (h : Shape) (rest : List ℕ) (eb : h .base ≡ suc (length rest)) (kw : h .width ≤ h .stride) (key : List ℕ) (n : ℕ) (rows : List (List ℕ))
+    (en : n ≡ length rows) (e : Each (h .stride) rows) (pad : List ℕ) where
   counted : (w : Want) → firstWhere (fits w h key (encode (n ∷ rest) rows pad)) (count (encode (n ∷ rest) rows pad)) ≡ firstIn (wants w (h .width) key) rows
   counted w =
       ap (firstWhere (fits w h key (encode (n ∷ rest) rows pad))) (count-encode n rest rows pad ∙ en)

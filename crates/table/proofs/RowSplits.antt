@@ -12,7 +12,8 @@ use Rattle.table.proofs.Lists.{all-append, all-left, all-right}
 use Rattle.table.proofs.Rows.{Each, cat-append, length-cat, take-cat, drop-cat, part-at}
 use Rattle.table.proofs.RowTexts.{behind, table-encode, table-laid, table-key}
 
-module _ (h : Shape) (front : List ℕ) (eb : h .base ≡ length front) (bs cs : List (List ℕ)) (hb : Each (h .stride) bs) (hc : Each (h .stride) cs) (pad : List ℕ) where
+module _ (h : Shape) (front : List ℕ) (eb : h .base ≡ length front) (bs cs : List (List ℕ)) (hb : Each (h .stride) bs) (hc : Each (h .stride) cs)
+    (pad : List ℕ) where
   -- the words of all rows
   pub rows-encode : part (h .base) (length (bs ++ cs) * h .stride) (encode front (bs ++ cs) pad) ≡ cat (bs ++ cs)
   unfolding encode
@@ -23,7 +24,8 @@ module _ (h : Shape) (front : List ℕ) (eb : h .base ≡ length front) (bs cs :
   more-encode n r en =
       rw (en, rows-encode, take-cat (h .stride) bs cs hb, drop-cat (h .stride) bs cs hb, cat-append bs (r ∷ cs)) (append-assoc (cat bs) r (cat cs))
 
-  module _ (w n : ℕ) (r : List ℕ) (hr : length r ≡ h .stride) (en : n ≡ length (bs ++ cs)) (us vs : List (List ℕ)) (cut : bs ++ (r ∷ cs) ≡ us ++ vs) (low : length us ≡ lowCount n) where
+  module _ (w n : ℕ) (r : List ℕ) (hr : length r ≡ h .stride) (en : n ≡ length (bs ++ cs)) (us vs : List (List ℕ)) (cut : bs ++ (r ∷ cs) ≡ us ++ vs)
+      (low : length us ≡ lowCount n) where
     all : Each (h .stride) (us ++ vs)
     all = subst (Each (h .stride)) cut (all-append _ bs (r ∷ cs) hb (hr, hc))
 
@@ -50,7 +52,8 @@ module _ (h : Shape) (front : List ℕ) (eb : h .base ≡ length front) (bs cs :
     high-encode = rw (more, ← high-count, ← low, drop-cat (h .stride) us vs low-each) (table-laid w (length vs) vs refl)
 
 -- the bound of what stays is the key of its last row
-pub bound-table : (w : ℕ) (h : Shape) → h .base ≡ 1 → h .width ≤ h .stride → (n : ℕ) (xs : List (List ℕ)) (y : List ℕ) → Each (h .stride) xs → length y ≡ h .stride → suc (length xs) ≡ lowCount n
+pub bound-table : (w : ℕ) (h : Shape) → h .base ≡ 1 → h .width ≤ h .stride → (n : ℕ) (xs : List (List ℕ)) (y : List ℕ) → Each (h .stride) xs
+    → length y ≡ h .stride → suc (length xs) ≡ lowCount n
     → lowBound h n (table w (xs ++ (y ∷ []))) ≡ take (h .width) y
 unfolding lowBound
 bound-table w h one kw n xs y hx hy e =
@@ -58,7 +61,8 @@ bound-table w h one kw n xs y hx hy e =
     rw i (table-key w h one xs [] hx tt y hy kw)
 
 -- a full block split
-module _ (w : ℕ) (h : Shape) (one : h .base ≡ 1) (bs cs : List (List ℕ)) (hb : Each (h .stride) bs) (hc : Each (h .stride) cs) (r : List ℕ) (hr : length r ≡ h .stride)
+module _ (w : ℕ) (h : Shape) (one : h .base ≡ 1) (bs cs : List (List ℕ)) (hb : Each (h .stride) bs) (hc : Each (h .stride) cs)
+    (r : List ℕ) (hr : length r ≡ h .stride)
     (us vs : List (List ℕ)) (cut : bs ++ (r ∷ cs) ≡ us ++ vs) (low : length us ≡ lowCount (length (bs ++ cs))) where
   is : table w (bs ++ cs) ≡ encode (length (bs ++ cs) ∷ []) (bs ++ cs) (behind w (h .stride) (bs ++ cs))
   is = table-encode w (h .stride) (bs ++ cs) (all-append _ bs cs hb hc)

@@ -42,7 +42,8 @@ unfolding table laid
 count-table w rows = refl
 
 -- one row more takes its words from the 0 behind
-pub behind-one : (w s : ℕ) (bs cs : List (List ℕ)) (r : List ℕ) → 1 + length (bs ++ (r ∷ cs)) * s ≤ w → behind w s (bs ++ cs) ≡ zeros s ++ behind w s (bs ++ (r ∷ cs))
+pub behind-one : (w s : ℕ) (bs cs : List (List ℕ)) (r : List ℕ) → 1 + length (bs ++ (r ∷ cs)) * s ≤ w
+    → behind w s (bs ++ cs) ≡ zeros s ++ behind w s (bs ++ (r ∷ cs))
 unfolding behind
 behind-one w s bs cs r h =
     let n : length (bs ++ (r ∷ cs)) ≡ suc (length (bs ++ cs)) = omega (arith, length-append bs (r ∷ cs), length-append bs cs) in
@@ -66,7 +67,8 @@ module _ (w : ℕ) (h : Shape) (one : h .base ≡ 1) where
     table-above = ap (rowAbove h key) is ∙ above-encode h [] one kw key (length rows) rows refl e (behind w (h .stride) rows)
 
   module _ (bs cs : List (List ℕ)) (hb : Each (h .stride) bs) (hc : Each (h .stride) cs) where
-    with-row : (r : List ℕ) → length r ≡ h .stride → table w (bs ++ (r ∷ cs)) ≡ encode (length (bs ++ (r ∷ cs)) ∷ []) (bs ++ (r ∷ cs)) (behind w (h .stride) (bs ++ (r ∷ cs)))
+    with-row : (r : List ℕ) → length r ≡ h .stride
+        → table w (bs ++ (r ∷ cs)) ≡ encode (length (bs ++ (r ∷ cs)) ∷ []) (bs ++ (r ∷ cs)) (behind w (h .stride) (bs ++ (r ∷ cs)))
     with-row r hr = table-encode w (h .stride) (bs ++ (r ∷ cs)) (all-append _ bs (r ∷ cs) hb (hr, hc))
 
     -- the readers
@@ -100,19 +102,22 @@ module _ (w : ℕ) (h : Shape) (one : h .base ≡ 1) where
             ∙ sym less
 
     -- words written over a row, and an entry that names another block: rows of one count have one front and as many 0 behind
-    same : (r r′ : List ℕ) → length r′ ≡ h .stride → encode (length (bs ++ (r ∷ cs)) ∷ []) (bs ++ (r′ ∷ cs)) (behind w (h .stride) (bs ++ (r ∷ cs))) ≡ table w (bs ++ (r′ ∷ cs))
+    same : (r r′ : List ℕ) → length r′ ≡ h .stride
+        → encode (length (bs ++ (r ∷ cs)) ∷ []) (bs ++ (r′ ∷ cs)) (behind w (h .stride) (bs ++ (r ∷ cs))) ≡ table w (bs ++ (r′ ∷ cs))
     unfolding behind
     same r r′ hr′ =
         let n : length (bs ++ (r ∷ cs)) ≡ length (bs ++ (r′ ∷ cs)) = length-append bs (r ∷ cs) ∙ sym (length-append bs (r′ ∷ cs)) in
         ap (λ (k : ℕ). encode (k ∷ []) (bs ++ (r′ ∷ cs)) (zeros (w - 1 - k * h .stride))) n ∙ sym (with-row r′ hr′)
 
-    pub table-replace : (r r′ : List ℕ) → length r ≡ h .stride → length r′ ≡ h .stride → replaced h (length bs) r′ (table w (bs ++ (r ∷ cs))) ≡ table w (bs ++ (r′ ∷ cs))
+    pub table-replace : (r r′ : List ℕ) → length r ≡ h .stride → length r′ ≡ h .stride
+        → replaced h (length bs) r′ (table w (bs ++ (r ∷ cs))) ≡ table w (bs ++ (r′ ∷ cs))
     table-replace r r′ hr hr′ =
         ap (replaced h (length bs) r′) (with-row r hr)
         ∙ replaced-encode h (length (bs ++ (r ∷ cs)) ∷ []) one bs hb r r′ cs (behind w (h .stride) (bs ++ (r ∷ cs))) (hr ∙ sym hr′)
         ∙ same r r′ hr′
 
-    pub table-rekey : (k k′ d : List ℕ) → length k ≡ length k′ → length (k ++ d) ≡ h .stride → replaced h (length bs) k′ (table w (bs ++ ((k ++ d) ∷ cs))) ≡ table w (bs ++ ((k′ ++ d) ∷ cs))
+    pub table-rekey : (k k′ d : List ℕ) → length k ≡ length k′ → length (k ++ d) ≡ h .stride
+        → replaced h (length bs) k′ (table w (bs ++ ((k ++ d) ∷ cs))) ≡ table w (bs ++ ((k′ ++ d) ∷ cs))
     table-rekey k k′ d e hr =
         ap (replaced h (length bs) k′) (with-row (k ++ d) hr)
         ∙ rekeyed-encode h (length (bs ++ ((k ++ d) ∷ cs)) ∷ []) one bs hb k k′ d cs (behind w (h .stride) (bs ++ ((k ++ d) ∷ cs))) e
@@ -130,7 +135,8 @@ module _ (w : ℕ) (h : Shape) (one : h .base ≡ 1) where
           ∙ same (k ++ (old ∷ [])) (k ++ (new ∷ [])) (long new)
 
 -- an entry becomes two
-pub table-enter : (w : ℕ) (h : Shape) → h .base ≡ 1 → (bs cs : List (List ℕ)) → Each (h .stride) bs → Each (h .stride) cs → h .stride ≡ h .width + 1 → (k : List ℕ) → length k ≡ h .width
+pub table-enter : (w : ℕ) (h : Shape) → h .base ≡ 1 → (bs cs : List (List ℕ)) → Each (h .stride) bs → Each (h .stride) cs → h .stride ≡ h .width + 1
+    → (k : List ℕ) → length k ≡ h .width
     → (old new : ℕ) (r : List ℕ) → length r ≡ h .stride → 1 + length (bs ++ (r ∷ ((k ++ (new ∷ [])) ∷ cs))) * h .stride ≤ w
     → entered h (length bs) r new (table w (bs ++ ((k ++ (old ∷ [])) ∷ cs))) ≡ table w (bs ++ (r ∷ ((k ++ (new ∷ [])) ∷ cs)))
 unfolding entered

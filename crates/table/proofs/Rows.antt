@@ -57,11 +57,13 @@ pub encode-seam : (front : List ℕ) (bs cs : List (List ℕ)) (pad : List ℕ) 
 unfolding encode
 encode-seam front bs cs pad = simp (cat-append, append-assoc)
 
-pub encode-row : (front : List ℕ) (bs : List (List ℕ)) (r : List ℕ) (cs : List (List ℕ)) (pad : List ℕ) → encode front (bs ++ (r ∷ cs)) pad ≡ (front ++ cat bs) ++ (r ++ (cat cs ++ pad))
+pub encode-row : (front : List ℕ) (bs : List (List ℕ)) (r : List ℕ) (cs : List (List ℕ)) (pad : List ℕ)
+    → encode front (bs ++ (r ∷ cs)) pad ≡ (front ++ cat bs) ++ (r ++ (cat cs ++ pad))
 unfolding cat
 encode-row front bs r cs pad = encode-seam front bs (r ∷ cs) pad ∙ ap (λ (z : List ℕ). (front ++ cat bs) ++ z) (append-assoc r (cat cs) pad)
 
-pub length-encode : (s : ℕ) (front : List ℕ) (rows : List (List ℕ)) (pad : List ℕ) → Each s rows → length (encode front rows pad) ≡ length front + length rows * s + length pad
+pub length-encode : (s : ℕ) (front : List ℕ) (rows : List (List ℕ)) (pad : List ℕ) → Each s rows
+    → length (encode front rows pad) ≡ length front + length rows * s + length pad
 unfolding encode
 length-encode s front rows pad e = simp length-append (omega (arith, length-cat s rows e))
 

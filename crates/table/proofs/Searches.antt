@@ -9,7 +9,8 @@ use lib.ListN.{length, getD}
 use Rattle.words.specs.Words.{part}
 use Rattle.words.specs.Keys.{order, keyLt}
 use Rattle.words.proofs.Parts.{part-turn}
-use Rattle.words.proofs.Keys.{keyLt-head, keyLt-tail, Tri, lt, eq, gt, tri, Stands, below, same, above, stands, order-lt, order-eq, order-gt, keyLt-asym, keyLt-not-same, same-not-lt, sameKey-eq, sameKey-ne, keyLt-ne, keyLe-yes, keyLe-no}
+use Rattle.words.proofs.Keys.{keyLt-head, keyLt-tail, Tri, lt, eq, gt, tri, Stands, below, same, above, stands, order-lt, order-eq, order-gt, keyLt-asym}
+use Rattle.words.proofs.Keys.{keyLt-not-same, same-not-lt, sameKey-eq, sameKey-ne, keyLt-ne, keyLe-yes, keyLe-no}
 use Rattle.table.specs.declared.Shape.{Shape}
 use Rattle.table.specs.declared.Want.{Want}
 use Rattle.table.specs.declared.Want.the-variants.{Equal, NotBelow, Over}
@@ -52,11 +53,13 @@ module _ (t key : List ℕ) (p at w i : ℕ) (h : i < w) (ht : p + w ≤ length 
   low-word : getD t (p + i) 0 < getD key (at + i) 0 → keyLt (part (p + i) (w - i) t) (part (at + i) (w - i) key) ≡ true
   low-word l = rw (part-turn p w i t h ht, part-turn at w i key h hk) (keyLt-head _ _ _ _ l)
 
-  same-word : getD t (p + i) 0 ≡ getD key (at + i) 0 → keyLt (part (p + i) (w - i) t) (part (at + i) (w - i) key) ≡ keyLt (part (p + (i + 1)) (w - (i + 1)) t) (part (at + (i + 1)) (w - (i + 1)) key)
+  same-word : getD t (p + i) 0 ≡ getD key (at + i) 0
+      → keyLt (part (p + i) (w - i) t) (part (at + i) (w - i) key) ≡ keyLt (part (p + (i + 1)) (w - (i + 1)) t) (part (at + (i + 1)) (w - (i + 1)) key)
   same-word e = rw (part-turn p w i t h ht, part-turn at w i key h hk) (keyLt-tail _ _ _ _ e)
 
 -- a row that begins with a word below the key's first is below the key, and no search wants it
-pub low-first : (t key : List ℕ) (p at width : ℕ) → 1 ≤ width → p + width ≤ length t → at + width ≤ length key → getD t p 0 < getD key at 0 → keyLt (part p width t) (part at width key) ≡ true
+pub low-first : (t key : List ℕ) (p at width : ℕ) → 1 ≤ width → p + width ≤ length t → at + width ≤ length key → getD t p 0 < getD key at 0
+    → keyLt (part p width t) (part at width key) ≡ true
 low-first t key p at width h ht hk l = simp (add-zero, sub-zero) at (low-word t key p at width 0 h ht hk (simp add-zero l))
 
 -- so is one that begins with the key's first word and goes on with two words below the key's next two, read as one number
@@ -108,6 +111,7 @@ unfolding firstWhere
 first-true t zero h = absurd (not-suc-le-zero h)
 first-true t (suc n) h = go (t 0) refl h (first-true (λ i. t (suc i)) n)
   where
-    go : (x : Bool) → t 0 ≡ x → firstWhere t (suc n) < suc n → (firstWhere (λ i. t (suc i)) n < n → t (suc (firstWhere (λ i. t (suc i)) n)) ≡ true) → t (firstWhere t (suc n)) ≡ true
+    go : (x : Bool) → t 0 ≡ x → firstWhere t (suc n) < suc n → (firstWhere (λ i. t (suc i)) n < n → t (suc (firstWhere (λ i. t (suc i)) n)) ≡ true)
+        → t (firstWhere t (suc n)) ≡ true
     go true e l r = rw (e, firstWhere) e
     go false e l r = let m : suc (firstWhere (λ i. t (suc i)) n) < suc n = rw (e, firstWhere) at l in rw (e, firstWhere) (r (omega arith))

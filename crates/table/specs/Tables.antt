@@ -65,6 +65,11 @@ fits w h key t i = wanted w key (keyAt h t i)
 abbrev pub AllBelow : Shape → List ℕ → List ℕ → ℕ → Type 0
 AllBelow h key t n = (j : ℕ) → j < n → keyLt (part (place h j) (h .width) t) key ≡ true
 
+-- the words i and i + 1 of t as one number r, the first heavier
+pub record Pair (t : List ℕ) (i r : ℕ) : Type 0 where
+  pub value : r ≡ getD t i 0 * 4294967296 + getD t (i + 1) 0
+  pub small : getD t (i + 1) 0 < 4294967296
+
 -- whether word m of the row at word p is another than the key's, the key at word a of k
 abbrev pub differs : List ℕ → ℕ → List ℕ → ℕ → ℕ → Bool
 differs t p k a m = not (eqb (getD t (p + m) 0) (getD k (a + m) 0))

@@ -6,7 +6,7 @@ ghost use Prim.Native.Nat.{_+_, _*_, _≤_, _<_};
 ghost use lib.ListN.{length};
 ghost use Rattle.words.specs.Words.{part};
 ghost use Rattle.table.specs.declared.Want.the-variants.{Equal};
-ghost use Rattle.table.specs.Tables.{count, place, firstWhere, asked, fits, AllBelow, differs, opened, closed, inserted, removed, replaced};
+ghost use Rattle.table.specs.Tables.{count, place, firstWhere, asked, fits, AllBelow, Pair, differs, opened, closed, inserted, removed, replaced};
 ghost use Rattle.words.specs.Slices.{was, became};
 
 pub struct Shape {
@@ -77,6 +77,14 @@ fn pair(a: u32, b: u32) -> u64
     (a as u64) * 4294967296 + (b as u64)
 }
 
+// The words i and i + 1 of t as one such number.
+fn pair_at(t: &[u32], i: usize) -> u64
+    requires { ⌜ i + 2 ≤ length (now t) ⌝ }
+    ensures { λ r. ⌜ Pair (was t) i r ⌝ }
+{
+    pair(t[i], t[i + 1])
+}
+
 // How many rows at the front are below the key, the first `from` being so: those too that begin with the key's first word and go on with two
 // words below its next two. Where names share their first words, most rows of a search are passed here.
 fn low_after(h: Shape, t: &[u32], from: usize, n: usize, key: &[u32], at: usize) -> usize
@@ -96,14 +104,14 @@ fn low_after(h: Shape, t: &[u32], from: usize, n: usize, key: &[u32], at: usize)
         return from;
     }
     let first = key[at];
-    let next = pair(key[at + 1], key[at + 2]);
+    let next = pair_at(key, at + 1);
     let mut i = from;
     let mut word = base + from * stride;
     while i < n {
         if t[word] != first {
             return i;
         }
-        if next <= pair(t[word + 1], t[word + 2]) {
+        if next <= pair_at(t, word + 1) {
             return i;
         }
         word += stride;

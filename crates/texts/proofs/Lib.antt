@@ -3,3 +3,4 @@ pub mod Digits
 pub mod Lines
 pub mod Decimal
 pub mod Examples
+pub mod Names

@@ -71,7 +71,8 @@ keyLt-trans (x ∷ a) [] (z ∷ c) p q = absurd (clash (sym p))
 keyLt-trans (x ∷ a) (y ∷ b) [] p q = q
 keyLt-trans (x ∷ a) (y ∷ b) (z ∷ c) p q = go (keyLt-cases x y a b p) (keyLt-cases y z b c q) (keyLt-trans a b c)
   where
-    go : (x < y) ⊎ ((x ≡ y) × (keyLt a b ≡ true)) → (y < z) ⊎ ((y ≡ z) × (keyLt b c ≡ true)) → (keyLt a b ≡ true → keyLt b c ≡ true → keyLt a c ≡ true) → keyLt (x ∷ a) (z ∷ c) ≡ true
+    go : (x < y) ⊎ ((x ≡ y) × (keyLt a b ≡ true)) → (y < z) ⊎ ((y ≡ z) × (keyLt b c ≡ true)) → (keyLt a b ≡ true → keyLt b c ≡ true → keyLt a c ≡ true)
+        → keyLt (x ∷ a) (z ∷ c) ≡ true
     go (inl l) (inl m) r = keyLt-head x z a c (omega arith)
     go (inl l) (inr m) r = keyLt-head x z a c (omega arith)
     go (inr l) (inl m) r = keyLt-head x z a c (omega arith)

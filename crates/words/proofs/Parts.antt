@@ -7,7 +7,8 @@ use native.Mathlib.Numerals.{add-one}
 use native.Mathlib.Omega.{arith}
 use native.Mathlib.Decide.{decLt}
 use lib.ListN.{length, take, drop, getD, set, replicate, length-append, length-take, length-drop, take-append-drop, List·getD-append}
-use lib.Seq.{length-take-le, take-suc, drop-cons, set-at, getD-drop, getD-take, getD-append-add, drop-append-add, drop-append-le, drop-drop, drop-at, take-at, take-append-le, take-take, take-add, take-all, take-nil, drop-length, drop-set-lt, ext-getD, take-append-seam}
+use lib.Seq.{length-take-le, take-suc, drop-cons, set-at, getD-drop, getD-take, getD-append-add, drop-append-add, drop-append-le, drop-drop, drop-at, take-at}
+use lib.Seq.{take-append-le, take-take, take-add, take-all, take-nil, drop-length, drop-set-lt, ext-getD, take-append-seam}
 use borrow.Rule.Slice.PartMut.{putMid, midOf}
 use Rattle.words.specs.Words.{part, put}
 

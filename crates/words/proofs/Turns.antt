@@ -13,14 +13,16 @@ use Rattle.words.specs.declared.Order.the-variants.{Below, Same, Above}
 use Rattle.words.proofs.Parts.{length-part, part-snoc, part-cons, part-none, part-turn, put-snoc, put-cons, getD-put-before, getD-put-after}
 
 -- a turn of the loop that copies bottom up: d has the first i words, and takes the next
-pub copy-turn : (d d₀ s : List ℕ) (at from i : ℕ) → d ≡ put d₀ at (part from i s) → at + i < length d₀ → from + i < length s → set d (at + i) (getD s (from + i) 0) ≡ put d₀ at (part from (i + 1) s)
+pub copy-turn : (d d₀ s : List ℕ) (at from i : ℕ) → d ≡ put d₀ at (part from i s) → at + i < length d₀ → from + i < length s
+    → set d (at + i) (getD s (from + i) 0) ≡ put d₀ at (part from (i + 1) s)
 copy-turn d d₀ s at from i e hd hs =
     let n : length (part from i s) ≡ i = length-part from i s (omega arith) in
     let t : at + length (part from i s) < length d₀ = omega arith in
     rw (e, part-snoc from i s hs) (rw n at (put-snoc d₀ at (part from i s) (getD s (from + i) 0) t))
 
 -- the same of a loop that moves words bottom up to a lower place: what it reads is not written yet
-pub down-turn : (t t₀ : List ℕ) (from to i : ℕ) → t ≡ put t₀ to (part from i t₀) → to ≤ from → from + i < length t₀ → set t (to + i) (getD t (from + i) 0) ≡ put t₀ to (part from (i + 1) t₀)
+pub down-turn : (t t₀ : List ℕ) (from to i : ℕ) → t ≡ put t₀ to (part from i t₀) → to ≤ from → from + i < length t₀
+    → set t (to + i) (getD t (from + i) 0) ≡ put t₀ to (part from (i + 1) t₀)
 down-turn t t₀ from to i e h hs =
     let n : length (part from i t₀) ≡ i = length-part from i t₀ (omega arith) in
     let g : getD t (from + i) 0 ≡ getD t₀ (from + i) 0 = rw e (getD-put-after t₀ to (part from i t₀) (from + i) (omega arith) (omega arith)) in
@@ -60,7 +62,8 @@ module _ (a b : List ℕ) (i j k m : ℕ) (h : m < k) (ha : i + k ≤ length a) 
       let d : getD a (i + m) 0 ≡ getD b (j + m) 0 → ⊥ = λ e. omega arith in
       rw (part-turn i k m a h ha, part-turn j k m b h hb) (simp (le-ltb _ _ (le-of-lt l), ne-eqb _ _ d))
 
-  pub order-next : getD b (j + m) 0 ≤ getD a (i + m) 0 → getD a (i + m) 0 ≤ getD b (j + m) 0 → order (part (i + m) (k - m) a) (part (j + m) (k - m) b) ≡ order (part (i + (m + 1)) (k - (m + 1)) a) (part (j + (m + 1)) (k - (m + 1)) b)
+  pub order-next : getD b (j + m) 0 ≤ getD a (i + m) 0 → getD a (i + m) 0 ≤ getD b (j + m) 0
+      → order (part (i + m) (k - m) a) (part (j + m) (k - m) b) ≡ order (part (i + (m + 1)) (k - (m + 1)) a) (part (j + (m + 1)) (k - (m + 1)) b)
   unfolding order keyLt sameKey
   order-next l l′ =
       let e : getD a (i + m) 0 ≡ getD b (j + m) 0 = omega arith in

@@ -20,46 +20,19 @@ Inv-loop bytes from name₀ numbers₀ reading₀ at₀ name numbers reading at 
 abbrev μ-loop : tie.MeasureT-loop
 μ-loop bytes from name₀ numbers₀ reading₀ at₀ name numbers reading at = length bytes - at
 
-loop-holds : tie.Need-loop-holds Inv-loop μ-loop
-loop-holds c = (omega arith, refl, refl, refl)
-
-shared-slice-read-b : tie.Need-shared-slice-read-b Inv-loop μ-loop
-shared-slice-read-b c = omega arith
-
-add-at : tie.Need-add-at Inv-loop μ-loop
-add-at c = omega arith
-
-rest-requires : tie.Need-rest-requires Inv-loop μ-loop
-rest-requires c κs = search needs
-
 same-length : tie.Need-same-length Inv-loop μ-loop
 same-length c = c .before .before .before .before .before .before .before .loop .inv .1
-
-same-length-2 : tie.Need-same-length-2 Inv-loop μ-loop
-same-length-2 c = search needs
 
 returns : tie.Need-returns Inv-loop μ-loop
 returns c =
     let l = c .before .before .before .before .before .before .before .loop in
     sym (l .inv .3 ∙ line-over _ (l .at) (c .before .before .before .before .before .before .before .before .before .before .before .args .bytes .now) (omega arith) (c .before .before .before .before .if1 .taken) ∙ λ j. record { kept = sym (c .before .before .rest .ensures (l .name)) j; at = l .at + 1; ended = true })
 
-push-requires : tie.Need-push-requires Inv-loop μ-loop
-push-requires c κs = search needs
-
-loop-less : tie.Need-loop-less Inv-loop μ-loop
-loop-less c = omega arith
-
 loop-again : tie.Need-loop-again Inv-loop μ-loop
 loop-again c =
     let s = c .before .before .before .before .before .before .before .before .before .before .before .before .before .before .args in
     let l = c .before .before .before .before .before .before .before .before .before .before .loop in
     (omega arith, search needs, search needs, l .inv .3 ∙ line-more _ (l .at) (s .bytes .now) (omega arith) (c .before .before .before .before .before .before .before .if1 .left) ∙ λ j. toLineFeed (sym (c .before .before .before .before .push .ensures) j) (l .at + 1) (drop (l .at + 1) (s .bytes .now)))
-
-same-length-3 : tie.Need-same-length-3 Inv-loop μ-loop
-same-length-3 c = c .before .loop .inv .1
-
-same-length-4 : tie.Need-same-length-4 Inv-loop μ-loop
-same-length-4 c = c .before .loop .inv .2
 
 returns-2 : tie.Need-returns-2 Inv-loop μ-loop
 returns-2 c = sym (c .before .loop .inv .3 ∙ line-out _ (c .before .loop .at) (c .before .before .before .before .before .args .bytes .now) (omega arith))
@@ -70,16 +43,16 @@ take-spec =
     (tie.spec
     Inv-loop
     μ-loop
-    loop-holds
-    shared-slice-read-b
-    add-at
-    rest-requires
+    (λ c. (omega arith, refl, refl, refl))
+    (λ c. omega arith)
+    (λ c. omega arith)
+    (λ c κs. search needs)
     same-length
-    same-length-2
+    (λ c. search needs)
     returns
-    push-requires
-    loop-less
+    (λ c κs. search needs)
+    (λ c. omega arith)
     loop-again
-    same-length-3
-    same-length-4
+    (λ c. c .before .loop .inv .1)
+    (λ c. c .before .loop .inv .2)
     returns-2)

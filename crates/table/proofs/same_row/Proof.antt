@@ -2,8 +2,8 @@
 use mathlib.Core.Path.{_≡_, sym, ap, _∙_}
 use mathlib.Core.Logic.{⊎-elim}
 use mathlib.Core.Bool.{false}
-use Prim.Native.Nat.{ℕ, _+_, _*_, _-_, _≤_, _<_}
-use native.Mathlib.Nat.{not-suc-le-zero, pos-of-ne-zero, add-zero}
+use Prim.Native.Nat.{ℕ, _+_, _-_, _<_}
+use native.Mathlib.Nat.{not-suc-le-zero, add-zero}
 use native.Mathlib.Omega.{arith}
 use borrow.Author.Needs.{needs}
 use borrow.Author.Count.{below-more}
@@ -11,15 +11,15 @@ use lib.ListN.{length, getD}
 use Rattle.words.specs.Words.{part}
 use Rattle.table.specs.declared.Want.the-variants.{Equal}
 use Rattle.table.specs.Tables.{fits, keyAt}
-use Rattle.table.proofs.Places.{row-lt, row-next}
-use Rattle.table.proofs.Searches.{first-at, first-zero, first-none}
-use Rattle.table.proofs.Differs.{other-word, told-same, told-below, told-other, no-words}
+use Rattle.table.proofs.Differs.{other-word, told-below, told-other}
+use Rattle.table.proofs.Turns.{RowAt, row-next-at, key-inside, word-inside, word-fits, word-scaled, row-fits, told-inside, told-fits, told-scaled}
+use Rattle.table.proofs.Turns.{found-any, found-same, found-none}
 use Rattle.table.proofs.same_row.Statement.{statement}
 use Rattle.table.proofs.same_row.Tie as tie
 
 abbrev Inv-loop : tie.InvT-loop
 Inv-loop t n key at base stride width i₀ row₀ m₀ word₀ i row m word =
-    (i ≤ n) × (row ≡ base + i * stride) × (m < width) × (word ≡ getD key (at + m) 0)
+    RowAt base stride width n (length t) i row × (m < width) × (word ≡ getD key (at + m) 0)
     × ((j : ℕ) → j < i → fits Equal (record { base = base; stride = stride; width = width }) (part at width key) t j ≡ false)
 
 abbrev μ-loop : tie.MeasureT-loop
@@ -33,100 +33,22 @@ unfolding fits keyAt
 passed c =
     let a = c .before .before .before .before .before .before .before .before .args in
     let l = c .before .before .before .loop in
+    let e = l .inv .0 .here in
     ⊎-elim
     (λ x.
     let b = told-below (a .t .now) (l .row) (a .key .now) (a .at) (a .h .width) _ (x .1 .ensures) (x .2 .left) in
     let o = told-other (a .t .now) (l .row) (a .key .now) (a .at) (a .h .width) _ (x .1 .ensures) (x .2 .left) in
-    (rw (x .4) b, x .5 ∙ ap (λ (m : ℕ). getD (a .key .now) (a .at + m) 0) (sym (x .4)), rw (l .inv .1) at o))
+    (rw (x .4) b, x .5 ∙ ap (λ (m : ℕ). getD (a .key .now) (a .at + m) 0) (sym (x .4)), rw e at o))
     (λ x.
-    let o = other-word (a .t .now) (l .row) (a .key .now) (a .at) (a .h .width) (l .m) (l .inv .2) (λ e. x .0 .left (e ∙ sym (l .inv .3))) in
-    (rw (x .1) (l .inv .2), x .2 ∙ l .inv .3 ∙ ap (λ (m : ℕ). getD (a .key .now) (a .at + m) 0) (sym (x .1)), rw (l .inv .1) at o))
+    let o = other-word (a .t .now) (l .row) (a .key .now) (a .at) (a .h .width) (l .m) (l .inv .1) (λ q. x .0 .left (q ∙ sym (l .inv .2))) in
+    (rw (x .1) (l .inv .1), x .2 ∙ l .inv .2 ∙ ap (λ (m : ℕ). getD (a .key .now) (a .at + m) 0) (sym (x .1)), rw e at o))
     (c .if2 .came)
 
-returns : tie.Need-returns Inv-loop μ-loop
-returns c = sym (first-zero _ _ (no-words _ _ _ _ 0 (c .if1 .taken)))
-
-mul-word : tie.Need-mul-word Inv-loop μ-loop
-mul-word c = omega (arith, pos-of-ne-zero (c .if1 .left))
-
-shared-slice-read-word : tie.Need-shared-slice-read-word Inv-loop μ-loop
-shared-slice-read-word c = omega (arith, pos-of-ne-zero (c .before .if1 .left))
-
-loop-holds : tie.Need-loop-holds Inv-loop μ-loop
-loop-holds c = (omega arith, omega arith, pos-of-ne-zero (c .before .if1 .left), simp add-zero, λ j h. absurd (not-suc-le-zero h))
-
-add-if2 : tie.Need-add-if2 Inv-loop μ-loop
-add-if2 c =
-    let s = c .before .before .before .before .before .before .args .h .stride in
-    omega (arith, row-lt _ _ s (c .loop-test .taken))
-
-mul-if2 : tie.Need-mul-if2 Inv-loop μ-loop
-mul-if2 c =
-    let s = c .before .before .before .before .before .before .args .h .stride in
-    omega (arith, row-lt _ _ s (c .loop-test .taken))
-
-shared-slice-read-if2 : tie.Need-shared-slice-read-if2 Inv-loop μ-loop
-shared-slice-read-if2 c =
-    let s = c .before .before .before .before .before .before .before .args .h .stride in
-    omega (arith, row-lt _ _ s (c .before .loop-test .taken))
-
-same-words-requires : tie.Need-same-words-requires Inv-loop μ-loop
-same-words-requires c κs =
-    let s = c .before .before .before .before .before .before .before .before .args .h .stride in
-    omega (arith, row-lt _ _ s (c .before .before .loop-test .taken))
-
-returns-2 : tie.Need-returns-2 Inv-loop μ-loop
-unfolding fits keyAt
-returns-2 c =
-    let a = c .before .before .before .before .before .before .before .before .before .before .args in
-    let l = c .before .before .before .before .before .loop in
-    let end : l .row + a .h .width ≤ length (a .t .now) = omega (arith, row-lt _ _ (a .h .stride) (c .before .before .before .before .loop-test .taken)) in
-    let here = told-same (a .t .now) (l .row) (a .key .now) (a .at) (a .h .width) _ (c .before .same-words .ensures) end (omega arith) (c .if3 .taken) in
-    sym (first-at _ _ _ (c .before .before .before .before .loop-test .taken) (l .inv .4) (rw (l .inv .1) at here))
-
-add-word : tie.Need-add-word Inv-loop μ-loop
-add-word c =
-    let a = c .before .before .before .before .before .before .before .before .before .before .args in
-    let l = c .before .before .before .before .before .loop in
-    let e = c .before .same-words .ensures in
-    omega (arith, told-below (a .t .now) (l .row) (a .key .now) (a .at) (a .h .width) _ e (c .if3 .left))
-
-mul-word-2 : tie.Need-mul-word-2 Inv-loop μ-loop
-mul-word-2 c =
-    let a = c .before .before .before .before .before .before .before .before .before .before .args in
-    let l = c .before .before .before .before .before .loop in
-    let e = c .before .same-words .ensures in
-    omega (arith, told-below (a .t .now) (l .row) (a .key .now) (a .at) (a .h .width) _ e (c .if3 .left))
-
-shared-slice-read-word-2 : tie.Need-shared-slice-read-word-2 Inv-loop μ-loop
-shared-slice-read-word-2 c =
-    let a = c .before .before .before .before .before .before .before .before .before .before .before .args in
-    let l = c .before .before .before .before .before .before .loop in
-    let e = c .before .before .same-words .ensures in
-    omega (arith, told-below (a .t .now) (l .row) (a .key .now) (a .at) (a .h .width) _ e (c .before .if3 .left))
-
 add-row : tie.Need-add-row Inv-loop μ-loop
-add-row c =
-    let s = c .before .before .before .before .before .before .before .before .args .h .stride in
-    omega (arith, row-lt _ _ s (c .before .before .loop-test .taken))
-
-add-i : tie.Need-add-i Inv-loop μ-loop
-add-i c = omega arith
-
-loop-less : tie.Need-loop-less Inv-loop μ-loop
-loop-less c = omega arith
+add-row c = search (row-fits, c .before .before .before .loop .inv .0, c .before .before .loop-test .taken)
 
 loop-again : tie.Need-loop-again Inv-loop μ-loop
-loop-again c =
-    let a = c .before .before .before .before .before .before .before .before .args in
-    let l = c .before .before .before .loop in
-    let p = passed c in
-    (omega arith, omega (arith, row-next (l .i) (a .h .stride)), p .0, p .1, below-more _ _ (l .inv .4) (p .2))
-
-returns-3 : tie.Need-returns-3 Inv-loop μ-loop
-returns-3 c =
-    let e : c .before .loop .i ≡ c .before .before .before .before .before .before .args .n = omega arith in
-    sym (first-none _ _ (rw e at (c .before .loop .inv .4)))
+loop-again c = (search row-next-at, passed c .0, passed c .1, below-more _ _ (c .before .before .before .loop .inv .3) (passed c .2))
 
 pub same-row-spec : {M : Type 1} → statement M
 same-row-spec =
@@ -134,20 +56,20 @@ same-row-spec =
     (tie.spec
     Inv-loop
     μ-loop
-    returns
-    mul-word
-    shared-slice-read-word
-    loop-holds
-    add-if2
-    mul-if2
-    shared-slice-read-if2
-    same-words-requires
-    returns-2
-    add-word
-    mul-word-2
-    shared-slice-read-word-2
+    (λ c. search found-any)
+    (λ c. omega arith)
+    (λ c. omega arith)
+    (λ c. (omega arith, omega arith, simp add-zero, λ j h. absurd (not-suc-le-zero h)))
+    (λ c. search word-fits)
+    (λ c. search word-scaled)
+    (λ c. search word-inside)
+    (λ c κs. (search key-inside, search))
+    (λ c. search found-same)
+    (λ c. search told-fits)
+    (λ c. search told-scaled)
+    (λ c. search told-inside)
     add-row
-    add-i
-    loop-less
+    (λ c. omega arith)
+    (λ c. omega arith)
     loop-again
-    returns-3)
+    (λ c. search found-none))

@@ -13,15 +13,6 @@ Inv-loop n k₀ rest₀ k rest = (1 ≤ k) × (k ≤ 20) × (rest < 10 ^ suc (20
 abbrev μ-loop : tie.MeasureT-loop
 μ-loop n k₀ rest₀ k rest = rest
 
-loop-holds : tie.Need-loop-holds Inv-loop μ-loop
-loop-holds c = (omega arith, omega arith, omega arith, omega arith)
-
-add-k : tie.Need-add-k Inv-loop μ-loop
-add-k c = omega arith
-
-loop-less : tie.Need-loop-less Inv-loop μ-loop
-loop-less c = omega arith
-
 loop-again : tie.Need-loop-again Inv-loop μ-loop
 loop-again c =
     let t = places-turn _ _ _ (c .before .loop .inv .1) (c .before .loop .inv .0) (omega arith) (c .before .loop .inv .2) (c .before .loop .inv .3) in
@@ -33,4 +24,12 @@ returns c =
     omega arith
 
 pub places-spec : {M : Type 1} → statement M
-places-spec = tie.close (tie.spec Inv-loop μ-loop loop-holds add-k loop-less loop-again returns)
+places-spec = tie.close
+    (tie.spec
+    Inv-loop
+    μ-loop
+    (λ c. (omega arith, omega arith, omega arith, omega arith))
+    (λ c. omega arith)
+    (λ c. omega arith)
+    loop-again
+    returns)

@@ -8,21 +8,6 @@ use borrow.Author.Needs.{needs}
 use Rattle.texts.proofs.put_decimal.Statement.{statement}
 use Rattle.texts.proofs.put_decimal.Tie as tie
 
-slice-write-out : tie.Need-slice-write-out
-slice-write-out c = search needs
-
-places-requires : tie.Need-places-requires
-places-requires c κs = search needs
-
-add-put-digits : tie.Need-add-put-digits
-add-put-digits c = search needs
-
-put-digits-requires : tie.Need-put-digits-requires
-put-digits-requires c κs = (simp length-set (omega arith), omega arith, omega arith)
-
-same-length : tie.Need-same-length
-same-length c = omega (arith, simp length-set at (c .before .before .put-digits .kept))
-
 returns : tie.Need-returns
 unfolding decimal
 returns c =
@@ -34,9 +19,9 @@ pub put-decimal-spec : {M : Type 1} → statement M
 put-decimal-spec =
     tie.close
     (tie.spec
-    slice-write-out
-    places-requires
-    add-put-digits
-    put-digits-requires
-    same-length
+    (λ c. search needs)
+    (λ c κs. search needs)
+    (λ c. search needs)
+    (λ c κs. (simp length-set (omega arith), omega arith, omega arith))
+    (λ c. omega (arith, simp length-set at (c .before .before .put-digits .kept)))
     returns)

@@ -17,15 +17,6 @@ Inv-loop out₀ at base k n i₀ rest₀ out i rest = (i ≤ k) × (put out₀ a
 abbrev μ-loop : tie.MeasureT-loop
 μ-loop out₀ at base k n i₀ rest₀ out i rest = i
 
-loop-holds : tie.Need-loop-holds Inv-loop μ-loop
-loop-holds c = (omega arith, refl, refl)
-
-sub-i : tie.Need-sub-i Inv-loop μ-loop
-sub-i c = omega arith
-
-rem-out : tie.Need-rem-out Inv-loop μ-loop
-rem-out c = omega arith
-
 cast-out : tie.Need-cast-out Inv-loop μ-loop
 cast-out c =
     let p : 0 < c .before .before .args .base = omega arith in
@@ -36,26 +27,8 @@ add-out c =
     let p : 0 < c .before .before .args .base = omega arith in
     omega (arith, mod-lt (c .before .loop .rest) p)
 
-add-out-2 : tie.Need-add-out-2 Inv-loop μ-loop
-add-out-2 c = omega arith
-
-slice-write-out : tie.Need-slice-write-out Inv-loop μ-loop
-slice-write-out c = omega arith
-
-div-rest : tie.Need-div-rest Inv-loop μ-loop
-div-rest c = omega arith
-
-loop-less : tie.Need-loop-less Inv-loop μ-loop
-loop-less c = omega arith
-
 loop-again : tie.Need-loop-again Inv-loop μ-loop
 loop-again c = (omega arith, digit-turn _ _ _ _ _ _ (c .before .loop .inv .1) (omega arith) (omega arith), simp length-set (omega arith))
-
-add-result : tie.Need-add-result Inv-loop μ-loop
-add-result c = omega arith
-
-same-length : tie.Need-same-length Inv-loop μ-loop
-same-length c = omega arith
 
 returns : tie.Need-returns Inv-loop μ-loop
 returns c =
@@ -68,16 +41,16 @@ put-digits-spec =
     (tie.spec
     Inv-loop
     μ-loop
-    loop-holds
-    sub-i
-    rem-out
+    (λ c. (omega arith, refl, refl))
+    (λ c. omega arith)
+    (λ c. omega arith)
     cast-out
     add-out
-    add-out-2
-    slice-write-out
-    div-rest
-    loop-less
+    (λ c. omega arith)
+    (λ c. omega arith)
+    (λ c. omega arith)
+    (λ c. omega arith)
     loop-again
-    add-result
-    same-length
+    (λ c. omega arith)
+    (λ c. omega arith)
     returns)

@@ -18,27 +18,6 @@ Inv-loop out₀ at words end₀ i₀ out end i = (i ≤ length words) × (end �
 abbrev μ-loop : tie.MeasureT-loop
 μ-loop out₀ at words end₀ i₀ out end i = length words - i
 
-loop-holds : tie.Need-loop-holds Inv-loop μ-loop
-loop-holds c = (omega arith, omega arith, (refl, refl), refl)
-
-mul-long : tie.Need-mul-long Inv-loop μ-loop
-mul-long c = omega arith
-
-shared-slice-read-long : tie.Need-shared-slice-read-long Inv-loop μ-loop
-shared-slice-read-long c = omega arith
-
-long-requires : tie.Need-long-requires Inv-loop μ-loop
-long-requires c κs = omega arith
-
-put-decimal-requires : tie.Need-put-decimal-requires Inv-loop μ-loop
-put-decimal-requires c κs = omega arith
-
-add-i : tie.Need-add-i Inv-loop μ-loop
-add-i c = omega arith
-
-loop-less : tie.Need-loop-less Inv-loop μ-loop
-loop-less c = omega arith
-
 loop-again : tie.Need-loop-again Inv-loop μ-loop
 loop-again c = (
   omega arith,
@@ -46,9 +25,6 @@ loop-again c = (
   listed-turn _ _ (c .before .before .before .before .before .before .before .before .before .before .args .words .now) _ _ (c .before .before .before .before .before .before .before .loop .i) _ _ _ (c .before .before .before .before .before .before .before .loop .inv .2) (omega arith) (c .before .before .before .long .ensures) (c .before .before .put-decimal .ensures .0, c .before .before .put-decimal .ensures .1) (omega arith),
   omega arith,
 )
-
-same-length : tie.Need-same-length Inv-loop μ-loop
-same-length c = omega arith
 
 returns : tie.Need-returns Inv-loop μ-loop
 returns c =
@@ -62,13 +38,13 @@ put-listed-spec =
     (tie.spec
     Inv-loop
     μ-loop
-    loop-holds
-    mul-long
-    shared-slice-read-long
-    long-requires
-    put-decimal-requires
-    add-i
-    loop-less
+    (λ c. (omega arith, omega arith, (refl, refl), refl))
+    (λ c. omega arith)
+    (λ c. omega arith)
+    (λ c κs. omega arith)
+    (λ c κs. omega arith)
+    (λ c. omega arith)
+    (λ c. omega arith)
     loop-again
-    same-length
+    (λ c. omega arith)
     returns)

@@ -8,21 +8,6 @@ use borrow.Author.Needs.{needs}
 use Rattle.texts.proofs.put_number.Statement.{statement}
 use Rattle.texts.proofs.put_number.Tie as tie
 
-slice-write-out : tie.Need-slice-write-out
-slice-write-out c = search needs
-
-add-put-digits : tie.Need-add-put-digits
-add-put-digits c = search needs
-
-long-requires : tie.Need-long-requires
-long-requires c κs = search needs
-
-put-digits-requires : tie.Need-put-digits-requires
-put-digits-requires c κs = (simp length-set (omega arith), omega arith, omega arith)
-
-same-length : tie.Need-same-length
-same-length c = omega (arith, simp length-set at (c .before .before .put-digits .kept))
-
 returns : tie.Need-returns
 unfolding octal
 returns c =
@@ -33,4 +18,10 @@ returns c =
 pub put-number-spec : {M : Type 1} → statement M
 put-number-spec =
     tie.close
-    (tie.spec slice-write-out add-put-digits long-requires put-digits-requires same-length returns)
+    (tie.spec
+    (λ c. search needs)
+    (λ c. search needs)
+    (λ c κs. search needs)
+    (λ c κs. (simp length-set (omega arith), omega arith, omega arith))
+    (λ c. omega (arith, simp length-set at (c .before .before .put-digits .kept)))
+    returns)

@@ -7,18 +7,6 @@ use Rattle.texts.proofs.Puts.{written-then}
 use Rattle.texts.proofs.put_refused.Statement.{statement}
 use Rattle.texts.proofs.put_refused.Tie as tie
 
-put-name-requires : tie.Need-put-name-requires
-put-name-requires c κs = search needs
-
-slice-aggregate-put-bytes : tie.Need-slice-aggregate-put-bytes
-slice-aggregate-put-bytes c = search needs
-
-put-bytes-requires : tie.Need-put-bytes-requires
-put-bytes-requires c κs = search needs
-
-same-length : tie.Need-same-length
-same-length c = search needs
-
 returns : tie.Need-returns
 unfolding refusedText bytes
 returns c =
@@ -28,4 +16,4 @@ returns c =
 pub put-refused-spec : {M : Type 1} → statement M
 put-refused-spec =
     tie.close
-    (tie.spec put-name-requires slice-aggregate-put-bytes put-bytes-requires same-length returns)
+    (tie.spec (λ c κs. search needs) (λ c. search needs) (λ c κs. search needs) (λ c. search needs) returns)

@@ -5,21 +5,6 @@ use borrow.Author.Needs.{needs}
 use Rattle.words.proofs.key_below.Statement.{statement}
 use Rattle.words.proofs.key_below.Tie as tie
 
-compare-keys-requires : tie.Need-compare-keys-requires
-compare-keys-requires c κs = search needs
-
-enum-told : tie.Need-enum-told
-enum-told c = search needs
-
-enum-told-2 : tie.Need-enum-told-2
-enum-told-2 c = search needs
-
-enum-told-3 : tie.Need-enum-told-3
-enum-told-3 c = search needs
-
-returns : tie.Need-returns
-returns c = sym (order-lt-of _ _ (sym (c .before .before .compare-keys .ensures) ∙ c .enum-told .given .1))
-
 returns-2 : tie.Need-returns-2
 returns-2 c = sym (same-not-lt _ _ (order-eq-of _ _ (sym (c .before .before .compare-keys .ensures) ∙ c .enum-told2 .given .1)))
 
@@ -29,4 +14,11 @@ returns-3 c = sym (keyLt-asym _ _ (order-gt-of _ _ (sym (c .before .before .comp
 pub key-below-spec : {M : Type 1} → statement M
 key-below-spec =
     tie.close
-    (tie.spec compare-keys-requires enum-told enum-told-2 enum-told-3 returns returns-2 returns-3)
+    (tie.spec
+    (λ c κs. search needs)
+    (λ c. search needs)
+    (λ c. search needs)
+    (λ c. search needs)
+    (λ c. sym (order-lt-of _ _ (sym (c .before .before .compare-keys .ensures) ∙ c .enum-told .given .1)))
+    returns-2
+    returns-3)

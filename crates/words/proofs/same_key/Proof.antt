@@ -5,18 +5,6 @@ use borrow.Author.Needs.{needs}
 use Rattle.words.proofs.same_key.Statement.{statement}
 use Rattle.words.proofs.same_key.Tie as tie
 
-compare-keys-requires : tie.Need-compare-keys-requires
-compare-keys-requires c κs = search needs
-
-enum-told : tie.Need-enum-told
-enum-told c = search needs
-
-enum-told-2 : tie.Need-enum-told-2
-enum-told-2 c = search needs
-
-enum-told-3 : tie.Need-enum-told-3
-enum-told-3 c = search needs
-
 returns : tie.Need-returns
 returns c = sym (keyLt-not-same _ _ (order-lt-of _ _ (sym (c .before .before .compare-keys .ensures) ∙ c .enum-told .given .1)))
 
@@ -29,4 +17,11 @@ returns-3 c = sym (sameKey-ne _ _ (λ e. keyLt-ne _ _ (order-gt-of _ _ (sym (c .
 pub same-key-spec : {M : Type 1} → statement M
 same-key-spec =
     tie.close
-    (tie.spec compare-keys-requires enum-told enum-told-2 enum-told-3 returns returns-2 returns-3)
+    (tie.spec
+    (λ c κs. search needs)
+    (λ c. search needs)
+    (λ c. search needs)
+    (λ c. search needs)
+    returns
+    returns-2
+    returns-3)

@@ -1,52 +1,35 @@
--- `figures::put_is` meets its contract.
+-- Each parameter has its text.
 use native.Mathlib.Omega.{arith}
 use Rattle.texts.specs.Texts.{bytes}
 use Rattle.faults.specs.Sentences.{isText}
 use borrow.Author.Needs.{needs}
+use Rattle.faults.proofs.Told.{is-put, is-end}
 use Rattle.faults.proofs.figures.put_is.Statement.{statement}
 use Rattle.faults.proofs.figures.put_is.Tie as tie
 
 returns : tie.Need-returns
 unfolding isText bytes
-returns c =
-    let s1 = c .before .before in
-    let s2 = s1 .before .before .before .before in
-    rw (s2 .enum-told .given .1) (s1 .put-figure .ensures .0, s1 .put-figure .ensures .1, omega (arith, s1 .put-figure .ensures .2))
+returns c = (search is-put, search is-end, omega arith)
 
 returns-2 : tie.Need-returns-2
 unfolding isText bytes
-returns-2 c =
-    let s1 = c .before .before in
-    let s2 = s1 .before .before .before .before in
-    rw (s2 .enum-told2 .given .1) (s1 .put-figure2 .ensures .0, s1 .put-figure2 .ensures .1, omega (arith, s1 .put-figure2 .ensures .2))
+returns-2 c = (search is-put, search is-end, omega arith)
 
 returns-3 : tie.Need-returns-3
 unfolding isText bytes
-returns-3 c =
-    let s1 = c .before .before in
-    let s2 = s1 .before .before .before .before in
-    rw (s2 .enum-told3 .given .1) (s1 .put-figure3 .ensures .0, s1 .put-figure3 .ensures .1, omega (arith, s1 .put-figure3 .ensures .2))
+returns-3 c = (search is-put, search is-end, omega arith)
 
 returns-4 : tie.Need-returns-4
 unfolding isText bytes
-returns-4 c =
-    let s1 = c .before .before in
-    let s2 = s1 .before .before .before .before in
-    rw (s2 .enum-told4 .given .1) (s1 .put-figure4 .ensures .0, s1 .put-figure4 .ensures .1, omega (arith, s1 .put-figure4 .ensures .2))
+returns-4 c = (search is-put, search is-end, omega arith)
 
 returns-5 : tie.Need-returns-5
 unfolding isText bytes
-returns-5 c =
-    let s1 = c .before .before in
-    let s2 = s1 .before .before .before .before in
-    rw (s2 .enum-told5 .given .1) (s1 .put-figure5 .ensures .0, s1 .put-figure5 .ensures .1, omega (arith, s1 .put-figure5 .ensures .2))
+returns-5 c = (search is-put, search is-end, omega arith)
 
 returns-6 : tie.Need-returns-6
 unfolding isText bytes
-returns-6 c =
-    let s1 = c .before .before in
-    let s2 = s1 .before .before .before .before in
-    rw (s2 .enum-told6 .given .1) (s1 .put-figure6 .ensures .0, s1 .put-figure6 .ensures .1, omega (arith, s1 .put-figure6 .ensures .2))
+returns-6 c = (search is-put, search is-end, omega arith)
 
 pub put-is-spec : {M : Type 1} → statement M
 put-is-spec =

@@ -21,34 +21,10 @@ loop-holds : tie.Need-loop-holds Inv-loop μ-loop
 unfolding visibles
 loop-holds c = (omega arith, rw (part-none, put-none), refl)
 
-shared-slice-read-visible : tie.Need-shared-slice-read-visible Inv-loop μ-loop
-shared-slice-read-visible c = omega arith
-
-visible-requires : tie.Need-visible-requires Inv-loop μ-loop
-visible-requires c κs = search needs
-
-add-out : tie.Need-add-out Inv-loop μ-loop
-add-out c = omega arith
-
-slice-write-out : tie.Need-slice-write-out Inv-loop μ-loop
-slice-write-out c = omega arith
-
-add-i : tie.Need-add-i Inv-loop μ-loop
-add-i c = omega arith
-
-loop-less : tie.Need-loop-less Inv-loop μ-loop
-loop-less c = omega arith
-
 loop-again : tie.Need-loop-again Inv-loop μ-loop
 loop-again c =
     let s1 = c .before .before .before in
     (omega arith, visible-turn _ _ _ _ _ _ (s1 .loop .inv .1) (omega arith) (omega arith) (c .visible .ensures), simp length-set (omega arith))
-
-add-result : tie.Need-add-result Inv-loop μ-loop
-add-result c = omega arith
-
-same-length : tie.Need-same-length Inv-loop μ-loop
-same-length c = omega arith
 
 returns : tie.Need-returns Inv-loop μ-loop
 returns c =
@@ -65,13 +41,13 @@ put-visible-spec =
     Inv-loop
     μ-loop
     loop-holds
-    shared-slice-read-visible
-    visible-requires
-    add-out
-    slice-write-out
-    add-i
-    loop-less
+    (λ c. omega arith)
+    (λ c κs. search needs)
+    (λ c. omega arith)
+    (λ c. omega arith)
+    (λ c. omega arith)
+    (λ c. omega arith)
     loop-again
-    add-result
-    same-length
+    (λ c. omega arith)
+    (λ c. omega arith)
     returns)

@@ -1,6 +1,7 @@
 -- `first::first_fault` meets its contract.
-use mathlib.Core.Path.{sym, ap, _∙_}
+use mathlib.Core.Path.{ap}
 use borrow.Author.Tests.{not-true, not-false}
+use Rattle.drum.proofs.Good.{was-good, size-good}
 use Rattle.faults.specs.declared.Fault.the-variants.{TooLarge}
 use Rattle.faults.specs.First.{firstFault}
 use borrow.Author.Needs.{needs}
@@ -15,9 +16,6 @@ returns c =
     let s3 = s2 .before .before in
     rw (s3 .given .given .1, ← s2 .is-good .ensures, not-true (s2 .is-good .result) (s1 .if1 .taken)) (c .range-fault .ensures)
 
-file-size-requires : tie.Need-file-size-requires
-file-size-requires c κs = sym (c .before .is-good .ensures) ∙ not-false (c .before .is-good .result) (c .if1 .left)
-
 returns-2 : tie.Need-returns-2
 unfolding firstFault
 returns-2 c = rw (c .before .enum-told .given .1) (c .words-fault .ensures)
@@ -28,7 +26,8 @@ returns-3 c =
     let s1 = c .before in
     let s2 = s1 .before in
     let s3 = s2 .before .before in
-    rw (s3 .given .given .1, ← s2 .is-good .ensures, not-false (s2 .is-good .result) (s1 .if1 .left)) (ap TooLarge (c .file-size .ensures))
+    let good = was-good _ (s2 .is-good .result) (s2 .is-good .ensures) (s1 .if1 .left) in
+    rw (s3 .given .given .1, good) (ap TooLarge (size-good _ _ _ (c .file-size .ensures) good))
 
 pub first-fault-spec : {M : Type 1} → statement M
 first-fault-spec =
@@ -40,6 +39,6 @@ first-fault-spec =
     (λ c κs. search needs)
     (λ c κs. search needs)
     returns
-    file-size-requires
+    (λ c κs. search needs)
     returns-2
     returns-3)

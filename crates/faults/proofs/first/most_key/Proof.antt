@@ -7,24 +7,18 @@ use borrow.Author.Needs.{needs}
 use Rattle.faults.proofs.first.most_key.Statement.{statement}
 use Rattle.faults.proofs.first.most_key.Tie as tie
 
-returns : tie.Need-returns
-returns c = search key-most
-
 returns-2 : tie.Need-returns-2
 returns-2 c =
     let s1 = c .before .before in
     let s2 = s1 .before in
     let e : 0 ≡ (s1 .half .result) - 1 = omega arith in e ∙ key-less (s2 .args .p) (s1 .half .result) (s1 .half .ensures) (omega arith)
 
-returns-3 : tie.Need-returns-3
-returns-3 c = search key-less
-
 pub most-key-spec : {M : Type 1} → statement M
 most-key-spec =
     tie.close
     (tie.spec
     (λ c κs. search needs)
-    returns
+    (λ c. search key-most)
     returns-2
     (λ c. search needs)
-    returns-3)
+    (λ c. search key-less))

@@ -4,12 +4,6 @@ use Rattle.faults.proofs.Ranges.{space-details, space-entries}
 use Rattle.faults.proofs.first.most_space.Statement.{statement}
 use Rattle.faults.proofs.first.most_space.Tie as tie
 
-returns : tie.Need-returns
-returns c = search space-details
-
-returns-2 : tie.Need-returns-2
-returns-2 c = search space-entries
-
 pub most-space-spec : {M : Type 1} → statement M
 most-space-spec =
     tie.close
@@ -17,6 +11,6 @@ most-space-spec =
     (λ c κs. search needs)
     (λ c κs. search needs)
     (λ c κs. search needs)
-    returns
+    (λ c. search space-details)
     (λ c κs. search needs)
-    returns-2)
+    (λ c. search space-entries))

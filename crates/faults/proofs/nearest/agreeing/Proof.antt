@@ -15,36 +15,12 @@ Inv-loop word a text b i₀ j₀ count₀ i j count = (agreeing (drop a word) (d
 abbrev μ-loop : tie.MeasureT-loop
 μ-loop word a text b i₀ j₀ count₀ i j count = length word - i
 
-loop-holds : tie.Need-loop-holds Inv-loop μ-loop
-loop-holds c = (omega arith, omega arith, omega arith)
-
 returns : tie.Need-returns Inv-loop μ-loop
 returns c =
     let s1 = c .before .before in
     let s2 = s1 .before .before .before in
     let e = agree-text (s2 .args .word .now) (s2 .args .text .now) (s1 .loop .i) (s1 .loop .j) (omega arith) in
     (omega (arith, s1 .loop .inv), omega (arith, s1 .loop .inv))
-
-shared-slice-read-same : tie.Need-shared-slice-read-same Inv-loop μ-loop
-shared-slice-read-same c = omega arith
-
-shared-slice-read-same-2 : tie.Need-shared-slice-read-same-2 Inv-loop μ-loop
-shared-slice-read-same-2 c = omega arith
-
-same-requires : tie.Need-same-requires Inv-loop μ-loop
-same-requires c κs = search needs
-
-add-count : tie.Need-add-count Inv-loop μ-loop
-add-count c = omega arith
-
-add-i : tie.Need-add-i Inv-loop μ-loop
-add-i c = omega arith
-
-add-j : tie.Need-add-j Inv-loop μ-loop
-add-j c = omega arith
-
-loop-less : tie.Need-loop-less Inv-loop μ-loop
-loop-less c = omega arith
 
 loop-again : tie.Need-loop-again Inv-loop μ-loop
 loop-again c =
@@ -66,14 +42,14 @@ agreeing-spec =
     (tie.spec
     Inv-loop
     μ-loop
-    loop-holds
+    (λ c. (omega arith, omega arith, omega arith))
     returns
-    shared-slice-read-same
-    shared-slice-read-same-2
-    same-requires
-    add-count
-    add-i
-    add-j
-    loop-less
+    (λ c. omega arith)
+    (λ c. omega arith)
+    (λ c κs. search needs)
+    (λ c. omega arith)
+    (λ c. omega arith)
+    (λ c. omega arith)
+    (λ c. omega arith)
     loop-again
     returns-2)

@@ -4,9 +4,6 @@ use borrow.Author.Needs.{needs}
 use Rattle.faults.proofs.nearest.alike.Statement.{statement}
 use Rattle.faults.proofs.nearest.alike.Tie as tie
 
-returns : tie.Need-returns
-returns c = search alike-sum
-
 pub alike-spec : {M : Type 1} → statement M
 alike-spec =
     tie.close
@@ -16,4 +13,4 @@ alike-spec =
     (λ c κs. search needs)
     (λ c. search needs)
     (λ c. search needs)
-    returns)
+    (λ c. search alike-sum))

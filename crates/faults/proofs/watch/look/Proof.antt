@@ -15,27 +15,6 @@ Inv-loop bytes from seen₀ at₀ seen at = (at ≤ length bytes) × (watched se
 abbrev μ-loop : tie.MeasureT-loop
 μ-loop bytes from seen₀ at₀ seen at = length bytes - at
 
-loop-holds : tie.Need-loop-holds Inv-loop μ-loop
-loop-holds c = (omega arith, refl)
-
-shared-slice-read-b : tie.Need-shared-slice-read-b Inv-loop μ-loop
-shared-slice-read-b c = omega arith
-
-add-at : tie.Need-add-at Inv-loop μ-loop
-add-at c = omega arith
-
-returns : tie.Need-returns Inv-loop μ-loop
-returns c = search look-over
-
-push-requires : tie.Need-push-requires Inv-loop μ-loop
-push-requires c κs = search needs
-
-loop-less : tie.Need-loop-less Inv-loop μ-loop
-loop-less c = omega arith
-
-loop-again : tie.Need-loop-again Inv-loop μ-loop
-loop-again c = (omega arith, search look-more)
-
 returns-2 : tie.Need-returns-2 Inv-loop μ-loop
 returns-2 c =
     let s1 = c .before in
@@ -48,11 +27,11 @@ look-spec =
     (tie.spec
     Inv-loop
     μ-loop
-    loop-holds
-    shared-slice-read-b
-    add-at
-    returns
-    push-requires
-    loop-less
-    loop-again
+    (λ c. (omega arith, refl))
+    (λ c. omega arith)
+    (λ c. omega arith)
+    (λ c. search look-over)
+    (λ c κs. search needs)
+    (λ c. omega arith)
+    (λ c. (omega arith, search look-more))
     returns-2)

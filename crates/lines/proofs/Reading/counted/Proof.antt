@@ -5,36 +5,15 @@ use Rattle.lines.proofs.Steps.{counted-other, counted-full, counted-num
 use Rattle.lines.proofs.Reading.counted.Statement.{statement}
 use Rattle.lines.proofs.Reading.counted.Tie as tie
 
-other-requires : tie.Need-other-requires
-other-requires c κs = search needs
-
 returns : tie.Need-returns
 returns c =
     let s = c .before .before .before .before .args in
     λ name. counted-other (s .self) _ name (s .numbers .now) (not-true (s .self .number) (c .before .if1 .taken)) (c .other .ensures)
 
-other-requires-2 : tie.Need-other-requires-2
-other-requires-2 c κs = search needs
-
 returns-2 : tie.Need-returns-2
 returns-2 c =
     let s = c .before .before .before .before .before .args in
     λ name. counted-full (s .self) _ name (s .numbers .now) (c .before .if2 .taken) (c .other2 .ensures)
-
-mul-numbers : tie.Need-mul-numbers
-mul-numbers c = search needs
-
-slice-write-numbers : tie.Need-slice-write-numbers
-slice-write-numbers c = search needs
-
-add-resting : tie.Need-add-resting
-add-resting c = search needs
-
-resting-requires : tie.Need-resting-requires
-resting-requires c κs = search needs
-
-same-length : tie.Need-same-length
-same-length c = search needs
 
 returns-3 : tie.Need-returns-3
 returns-3 c =
@@ -45,13 +24,13 @@ pub counted-spec : {M : Type 1} → statement M
 counted-spec =
     tie.close
     (tie.spec
-    other-requires
+    (λ c κs. search needs)
     returns
-    other-requires-2
+    (λ c κs. search needs)
     returns-2
-    mul-numbers
-    slice-write-numbers
-    add-resting
-    resting-requires
-    same-length
+    (λ c. search needs)
+    (λ c. search needs)
+    (λ c. search needs)
+    (λ c κs. search needs)
+    (λ c. search needs)
     returns-3)

@@ -5,9 +5,6 @@ use Rattle.lines.proofs.Steps.{spells-others, spells-numbers, spells-fu
 use Rattle.lines.proofs.Reading.letter.Statement.{statement}
 use Rattle.lines.proofs.Reading.letter.Tie as tie
 
-with-byte-requires : tie.Need-with-byte-requires
-with-byte-requires c κs = search needs
-
 returns : tie.Need-returns
 returns c =
     let s = c .before .before .before .before .args in
@@ -23,15 +20,6 @@ returns-3 c =
     let s = c .before .before .before .before .before .before .before .args in
     λ numbers. letter-full _ _ _ _ numbers (c .before .before .before .before .before .with-byte .ensures) (spells-full (s .self) (s .name .now) (c .if3 .taken))
 
-slice-write-name : tie.Need-slice-write-name
-slice-write-name c = search needs
-
-add-next : tie.Need-add-next
-add-next c = search needs
-
-same-length : tie.Need-same-length
-same-length c = search needs
-
 returns-4 : tie.Need-returns-4
 returns-4 c =
     let s = c .before .before .before .before .before .before .before .args in
@@ -41,11 +29,11 @@ pub letter-spec : {M : Type 1} → statement M
 letter-spec =
     tie.close
     (tie.spec
-    with-byte-requires
+    (λ c κs. search needs)
     returns
     returns-2
     returns-3
-    slice-write-name
-    add-next
-    same-length
+    (λ c. search needs)
+    (λ c. search needs)
+    (λ c. search needs)
     returns-4)

@@ -5,23 +5,8 @@ use Rattle.lines.proofs.Steps.{step-blank, step-letter}
 use Rattle.lines.proofs.Reading.push.Statement.{statement}
 use Rattle.lines.proofs.Reading.push.Tie as tie
 
-is-blank-requires : tie.Need-is-blank-requires
-is-blank-requires c κs = search needs
-
-rest-requires : tie.Need-rest-requires
-rest-requires c κs = search needs
-
-same-length : tie.Need-same-length
-same-length c = search needs
-
 returns : tie.Need-returns
 returns c = step-blank _ _ _ (sym (c .before .before .before .before .before .is-blank .ensures) ∙ c .before .before .before .before .if1 .taken) (c .before .before .rest .ensures (c .before .before .before .before .before .before .before .before .args .name .now))
-
-letter-requires : tie.Need-letter-requires
-letter-requires c κs = search needs
-
-same-length-2 : tie.Need-same-length-2
-same-length-2 c = search needs
 
 returns-2 : tie.Need-returns-2
 returns-2 c = step-letter _ _ _ (sym (c .before .before .before .before .before .is-blank .ensures) ∙ c .before .before .before .before .if1 .left) (c .before .before .letter .ensures (c .before .before .before .before .before .before .before .before .args .numbers .now))
@@ -30,10 +15,10 @@ pub push-spec : {M : Type 1} → statement M
 push-spec =
     tie.close
     (tie.spec
-    is-blank-requires
-    rest-requires
-    same-length
+    (λ c κs. search needs)
+    (λ c κs. search needs)
+    (λ c. search needs)
     returns
-    letter-requires
-    same-length-2
+    (λ c κs. search needs)
+    (λ c. search needs)
     returns-2)

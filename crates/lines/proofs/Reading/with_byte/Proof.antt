@@ -14,36 +14,18 @@ returns c =
     let s = c .before .before .args in
     word-other (s .self) (s .b) (s .self .number) (not-true (s .self .number) (c .if1 .taken)) (stays-other (s .self .number) (s .self .value) (s .b) (not-true (s .self .number) (c .if1 .taken)))
 
-is-digit-requires : tie.Need-is-digit-requires
-is-digit-requires c κs = search needs
-
 returns-2 : tie.Need-returns-2
 returns-2 c =
     let s = c .before .before .before .before .args in
     word-other (s .self) (s .b) false refl (stays-letter (s .self .number) (s .self .value) (s .b) (sym (c .before .is-digit .ensures) ∙ not-true (c .before .is-digit .result) (c .if2 .taken)))
 
-long-requires : tie.Need-long-requires
-long-requires c κs = search needs
-
-mul-value : tie.Need-mul-value
-mul-value c = search needs
-
-wide-requires : tie.Need-wide-requires
-wide-requires c κs = search needs
-
 sub-value : tie.Need-sub-value
 sub-value c = omega (arith, digit-least (c .before .before .before .before .before .before .args .b) (sym (c .before .before .before .is-digit .ensures) ∙ not-false (c .before .before .before .is-digit .result) (c .before .before .if2 .left)))
-
-add-value : tie.Need-add-value
-add-value c = search needs
 
 returns-3 : tie.Need-returns-3
 returns-3 c =
     let s = c .before .before .before .before .before .before .before .args in
     word-other (s .self) (s .b) false refl (stays-over (s .self .number) (s .self .value) (s .b) (omega arith))
-
-cast-next : tie.Need-cast-next
-cast-next c = search needs
 
 returns-4 : tie.Need-returns-4
 returns-4 c =
@@ -55,13 +37,13 @@ with-byte-spec =
     tie.close
     (tie.spec
     returns
-    is-digit-requires
+    (λ c κs. search needs)
     returns-2
-    long-requires
-    mul-value
-    wide-requires
+    (λ c κs. search needs)
+    (λ c. search needs)
+    (λ c κs. search needs)
     sub-value
-    add-value
+    (λ c. search needs)
     returns-3
-    cast-next
+    (λ c. search needs)
     returns-4)
