@@ -16,32 +16,33 @@ use Rattle.words.specs.Keys.{ones, isOnes, val}
 use Rattle.words.proofs.All.{allWords-replicate, below-ones}
 use Rattle.words.proofs.Values.{keyLt-val-lt}
 use Rattle.table.specs.Tables.{count, row, keyAt, rowAbove}
-use Rattle.drum.specs.declared.Description.{Description}
 use Rattle.drum.specs.Params.{detailShape}
-use Rattle.drum.specs.Blocks.{Texts, Transfer, textOf}
+use Rattle.drum.specs.Blocks.{Transfer, textOf}
 use Rattle.drum.proofs.Good.{good-facts}
 use Rattle.rules.specs.declared.Path.{Path}
 use Rattle.rules.specs.declared.Way.the-variants.{By}
 use Rattle.rules.specs.declared.Step.{Step}
 use Rattle.rules.specs.declared.Step.the-variants as step-is
-use Rattle.rules.specs.State.{State, Outcome, Effect, desc, texts, keyIn, positionKey, outcome, settle}
+use Rattle.rules.specs.State.{State, Outcome, Effect, desc, keyIn, positionKey, outcome, settle}
 use Rattle.rules.specs.Paths.{pathTo, firstPath}
 use Rattle.rules.specs.Lookup.{Reached, bringing}
 use Rattle.rules.specs.Seek.{giving}
 use Rattle.rules.specs.Adv.{nextRow, advBeyond, advAt, advOutside, advStep, advGiving, advDone, advSteps, adv}
+use Rattle.rules.proofs.Sizes.{bring-few}
+use Rattle.demands.proofs.Scene.{Scene, scene}
 use Rattle.demands.proofs.Lists.{All, all-right}
 use Rattle.demands.proofs.Order.{below, from, below-from}
 use Rattle.layout.specs.Tree.{Section}
-use Rattle.demands.proofs.Trees.{leavesOf, contents, key, table}
-use Rattle.demands.proofs.Holds.{Free, Holds, LeafOk, RowOk}
+use Rattle.demands.proofs.Trees.{leavesIn, recordsIn, key, table}
+use Rattle.demands.proofs.Holds.{Free, HoldsCells, LeafFits, RowOk}
 use Rattle.demands.proofs.Places.{Place, treeOf, lo, hi, leaf-text, leaf-ok, from-here}
 use Rattle.demands.proofs.Texts.{count-table}
-use Rattle.demands.proofs.Blocks.{masterOf, writes}
+use Rattle.demands.proofs.Blocks.{masterOf, cellsWritten}
 use Rattle.demands.proofs.Paths.{pathOf}
 use Rattle.demands.proofs.Records.{above-at, place-above, row-here, key-here, key-long}
-use Rattle.demands.proofs.Sound.{Key, Kept, Sound, leftBy}
+use Rattle.demands.proofs.Sound.{Key, KeptTree, Sound, textsLeft}
 use Rattle.demands.proofs.Answers.{sizes-pass, work-pass, open-pass, Gives}
-use Rattle.demands.proofs.Reach.{flush-pass, bring, bring-cost}
+use Rattle.demands.proofs.Reach.{flush-pass, bring}
 use Rattle.demands.proofs.Stores.{give-gives}
 use Rattle.demands.proofs.Growth.{nothing}
 
@@ -52,8 +53,8 @@ mark st = cond (st .session .placed) (suc (val (positionKey (st .session)))) 0
 -- the first record above the position is handed out: "for the end record the answer is 030002"
 abbrev pub AdvRight : State → List Section → Free → Type 0
 AdvRight st ss f =
-    (r : List ℕ) × (cs : List (List ℕ)) × (from (key (desc st .k)) (mark st) (contents (leavesOf ss)) ≡ r ∷ cs)
-    × Gives st ss (adv st) (cond (isOnes (keyIn (desc st) r)) atEnd done) 5 (contents (leavesOf ss)) nothing ss f × (adv st .after .work ≡ r)
+    (r : List ℕ) × (cs : List (List ℕ)) × (from (key (desc st .k)) (mark st) (recordsIn (leavesIn ss)) ≡ r ∷ cs)
+    × Gives st ss (adv st) (cond (isOnes (keyIn (desc st) r)) atEnd done) 5 (recordsIn (leavesIn ss)) nothing ss f × (adv st .after .work ≡ r)
 
 below-zero : (K : List ℕ → ℕ) (xs : List (List ℕ)) → below K 0 xs ≡ []
 unfolding below
@@ -67,34 +68,17 @@ from-some K y (x ∷ xs) r l e = go (decLt (K x) y) (from-some K y xs r l)
   where
     go : Dec (K x < y) → (from K y (xs ++ r ∷ []) ≡ [] → ⊥) → ⊥
     go (yes q) f = f (sym (rw (lt-ltb (K x) y q)) ∙ e)
-    go (no n) f = absurd (let z : _≡_ {A = List (List ℕ)} (x ∷ (xs ++ r ∷ [])) [] = sym (rw (le-ltb (K x) y (omega arith))) ∙ e in let z : _≡_ {A = ℕ} 0 1 = cc in omega arith)
+    go (no n) f =
+        absurd
+        (let z : _≡_ {A = List (List ℕ)} (x ∷ (xs ++ r ∷ [])) [] = sym (rw (le-ltb (K x) y (omega arith))) ∙ e in let z : _≡_ {A = ℕ} 0 1 = cc in omega arith)
 
 module _ (st : State) (ss : List Section) (f : Free) (h : Sound st ss f) (o : st .session .opened ≡ true) (wl : length (st .work) ≡ desc st .wpr) where
-  abbrev p : Description
-  p = desc st
-
-  abbrev v : Texts
-  v = texts st
-
-  abbrev flag : Bool
-  flag = st .session .flag
-
-  abbrev placed : Bool
-  placed = st .session .placed
-
-  abbrev at : List ℕ
-  at = positionKey (st .session)
-
-  abbrev K : List ℕ → ℕ
-  K = key (desc st .k)
-
-  abbrev rows : List (List ℕ)
-  rows = contents (leavesOf ss)
+  open Scene (scene st ss) using (p, v, flag, placed, at, K, rows)
 
   kr : p .k ≤ p .wpr
   kr = good-facts p (h .kept .good) .key
 
-  held : Holds p (masterOf p (st .file)) (textOf v) ss f
+  held : HoldsCells p (masterOf p (st .file)) (textOf v) ss f
   held = h .kept .holds
 
   -- the search in a detail block
@@ -110,12 +94,17 @@ module _ (st : State) (ss : List Section) (f : Free) (h : Sound st ss f) (o : st
 
   -- there is a record above the position in these rows, or not
   pub found-row : (rs : List (List ℕ)) (r : List ℕ) (cs : List (List ℕ)) → from K (mark st) rs ≡ r ∷ cs → ltb (length (below K (mark st) rs)) (length rs) ≡ true
-  found-row rs r cs fr = lt-ltb (length (below K (mark st) rs)) (length rs) (omega (arith, ap length (cut-rows rs r cs fr), length-append (below K (mark st) rs) (r ∷ cs)))
+  found-row rs r cs fr =
+      lt-ltb (length (below K (mark st) rs)) (length rs) (omega (arith, ap length (cut-rows rs r cs fr), length-append (below K (mark st) rs) (r ∷ cs)))
 
   pub no-row : (rs : List (List ℕ)) → from K (mark st) rs ≡ [] → ltb (length (below K (mark st) rs)) (length rs) ≡ false
   no-row rs fr =
       le-ltb (length (below K (mark st) rs)) (length rs)
-      (omega (arith, ap length (sym (below-from K (mark st) rs) ∙ ap (λ (z : List (List ℕ)). below K (mark st) rs ++ z) fr ∙ append-nil (below K (mark st) rs))))
+      (omega (
+        arith,
+        ap length (sym (below-from K (mark st) rs) ∙ ap (λ (z : List (List ℕ)). below K (mark st) rs ++ z) fr ∙ append-nil
+            (below K (mark st) rs)),
+      ))
 
   -- ---- the record that the steps come to is handed out
 
@@ -124,7 +113,8 @@ module _ (st : State) (ss : List Section) (f : Free) (h : Sound st ss f) (o : st
   adv-by s e es ee = simp (sizes-pass st ss f h, work-pass st wl, open-pass st o, es, ee)
 
   pub adv-done : (here : Reached) → length (here .moves) ≤ 5 → (rs : List (List ℕ)) → here .buffer ≡ table (p .wpb) rs → All (RowOk p) rs
-      → Kept (leftBy v here) (here .flag) ss f → (r : List ℕ) (cs : List (List ℕ)) → from K (mark st) rs ≡ r ∷ cs → adv st ≡ outcome (st .session) (advGiving v here (length (below K (mark st) rs)))
+      → KeptTree (textsLeft v here) (here .flag) ss f → (r : List ℕ) (cs : List (List ℕ)) → from K (mark st) rs ≡ r ∷ cs → adv st
+      ≡ outcome (st .session) (advGiving v here (length (below K (mark st) rs)))
       → (rest : List (List ℕ)) → from K (mark st) rows ≡ r ∷ rest → AdvRight st ss f
   unfolding advGiving outcome giving part
   adv-done here cost rs b ok kept r cs fr out rest g =
@@ -133,7 +123,8 @@ module _ (st : State) (ss : List Section) (f : Free) (h : Sound st ss f) (o : st
       let oks : All (RowOk p) (bs ++ r ∷ cs) = subst (All (RowOk p)) rs-is ok in
       let rok : RowOk p r = all-right (RowOk p) bs _ oks .0 in
       let buf : here .buffer ≡ table (p .wpb) (bs ++ r ∷ cs) = b ∙ ap (table (p .wpb)) rs-is in
-      let row-is : row (detailShape p) (here .buffer) (length bs) ≡ r = ap (λ (t : List ℕ). row (detailShape p) t (length bs)) buf ∙ row-here p kr bs r cs oks in
+      let row-is : row (detailShape p) (here .buffer) (length bs) ≡ r
+      = ap (λ (t : List ℕ). row (detailShape p) t (length bs)) buf ∙ row-here p kr bs r cs oks in
       let ky : isOnes (keyAt (detailShape p) (here .buffer) (length bs)) ≡ isOnes (keyIn p r)
       = ap isOnes (ap (λ (t : List ℕ). keyAt (detailShape p) t (length bs)) buf ∙ key-here p kr bs r cs oks) in
       let out₂ : adv st ≡ outcome (st .session) (giving v here (cond (isOnes (keyIn p r)) atEnd done) (length bs) (not (isOnes (keyIn p r))))
@@ -146,7 +137,9 @@ module _ (st : State) (ss : List Section) (f : Free) (h : Sound st ss f) (o : st
             (λ e. let kl : (length (take (p .k) r) ≡ p .k) × (allWords (take (p .k) r) ≡ true) = key-long p kr r rok in record {
               long = kl .0;
               wide = kl .1;
-              below = keyLt-val-lt (take (p .k) r) (ones (p .k)) (kl .1) (allWords-replicate (p .k) topWord (omega arith)) (kl .0 ∙ sym (length-replicate {A = ℕ} (p .k) topWord))
+              below =
+                  keyLt-val-lt (take (p .k) r) (ones (p .k)) (kl .1) (allWords-replicate (p .k) topWord (omega arith))
+                  (kl .0 ∙ sym (length-replicate {A = ℕ} (p .k) topWord))
                   (below-ones (p .k) (take (p .k) r) (kl .0) (kl .1) (not-true _ e));
             })),
         ap (λ (z : Outcome). z .after .work) out₂ ∙ row-is,
@@ -168,25 +161,29 @@ module _ (st : State) (ss : List Section) (f : Free) (h : Sound st ss f) (o : st
       go false e = omega arith
 
   module _ (a : Place) (z : ss ≡ treeOf a) where
-    pub hz : Holds p (masterOf p (st .file)) (textOf v) (treeOf a) f
-    hz = subst (λ (s : List Section). Holds p (masterOf p (st .file)) (textOf v) s f) z held
+    pub hz : HoldsCells p (masterOf p (st .file)) (textOf v) (treeOf a) f
+    hz = subst (λ (s : List Section). HoldsCells p (masterOf p (st .file)) (textOf v) s f) z held
 
-    pub lok : LeafOk p (a .leaf)
+    pub lok : LeafFits p (a .leaf)
     lok = leaf-ok p a f _ _ hz
 
-    pub from-rows : lo p a ≤ mark st → mark st ≤ hi p a → from K (mark st) rows ≡ from K (mark st) (a .leaf .records) ++ contents (a .high ++ leavesOf (a .behind))
-    from-rows l u = ap (λ (s : List Section). from K (mark st) (contents (leavesOf s))) z ∙ from-here p a f _ _ hz (mark st) l u
+    pub from-rows : lo p a ≤ mark st → mark st ≤ hi p a
+        → from K (mark st) rows ≡ from K (mark st) (a .leaf .records) ++ recordsIn (a .high ++ leavesIn (a .behind))
+    from-rows l u = ap (λ (s : List Section). from K (mark st) (recordsIn (leavesIn s))) z ∙ from-here p a f _ _ hz (mark st) l u
 
     pub text-is : textOf v (a .leaf .block) ≡ table (p .wpb) (a .leaf .records)
     text-is = leaf-text p a f _ _ hz
 
     -- it was brought, and has a record above the position
-    pub brought : (reads : List Transfer) → writes reads ≡ [] → length reads ≤ 4 → adv st ≡ outcome (st .session) (advGiving v (bringing v flag (a .leaf .block) reads) (length (below K (mark st) (a .leaf .records))))
-        → (r : List ℕ) (rs : List (List ℕ)) → from K (mark st) (a .leaf .records) ≡ r ∷ rs → (rest : List (List ℕ)) → from K (mark st) rows ≡ r ∷ rest → AdvRight st ss f
+    pub brought : (reads : List Transfer) → cellsWritten reads ≡ [] → length reads ≤ 4
+        → adv st ≡ outcome (st .session) (advGiving v (bringing v flag (a .leaf .block) reads) (length (below K (mark st) (a .leaf .records))))
+        → (r : List ℕ) (rs : List (List ℕ)) → from K (mark st) (a .leaf .records) ≡ r ∷ rs → (rest : List (List ℕ)) → from K (mark st) rows ≡ r ∷ rest
+        → AdvRight st ss f
     unfolding bringing
     brought reads quiet cost e r rs fr rest g =
-        adv-done (bringing v flag (a .leaf .block) reads) (omega (arith, bring-cost v flag (a .leaf .block) reads)) (a .leaf .records) text-is (lok .rows)
-        (bring v flag ss f (h .kept) reads quiet (a .leaf .block) (textOf v (a .leaf .block)) (inr (record { place = a; is = z; block = refl }, refl))) r rs fr e rest g
+        adv-done (bringing v flag (a .leaf .block) reads) (omega (arith, bring-few v flag (a .leaf .block) reads)) (a .leaf .records) text-is (lok .rows)
+        (bring v flag ss f (h .kept) reads quiet (a .leaf .block) (textOf v (a .leaf .block))
+        (inr (record { place = a; is = z; block = refl }, refl))) r rs fr e rest g
 
     -- the first block that the steps come to
     module _ (way : cond placed (pathTo v at) (firstPath v) ≡ passed (pathOf a)) where
@@ -194,8 +191,11 @@ module _ (st : State) (ss : List Section) (f : Free) (h : Sound st ss f) (o : st
           (passed (step-is.At (By (pathOf a)) (length (below K (mark st) (a .leaf .records))))) (advBeyond v placed at (pathOf a))
       unfolding advOutside advAt
       arrive =
-          let i : nextRow v placed at (textOf v (a .leaf .block)) ≡ length (below K (mark st) (a .leaf .records)) = ap (nextRow v placed at) text-is ∙ next-row (a .leaf .records) (lok .rows) in
+          let i : nextRow v placed at (textOf v (a .leaf .block)) ≡ length (below K (mark st) (a .leaf .records))
+          = ap (nextRow v placed at) text-is ∙ next-row (a .leaf .records) (lok .rows) in
           let c : count (textOf v (a .leaf .block)) ≡ length (a .leaf .records) = ap count text-is ∙ count-table (p .wpb) (a .leaf .records) in
           ap (λ (m : Checked Path). m >>= (λ w. advAt v flag placed at w)) way
-          ∙ ap (λ (t : Bool). require t badFile >> cond (ltb (nextRow v placed at (textOf v (a .leaf .block))) (count (textOf v (a .leaf .block)))) (passed (step-is.At (By (pathOf a)) (nextRow v placed at (textOf v (a .leaf .block))))) (advBeyond v placed at (pathOf a))) (flush-pass v flag ss f (h .kept))
+          ∙ ap (λ (t : Bool). require t badFile >> cond (ltb (nextRow v placed at (textOf v (a .leaf .block))) (count (textOf v (a .leaf .block))))
+          (passed (step-is.At (By (pathOf a)) (nextRow v placed at (textOf v (a .leaf .block))))) (advBeyond v placed at (pathOf a)))
+          (flush-pass v flag ss f (h .kept))
           ∙ ap₂ (λ (j m : ℕ). cond (ltb j m) (passed (step-is.At (By (pathOf a)) j)) (advBeyond v placed at (pathOf a))) i c

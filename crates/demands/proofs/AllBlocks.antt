@@ -8,9 +8,9 @@ use lib.ListN.{length, length-append, length-map}
 use borrow.Author.Tests.{le-leb}
 use Rattle.drum.specs.declared.Description.{Description}
 use Rattle.layout.specs.Tree.{Section}
-use Rattle.demands.proofs.Cells.{Cell, is, is-self, is-same, is-not, weigh, times}
-use Rattle.demands.proofs.Trees.{leavesOf, leafCell, indexText, cellsOf}
-use Rattle.demands.proofs.Holds.{Free, Holds, inside, inside-le, chainCells, freshCells, freeCells}
+use Rattle.demands.proofs.Cells.{Cell, is, is-self, is-same, is-not, weigh, cellTimes}
+use Rattle.demands.proofs.Trees.{leavesIn, leafCell, indexText, cellsOf}
+use Rattle.demands.proofs.Holds.{Free, HoldsCells, inside, inside-le, chainCells, freshCells, freeCells}
 use Rattle.demands.proofs.Places.{inside-low}
 
 -- a number of each block 1..n, summed
@@ -66,8 +66,8 @@ over-inside n zero l = refl
 over-inside n (suc m) l = omega (arith, over-inside n m (omega arith), inside-one n (suc m) (omega arith) l)
 
 -- each cell of a block of the file is counted once
-over-times : (n : ℕ) (cs : List Cell) → ((b : ℕ) → 1 ≤ times b cs → 1 ≤ inside n b) → over (λ b. times b cs) n ≡ length cs
-unfolding times weigh
+over-times : (n : ℕ) (cs : List Cell) → ((b : ℕ) → 1 ≤ cellTimes b cs → 1 ≤ inside n b) → over (λ b. cellTimes b cs) n ≡ length cs
+unfolding cellTimes weigh
 over-times n [] h = over-zero n
 over-times n (c ∷ cs) h =
     let one : inside n (c .0) ≡ 1 = let l : 1 ≤ inside n (c .0) = h (c .0) (omega (arith, is-self (c .0))) in omega (arith, inside-le n (c .0)) in
@@ -83,21 +83,22 @@ fresh-length : (p : Description) (b n : ℕ) → length (freshCells p b n) ≡ n
 fresh-length p b zero = refl
 fresh-length p b (suc n) = ap suc (fresh-length p (b + 1) n)
 
-cells-length : (wpb : ℕ) (ss : List Section) → length (cellsOf wpb ss) ≡ length ss + length (leavesOf ss)
+cells-length : (wpb : ℕ) (ss : List Section) → length (cellsOf wpb ss) ≡ length ss + length (leavesIn ss)
 unfolding cellsOf
 cells-length wpb [] = refl
 cells-length wpb (s ∷ ss) =
     let here : List Cell = (s .block, indexText wpb (s .leaves)) ∷ map (leafCell wpb) (s .leaves) in
-    omega (arith, length-append here (cellsOf wpb ss), length-map (s .leaves) (leafCell wpb), cells-length wpb ss, length-append (s .leaves) (leavesOf ss))
+    omega (arith, length-append here (cellsOf wpb ss), length-map (s .leaves) (leafCell wpb), cells-length wpb ss, length-append (s .leaves) (leavesIn ss))
 
 -- every block below word 2 is in use or on the chain
-pub below-lowest : (p : Description) (master : List ℕ) (text : ℕ → List ℕ) (ss : List Section) (f : Free) → Holds p master text ss f
-    → f .lowest ≡ 1 + (length (leavesOf ss) + length ss) + length (f .chain)
+pub below-lowest : (p : Description) (master : List ℕ) (text : ℕ → List ℕ) (ss : List Section) (f : Free) → HoldsCells p master text ss f
+    → f .lowest ≡ 1 + (length (leavesIn ss) + length ss) + length (f .chain)
 unfolding freeCells
 below-lowest p master text ss f h =
     let cs : List Cell = cellsOf (p .wpb) ss ++ freeCells p f in
-    let all : over (λ b. times b cs) (p .n) ≡ length cs = over-times (p .n) cs (λ b l. omega (arith, h .once b)) in
-    let n : over (λ b. times b cs) (p .n) ≡ p .n = over-ext (λ b. times b cs) (inside (p .n)) (h .once) (p .n) ∙ over-inside (p .n) (p .n) (omega arith) in
+    let all : over (λ b. cellTimes b cs) (p .n) ≡ length cs = over-times (p .n) cs (λ b l. omega (arith, h .once b)) in
+    let n : over (λ b. cellTimes b cs) (p .n) ≡ p .n
+    = over-ext (λ b. cellTimes b cs) (inside (p .n)) (h .once) (p .n) ∙ over-inside (p .n) (p .n) (omega arith) in
     let free : length (freeCells p f) ≡ length (f .chain) + f .spare
     = omega (
       arith,

@@ -1,22 +1,20 @@
 -- "Demand 3 alone would pass the first": a routine that opens files and refuses all else meets demand 3, and demand 2 shuts it out. And demand 3 of `answer`.
 use Prim.Native.Nat.{ℕ, _+_, _-_, _*_}
-use mathlib.Core.Bool.{Bool}
 use mathlib.Core.Path.{_≡_, refl, sym, ap}
 use mathlib.Core.List.{List, [], _∷_}
 use native.Mathlib.Omega.{arith}
 use lib.ListN.{length}
-use Rattle.numbers.specs.Checked.{Checked, passed, refused}
 use Rattle.drum.specs.Params.{FD, FI}
-use Rattle.layout.specs.Inspect.{layoutMarks}
 use Rattle.rules.specs.State.{State, Outcome, desc, lent}
-use Rattle.rules.specs.Open.{create, openChecks, openDone, openLayout, openFile}
+use Rattle.rules.specs.Open.{create}
 use Rattle.rules.specs.Requests.{Request, opening, closing, seeking, advancing, inserting, deleting, updating, extending, lending, answer, tally}
 use Rattle.demands.specs.Formula.{hD, hI, detailBlocks, indexBlocks, newDetails, newIndexes, ofNsert, ofXtend, M, S, s, X, x, allTransfers, shares}
 use Rattle.demands.specs.Formula.{Within}
 use Rattle.demands.specs.Routines.{tallyBy, MBy, SBy, sBy, XBy, xBy, transfersBy, sharesBy, WithinBy, Demand3By}
 use Rattle.demands.specs.WrongRoutines.{RefusesEverything, refuser, PassesAlone}
+use Rattle.demands.proofs.Costs.{open-none}
 use Rattle.demands.proofs.Demands.{session-formula}
-use Rattle.demands.proofs.Routines.{impossible}
+use Rattle.demands.proofs.Refused.{impossible}
 use Rattle.demands.proofs.WrongRoutines.{shuts-out}
 
 tally-none : (value : State → Request → Outcome → ℕ) → ((st : State) (q : Request) → value st q (refuser st q) ≡ 0) → (qs : List Request) (st : State)
@@ -24,18 +22,6 @@ tally-none : (value : State → Request → Outcome → ℕ) → ((st : State) (
 unfolding tallyBy
 tally-none value h [] st = refl
 tally-none value h (q ∷ qs) st = omega (arith, h st q, tally-none value h qs (refuser st q .after))
-
-open-none : (st : State) (marks : List ℕ) → length (openFile st marks .outcome .transfers) ≡ 0
-unfolding openFile openDone openLayout
-open-none st marks = go (openChecks st marks)
-  where
-    laid : (c : Checked (List ℕ)) → length (openLayout st c .outcome .transfers) ≡ 0
-    laid (refused n) = refl
-    laid (passed m) = refl
-
-    go : (c : Checked Bool) → length (openDone st marks c .outcome .transfers) ≡ 0
-    go (refused n) = refl
-    go (passed t) = laid (layoutMarks (desc st) (st .file))
 
 no-transfers : (st : State) (q : Request) → length (refuser st q .transfers) ≡ 0
 unfolding refuser answer

@@ -10,9 +10,7 @@ use Rattle.numbers.specs.Numbers.{done, noneFree, noRoom, atEnd}
 use Rattle.words.specs.Words.{part}
 use Rattle.words.specs.Keys.{ones, isOnes, val}
 use Rattle.words.proofs.All.{isOnes-true}
-use Rattle.drum.specs.declared.Description.{Description}
 use Rattle.drum.specs.Params.{D}
-use Rattle.drum.proofs.Good.{good-facts}
 use Rattle.layout.specs.Create.{endRecord}
 use Rattle.layout.specs.Tree.{Section, Tree}
 use Rattle.layout.specs.Tree as lay
@@ -24,52 +22,38 @@ use Rattle.rules.specs.Requests.{seeking, advancing, inserting, deleting, updat
 use Rattle.demands.specs.History.{withKey}
 use Rattle.demands.specs.Promises.{putBack}
 use Rattle.demands.specs.Contents.{recordsAbove, Contains}
-use Rattle.demands.specs.Answers.{Lent, Keyed, ordinary, recordsFrom, abovePosition, lastBlock, Sought, Met, Inserted, Advanced, Extended, Answered, CallAnswers}
+use Rattle.demands.specs.Answers.{Lent, Keyed, ordinary, recordsFrom, abovePosition, lastBlock, Sought, Met, Inserted, Advanced, Extended, Answered}
+use Rattle.demands.specs.Answers.{CallAnswers}
+use Rattle.demands.proofs.Scene.{Scene, scene}
 use Rattle.demands.proofs.Lists.{All, all-right, last-same}
 use Rattle.demands.proofs.Order.{Asc, asc-le, asc-right, below, from, below-from, from-above, hit}
-use Rattle.demands.proofs.Trees.{leavesOf, contents, key, reach}
+use Rattle.demands.proofs.Trees.{leavesIn, recordsIn, key, reach}
 use Rattle.demands.proofs.Holds.{Free, RowOk}
 use Rattle.demands.proofs.Records.{key-long}
 use Rattle.demands.proofs.Sound.{Sound}
 use Rattle.demands.proofs.Answers.{Ready, key-of}
 use Rattle.demands.proofs.Frees.{taken}
-use Rattle.demands.proofs.Stores.{asc-rows}
 use Rattle.demands.proofs.Step.{lent-sound}
 use Rattle.demands.proofs.Seek.{SeekRight, seek-right, UpdatRight, updat-right}
 use Rattle.demands.proofs.DleteRight.{DleteRight, dlete-right}
 use Rattle.demands.proofs.NsertRight.{Nserted, duplicate, room, split, both, no-room, nsert-right}
 use Rattle.demands.proofs.Adv.{AdvRight, mark}
 use Rattle.demands.proofs.AdvRight.{adv-right}
-use Rattle.demands.proofs.Reader.{leaves-in}
-use Rattle.demands.proofs.Standing.{with-hit, rows-of, rows-ok}
+use Rattle.demands.proofs.Standing.{with-hit, Ordered, ordered}
 use Rattle.demands.proofs.Opens.{flushed-stands}
-use Rattle.demands.proofs.Contents.{above-is, read-in}
+use Rattle.demands.proofs.Contents.{above-is}
 use Rattle.demands.proofs.Extends.{stored-one, xtend-answers}
 use Rattle.demands.proofs.Promised.{after-open}
 
 module _ (st : State) (ss : List Section) (f : Free) (h : Sound st ss f) where
-  abbrev p : Description
-  p = desc st
-
-  abbrev K : List ℕ → ℕ
-  K = key (desc st .k)
-
-  abbrev rows : List (List ℕ)
-  rows = contents (leavesOf ss)
-
-  kr : p .k ≤ p .wpr
-  kr = good-facts p (h .kept .good) .key
-
-  asc : Asc K 0 rows (reach (p .k) 0 (leavesOf ss))
-  asc = asc-rows p _ _ ss f (h .kept .holds)
-
-  ok : All (RowOk p) rows
-  ok = rows-of p (leavesOf ss) (rows-ok p ss (h .kept .holds .sized))
+  open Scene (scene st ss) using (p, K, rows)
+  open Ordered (ordered st ss f h) using (kr, asc, ok)
 
   -- a keyed call that is not refused
   pub readied : (reads : ℕ) (w : List ℕ) → Keyed st reads w → Ready reads (lending w st) ss f
   unfolding lending keyOk
-  readied reads w a = record { sound = lent-sound w st ss f h; opened = a .0 .0; work-length = a .0 .1; asked = simp (ap₂ (λ (x y : Bool). x && not y) (a .1) (a .2)) }
+  readied reads w a =
+      record { sound = lent-sound w st ss f h; opened = a .0 .0; work-length = a .0 .1; asked = simp (ap₂ (λ (x y : Bool). x && not y) (a .1) (a .2)) }
 
   -- the records with its key, by their numbers
   with-is : (reads : ℕ) (w : List ℕ) → Keyed st reads w → p .k ≤ reads → reads ≤ p .wpr → withKey p (keyIn p w) rows ≡ hit K (val (keyIn p w)) rows
@@ -126,11 +110,16 @@ module _ (st : State) (ss : List Section) (f : Free) (h : Sound st ss f) where
       go : Nserted (lending w st) ss f → Inserted (withKey p (keyIn p w) rows) (answer st (inserting w))
       go (duplicate y e g) = subst (λ (x : List (List ℕ)). Inserted x (answer st (inserting w))) (sym (is ∙ e)) (g .number-is)
       go (no-room e a i l m g) = new e (inr (inr (g .number-is)))
-      go (room e a i l g) = new e (in-two (answer st (inserting w) .number) (stored-one p (length (a .leaf .records) + 1) f (answer st (inserting w) .number) (g .number-is)))
-      go (split e a i l m s k q g) = new e (in-two (answer st (inserting w) .number) (stored-one p (halfCount (D p) k) (taken f) (answer st (inserting w) .number) (g .number-is)))
-      go (both e a i l m s c k q g) = new e (in-two (answer st (inserting w) .number) (stored-one p (halfCount (D p) k) (taken (taken f)) (answer st (inserting w) .number) (g .number-is)))
+      go (room e a i l g) =
+          new e (in-two (answer st (inserting w) .number) (stored-one p (length (a .leaf .records) + 1) f (answer st (inserting w) .number) (g .number-is)))
+      go (split e a i l m s k q g) =
+          new e (in-two (answer st (inserting w) .number) (stored-one p (halfCount (D p) k) (taken f) (answer st (inserting w) .number) (g .number-is)))
+      go (both e a i l m s c k q g) =
+          new e
+          (in-two (answer st (inserting w) .number) (stored-one p (halfCount (D p) k) (taken (taken f)) (answer st (inserting w) .number) (g .number-is)))
 
-  extend-answers : (w : List ℕ) → Keyed st (p .wpr) w → Extended p (lastBlock (leavesOf ss)) (ordinary p (recordsFrom p (keyIn p w) rows)) (answer st (extending w))
+  extend-answers : (w : List ℕ) → Keyed st (p .wpr) w
+      → Extended p (lastBlock (leavesIn ss)) (ordinary p (recordsFrom p (keyIn p w) rows)) (answer st (extending w))
   unfolding answer lending
   extend-answers w a = xtend-answers (lending w st) ss f (readied (p .wpr) w a)
 
@@ -139,7 +128,8 @@ module _ (st : State) (ss : List Section) (f : Free) (h : Sound st ss f) where
   above-position : abovePosition (st .session) rows ≡ from K (mark st) rows
   above-position = go (st .session .placed) refl
     where
-      go : (t : Bool) → st .session .placed ≡ t → cond t (recordsAbove p (positionKey (st .session)) rows) rows ≡ from K (cond t (suc (val (positionKey (st .session)))) 0) rows
+      go : (t : Bool) → st .session .placed ≡ t
+          → cond t (recordsAbove p (positionKey (st .session)) rows) rows ≡ from K (cond t (suc (val (positionKey (st .session)))) 0) rows
       go true e = above-is p kr (positionKey (st .session)) (h .placed e) 0 rows _ asc ok
       go false e = sym (from-above K 0 rows _ asc)
 
@@ -148,7 +138,8 @@ module _ (st : State) (ss : List Section) (f : Free) (h : Sound st ss f) where
   adv-answers w a = go (adv-right (lending w st) ss f (lent-sound w st ss f h) (a .0) (a .1))
     where
       go : AdvRight (lending w st) ss f → Advanced p (ordinary p (abovePosition (st .session) rows)) (answer st (advancing w))
-      go (r, cs, e, g, z) = subst (λ (x : List (List ℕ)). Advanced p (ordinary p x) (answer st (advancing w))) (sym (above-position ∙ e)) (by (isOnes (keyIn p r)) refl)
+      go (r, cs, e, g, z) =
+          subst (λ (x : List (List ℕ)). Advanced p (ordinary p x) (answer st (advancing w))) (sym (above-position ∙ e)) (by (isOnes (keyIn p r)) refl)
         where
           cut : rows ≡ below K (mark st) rows ++ r ∷ cs
           cut = sym (below-from K (mark st) rows) ∙ ap (λ (x : List (List ℕ)). below K (mark st) rows ++ x) e
@@ -158,10 +149,14 @@ module _ (st : State) (ss : List Section) (f : Free) (h : Sound st ss f) where
 
           -- nothing is behind a key ONES, so it is the end record's
           ends : isOnes (keyIn p r) ≡ true → (ds : List (List ℕ)) → cs ≡ ds → (cs ≡ []) × (r ≡ endRecord p)
-          ends o [] q = (q, last-same (below K (mark st) rows) r (h .kept .ended .front) (endRecord p) (ap (λ (x : List (List ℕ)). below K (mark st) rows ++ r ∷ x) (sym q) ∙ sym cut ∙ h .kept .ended .is))
+          ends o [] q = (
+            q,
+            last-same (below K (mark st) rows) r (h .kept .ended .front) (endRecord p)
+                (ap (λ (x : List (List ℕ)). below K (mark st) rows ++ r ∷ x) (sym q) ∙ sym cut ∙ h .kept .ended .is),
+          )
           ends o (d ∷ ds) q =
               let top : K r ≡ val (ones (p .k)) = unfold key part in ap val (isOnes-true (p .k) _ (key-long p kr r rok .0) o) in
-              let s = asc-right K 0 (below K (mark st) rows) (r ∷ d ∷ ds) _ (subst (λ (x : List (List ℕ)). Asc K 0 x (reach (p .k) 0 (leavesOf ss))) (cut ∙ ap (λ (x : List (List ℕ)). below K (mark st) rows ++ r ∷ x) q) asc) in
+              let s = asc-right K 0 (below K (mark st) rows) (r ∷ d ∷ ds) _ (subst (λ (x : List (List ℕ)). Asc K 0 x (reach (p .k) 0 (leavesIn ss))) (cut ∙ ap (λ (x : List (List ℕ)). below K (mark st) rows ++ r ∷ x) q) asc) in
               absurd (omega (arith, top, s .1 .0, asc-le K (suc (K d)) ds _ (s .1 .1), h .kept .holds .top))
 
           by : (t : Bool) → isOnes (keyIn p r) ≡ t → Advanced p (ordinary p (r ∷ cs)) (answer st (advancing w))
@@ -170,16 +165,19 @@ module _ (st : State) (ss : List Section) (f : Free) (h : Sound st ss f) where
               let q : (cs ≡ []) × (r ≡ endRecord p) = ends o cs refl in
               rw (o, q .0) (g .number-is ∙ ap (λ (t : Bool). cond t atEnd done) o, z ∙ q .1)
 
-  answered : Answered st rows (lastBlock (leavesOf ss))
+  answered : Answered st rows (lastBlock (leavesIn ss))
   answered = record { seek = seek-answers; adv = adv-answers; nsert = nsert-answers; dlete = dlete-answers; updat = updat-answers; xtend = extend-answers }
 
-pub sound-answers : (st : State) (ss : List Section) (f : Free) → Sound st ss f → (rows : List (List ℕ)) → (c : Contains st rows) → Answered st rows (lastBlock (lay.leavesOf (c .tree)))
+pub sound-answers : (st : State) (ss : List Section) (f : Free) → Sound st ss f → (rows : List (List ℕ)) → (c : Contains st rows)
+    → Answered st rows (lastBlock (lay.leavesOf (c .tree)))
 sound-answers st ss f h rows c =
     let t : Tree = record { sections = ss; chain = f .chain; lowest = f .lowest } in
     let one : t ≡ c .tree = one-tree (desc st) (putBack st) t (c .tree) (h .kept .good) (flushed-stands st ss f h) (c .held) in
-    let is : contents (leavesOf ss) ≡ rows = sym (read-in ss) ∙ ap lay.contents one ∙ c .are in
-    let end : lastBlock (leavesOf ss) ≡ lastBlock (lay.leavesOf (c .tree)) = ap lastBlock (sym (leaves-in ss) ∙ ap lay.leavesOf one) in
-    subst (λ (x : List (List ℕ)). Answered st x (lastBlock (lay.leavesOf (c .tree)))) is (subst (Answered st (contents (leavesOf ss))) end (answered st ss f h))
+    let is : recordsIn (leavesIn ss) ≡ rows = ap lay.contents one ∙ c .are in
+    let end : lastBlock (leavesIn ss) ≡ lastBlock (lay.leavesOf (c .tree)) = ap lastBlock (ap lay.leavesOf one) in
+    subst (λ (x : List (List ℕ)). Answered st x (lastBlock (lay.leavesOf (c .tree)))) is
+    (subst (Answered st (recordsIn (leavesIn ss))) end (answered st ss f h))
 
 pub call-answers : CallAnswers
-call-answers = after-open (λ (st : State). (rows : List (List ℕ)) → (c : Contains st rows) → Answered st rows (lastBlock (lay.leavesOf (c .tree)))) sound-answers
+call-answers =
+    after-open (λ (st : State). (rows : List (List ℕ)) → (c : Contains st rows) → Answered st rows (lastBlock (lay.leavesOf (c .tree)))) sound-answers

@@ -17,12 +17,12 @@ use Rattle.drum.specs.declared.Description.{Description}
 use Rattle.drum.specs.Params.{every, sized, fileSize}
 use Rattle.drum.specs.Blocks.{seen}
 use Rattle.drum.proofs.Good.{Good, good-facts}
-use Rattle.rules.specs.State.{Session, State, Outcome, Effect, desc, keyIn, recordIn, holding, positioned, outcome, settle}
+use Rattle.rules.specs.State.{Session, State, Outcome, Effect, desc, lent, keyIn, recordIn, holding, positioned, outcome, settle}
 use Rattle.rules.specs.Checks.{sizesOk, workOk, isOpen, keyOk}
 use Rattle.layout.specs.Tree.{Section}
-use Rattle.demands.proofs.Trees.{leavesOf, contents, key}
+use Rattle.demands.proofs.Trees.{leavesIn, recordsIn, key}
 use Rattle.demands.proofs.Holds.{Free, RowOk}
-use Rattle.demands.proofs.Sound.{Key, Kept, Sound, no-true-false}
+use Rattle.demands.proofs.Sound.{Key, KeptTree, Sound, no-true-false}
 use Rattle.demands.proofs.Growth.{Growth, Grows}
 
 -- a keyed call that reads so many words of the workspace
@@ -68,7 +68,12 @@ work-key p work = refl
 
 pub sizes-pass : (st : State) (ss : List Section) (f : Free) → Sound st ss f → sizesOk st ≡ passed true
 unfolding sizesOk sized every
-sizes-pass st ss f h = simp (h .kept .good, eq-eqb (length (st .file)) (fileSize (desc st)) (h .kept .file-length), eq-eqb (length (st .buffer)) (desc st .wpb) (h .kept .buffer-length))
+sizes-pass st ss f h = simp (
+  h .kept .good,
+  eq-eqb (length (st .file)) (fileSize (desc st)) (h .kept .file-length),
+  eq-eqb (length (st .buffer))
+      (desc st .wpb) (h .kept .buffer-length),
+)
 
 pub work-pass : (st : State) → length (st .work) ≡ desc st .wpr → workOk st ≡ passed true
 unfolding workOk
@@ -81,40 +86,48 @@ open-pass st e = simp e
 -- ---- the answer, where the tree was ss and is then ss′ with the free blocks f′: the number, how many transfers at most, a sound state of the
 -- same file, its contents, and what the call brought
 
-pub record Gives (st : State) (ss : List Section) (o : Outcome) (number : ℕ) (most : ℕ) (rows : List (List ℕ)) (brought : Growth) (ss′ : List Section) (f′ : Free) : Type 0 where
+pub record Gives (st : State) (ss : List Section) (o : Outcome) (number : ℕ) (most : ℕ) (rows : List (List ℕ)) (brought : Growth) (ss′ : List Section)
+    (f′ : Free) : Type 0 where
   pub number-is : o .number ≡ number
   pub most-is : length (o .transfers) ≤ most
   pub desc-is : desc (o .after) ≡ desc st
   pub sound : Sound (o .after) ss′ f′
-  pub contents-is : contents (leavesOf ss′) ≡ rows
+  pub contents-is : recordsIn (leavesIn ss′) ≡ rows
   pub grows : Grows (desc st) ss ss′ brought
 
-pub gives-more : (st : State) (ss : List Section) (o : Outcome) (n few most : ℕ) (rows : List (List ℕ)) (brought : Growth) (ss′ : List Section) (f′ : Free) → Gives st ss o n few rows brought ss′ f′ → few ≤ most
+pub gives-more : (st : State) (ss : List Section) (o : Outcome) (n few most : ℕ) (rows : List (List ℕ)) (brought : Growth) (ss′ : List Section) (f′ : Free)
+    → Gives st ss o n few rows brought ss′ f′ → few ≤ most
     → Gives st ss o n most rows brought ss′ f′
 gives-more st ss o n few most rows brought ss′ f′ g l =
     record { number-is = g .number-is; most-is = omega (arith, g .most-is); desc-is = g .desc-is; sound = g .sound; contents-is = g .contents-is; grows = g .grows }
 
 module _ (st : State) (ss : List Section) (f : Free) (h : Sound st ss f) (o : st .session .opened ≡ true) (e : Effect) (ss′ : List Section) (f′ : Free)
-    (k : Kept (seen (desc st) (e .current) (e .file) (e .buffer)) (e .flag) ss′ f′) (most : ℕ) (cost : length (e .transfers) ≤ most)
+    (k : KeptTree (seen (desc st) (e .current) (e .file) (e .buffer)) (e .flag) ss′ f′) (most : ℕ) (cost : length (e .transfers) ≤ most)
     (brought : Growth) (grew : Grows (desc st) ss ss′ brought) where
+  -- what it gives, of the session that it leaves
+  leaving : (s : Session) → outcome (st .session) e .after .session ≡ s → s .desc ≡ desc st → Sound (lent s (e .file) (e .buffer) (e .work)) ss′ f′
+      → Gives st ss (outcome (st .session) e) (e .number) most (recordsIn (leavesIn ss′)) brought ss′ f′
+  unfolding outcome
+  leaving s q d z = record {
+    number-is = refl;
+    most-is = cost;
+    desc-is = ap (λ (x : Session). x .desc) q ∙ d;
+    sound = subst (λ (x : Session). Sound (lent x (e .file) (e .buffer) (e .work)) ss′ f′) (sym q) z;
+    contents-is = refl;
+    grows = grew;
+  }
+
   -- position kept
-  plain : e .keyed ≡ false → Gives st ss (outcome (st .session) e) (e .number) most (contents (leavesOf ss′)) brought ss′ f′
+  plain : e .keyed ≡ false → Gives st ss (outcome (st .session) e) (e .number) most (recordsIn (leavesIn ss′)) brought ss′ f′
   unfolding outcome holding
   plain q =
-      let s : Session = record { desc = desc st; opened = st .session .opened; current = e .current; flag = e .flag; placed = st .session .placed; position = st .session .position } in
-      let z : Sound (record { session = s; file = e .file; buffer = e .buffer; work = e .work }) ss′ f′ = record { kept = k; position = h .position; placed = h .placed; resting = λ c. no-true-false o c } in
-      let w : cond (e .keyed) (positioned (keyIn (desc st) (e .work)) s) s ≡ s = ap (λ (t : Bool). cond t (positioned (keyIn (desc st) (e .work)) s) s) q in
-      record {
-        number-is = refl;
-        most-is = cost;
-        desc-is = ap (λ (x : Session). x .desc) w;
-        sound = subst (λ (x : Session). Sound (record { session = x; file = e .file; buffer = e .buffer; work = e .work }) ss′ f′) (sym w) z;
-        contents-is = refl;
-        grows = grew;
-      }
+      let s : Session = holding (e .current) (e .flag) (st .session) in
+      leaving s (ap (λ (t : Bool). cond t (positioned (keyIn (desc st) (e .work)) s) s) q) refl
+      (record { kept = k; position = h .position; placed = h .placed; resting = λ c. no-true-false o c })
 
   -- "position = key"
-  keyed : e .keyed ≡ true → Key (desc st) (keyIn (desc st) (e .work)) → Gives st ss (outcome (st .session) e) (e .number) most (contents (leavesOf ss′)) brought ss′ f′
+  keyed : e .keyed ≡ true → Key (desc st) (keyIn (desc st) (e .work))
+      → Gives st ss (outcome (st .session) e) (e .number) most (recordsIn (leavesIn ss′)) brought ss′ f′
   unfolding outcome holding positioned
   keyed q kw =
       let key : List ℕ = keyIn (desc st) (e .work) in
@@ -129,27 +142,22 @@ module _ (st : State) (ss : List Section) (f : Free) (h : Sound st ss f) (o : st
         placed = λ c. subst (Key (desc st)) (sym (part-written (st .session .position) 0 (desc st .k) key (kw .long) (omega (arith, kw .long, room)))) kw;
         resting = λ c. no-true-false o c;
       } in
-      let w : cond (e .keyed) t s ≡ t = ap (λ (b : Bool). cond b t s) q in
-      record {
-        number-is = refl;
-        most-is = cost;
-        desc-is = ap (λ (x : Session). x .desc) w;
-        sound = subst (λ (x : Session). Sound (record { session = x; file = e .file; buffer = e .buffer; work = e .work }) ss′ f′) (sym w) z;
-        contents-is = refl;
-        grows = grew;
-      }
+      leaving t (ap (λ (b : Bool). cond b t s) q) refl z
 
-  pub effect-gives : (n : ℕ) (rows : List (List ℕ)) → e .number ≡ n → contents (leavesOf ss′) ≡ rows → (e .keyed ≡ true → Key (desc st) (keyIn (desc st) (e .work)))
+  pub effect-gives : (n : ℕ) (rows : List (List ℕ)) → e .number ≡ n → recordsIn (leavesIn ss′) ≡ rows
+      → (e .keyed ≡ true → Key (desc st) (keyIn (desc st) (e .work)))
       → Gives st ss (outcome (st .session) e) n most rows brought ss′ f′
   effect-gives n rows en er kw =
-      subst (λ (m : ℕ). Gives st ss (outcome (st .session) e) m most rows brought ss′ f′) en (subst (λ (z : List (List ℕ)). Gives st ss (outcome (st .session) e) (e .number) most z brought ss′ f′) er (go (e .keyed) refl))
+      subst (λ (m : ℕ). Gives st ss (outcome (st .session) e) m most rows brought ss′ f′) en
+      (subst (λ (z : List (List ℕ)). Gives st ss (outcome (st .session) e) (e .number) most z brought ss′ f′) er (go (e .keyed) refl))
     where
-      go : (t : Bool) → e .keyed ≡ t → Gives st ss (outcome (st .session) e) (e .number) most (contents (leavesOf ss′)) brought ss′ f′
+      go : (t : Bool) → e .keyed ≡ t → Gives st ss (outcome (st .session) e) (e .number) most (recordsIn (leavesIn ss′)) brought ss′ f′
       go true q = keyed q (kw q)
       go false q = plain q
 
 -- a call whose checks pass does what its steps come to
-module _ (st : State) (ss : List Section) (f : Free) (reads : ℕ) (r : Ready reads st ss f) (steps : Checked Effect) (e : Effect) (steps-are : steps ≡ passed e) where
+module _ (st : State) (ss : List Section) (f : Free) (reads : ℕ) (r : Ready reads st ss f) (steps : Checked Effect) (e : Effect)
+    (steps-are : steps ≡ passed e) where
   pub ready-pass : settle st (sizesOk st >> (workOk st >> (isOpen st >> (keyOk reads st >> steps)))) ≡ outcome (st .session) e
   unfolding settle
   ready-pass = simp (sizes-pass st ss f (r .sound), work-pass st (r .work-length), open-pass st (r .opened), r .asked, steps-are)

@@ -12,7 +12,7 @@ use Rattle.drum.specs.Params.{masterSize, fileSize, start}
 use Rattle.drum.specs.Blocks.{blockAt, putBlock, Transfer, Read, Write, written}
 use Rattle.drum.proofs.Blocks.{length-block, length-putBlock, block-same, block-other, master-part}
 use Rattle.demands.proofs.Lists.{All}
-use Rattle.demands.proofs.Cells.{Cell, is-not, weigh, times, wrote, wrote-same, wrote-other, wrotes}
+use Rattle.demands.proofs.Cells.{Cell, is-not, weigh, cellTimes, wrote, wrote-same, wrote-other, wrotes}
 
 -- the words of the master, and the file with other ones
 unfoldable pub masterOf : Description → List ℕ → List ℕ
@@ -41,7 +41,8 @@ module _ (p : Description) (f : List ℕ) (sized : length f ≡ fileSize p) (b :
     put-master = master-part p f sized b (low, high) t ht 0 (masterSize p) (omega arith)
 
 -- blocks do not depend on the master's words
-pub behind-block : (p : Description) (f g : List ℕ) → length f ≡ fileSize p → length g ≡ fileSize p → behind p f ≡ behind p g → (c : ℕ) → blockAt p f c ≡ blockAt p g c
+pub behind-block : (p : Description) (f g : List ℕ) → length f ≡ fileSize p → length g ≡ fileSize p → behind p f ≡ behind p g → (c : ℕ)
+    → blockAt p f c ≡ blockAt p g c
 unfolding behind blockAt start part
 behind-block p f g lf lg e c =
     ap (take (p .wpb)) (sym (drop-drop ((c - 1) * p .wpb) (masterSize p) f) ∙ ap (drop ((c - 1) * p .wpb)) e ∙ drop-drop ((c - 1) * p .wpb) (masterSize p) g)
@@ -67,26 +68,26 @@ module _ (p : Description) (m rest : List ℕ) (hm : length m ≡ masterSize p) 
 -- ---- what a list of transfers writes
 
 -- the cells that a list of transfers writes
-unfoldable pub writes : List Transfer → List Cell
-writes [] = []
-writes (Read b ∷ ms) = writes ms
-writes (Write b t ∷ ms) = (b, t) ∷ writes ms
+unfoldable pub cellsWritten : List Transfer → List Cell
+cellsWritten [] = []
+cellsWritten (Read b ∷ ms) = cellsWritten ms
+cellsWritten (Write b t ∷ ms) = (b, t) ∷ cellsWritten ms
 
-pub writes-append : (xs ys : List Transfer) → writes (xs ++ ys) ≡ writes xs ++ writes ys
-unfolding writes
-writes-append [] ys = refl
-writes-append (Read b ∷ xs) ys = writes-append xs ys
-writes-append (Write b t ∷ xs) ys = ap (λ (l : List Cell). (b, t) ∷ l) (writes-append xs ys)
+pub cells-written-append : (xs ys : List Transfer) → cellsWritten (xs ++ ys) ≡ cellsWritten xs ++ cellsWritten ys
+unfolding cellsWritten
+cells-written-append [] ys = refl
+cells-written-append (Read b ∷ xs) ys = cells-written-append xs ys
+cells-written-append (Write b t ∷ xs) ys = ap (λ (l : List Cell). (b, t) ∷ l) (cells-written-append xs ys)
 
 abbrev pub Fits : Description → Cell → Type 0
 Fits p c = (1 ≤ c .0) × (c .0 ≤ p .n) × (length (c .1) ≡ p .wpb)
 
-pub wrotes-ext : (ws : List Cell) (t₁ t₂ : ℕ → List ℕ) (c : ℕ) → (times c ws ≡ 0 → t₁ c ≡ t₂ c) → wrotes t₁ ws c ≡ wrotes t₂ ws c
-unfolding times weigh
+pub wrotes-ext : (ws : List Cell) (t₁ t₂ : ℕ → List ℕ) (c : ℕ) → (cellTimes c ws ≡ 0 → t₁ c ≡ t₂ c) → wrotes t₁ ws c ≡ wrotes t₂ ws c
+unfolding cellTimes weigh
 wrotes-ext [] t₁ t₂ c h = h refl
 wrotes-ext (w ∷ ws) t₁ t₂ c h = wrotes-ext ws (wrote t₁ (w .0) (w .1)) (wrote t₂ (w .0) (w .1)) c (λ z. go z (ℕ-discrete c (w .0)))
   where
-    go : times c ws ≡ 0 → Dec (c ≡ w .0) → wrote t₁ (w .0) (w .1) c ≡ wrote t₂ (w .0) (w .1) c
+    go : cellTimes c ws ≡ 0 → Dec (c ≡ w .0) → wrote t₁ (w .0) (w .1) c ≡ wrote t₂ (w .0) (w .1) c
     go z (yes e) = rw (e, wrote-same t₁ (w .0) (w .1), wrote-same t₂ (w .0) (w .1))
     go z (no n) = rw (wrote-other t₁ (w .0) (w .1) c n, wrote-other t₂ (w .0) (w .1) c n) (h (omega (arith, z, is-not (w .0) c (λ e. n (sym e)))))
 
@@ -95,24 +96,28 @@ wrotes-append text [] ys c = refl
 wrotes-append text (x ∷ xs) ys c = wrotes-append (wrote text (x .0) (x .1)) xs ys c
 
 module _ (p : Description) where
-  pub written-length : (ms : List Transfer) (file : List ℕ) → length file ≡ fileSize p → All (Fits p) (writes ms) → length (written p ms file) ≡ fileSize p
-  unfolding written writes
+  pub written-length : (ms : List Transfer) (file : List ℕ) → length file ≡ fileSize p → All (Fits p) (cellsWritten ms)
+      → length (written p ms file) ≡ fileSize p
+  unfolding written cellsWritten
   written-length [] file e h = e
   written-length (Read b ∷ ms) file e h = written-length ms file e h
   written-length (Write b t ∷ ms) file e h = written-length ms (putBlock p file b t) (put-length p file e b (h .0 .0) (h .0 .1) t (h .0 .2)) (h .1)
 
-  pub written-master : (ms : List Transfer) (file : List ℕ) → length file ≡ fileSize p → All (Fits p) (writes ms) → masterOf p (written p ms file) ≡ masterOf p file
-  unfolding written writes
+  pub written-master : (ms : List Transfer) (file : List ℕ) → length file ≡ fileSize p → All (Fits p) (cellsWritten ms)
+      → masterOf p (written p ms file) ≡ masterOf p file
+  unfolding written cellsWritten
   written-master [] file e h = refl
   written-master (Read b ∷ ms) file e h = written-master ms file e h
   written-master (Write b t ∷ ms) file e h =
-      written-master ms (putBlock p file b t) (put-length p file e b (h .0 .0) (h .0 .1) t (h .0 .2)) (h .1) ∙ put-master p file e b (h .0 .0) (h .0 .1) t (h .0 .2)
+      written-master ms (putBlock p file b t) (put-length p file e b (h .0 .0) (h .0 .1) t (h .0 .2)) (h .1)
+      ∙ put-master p file e b (h .0 .0) (h .0 .1) t (h .0 .2)
 
-  pub written-text : (ms : List Transfer) (file : List ℕ) → length file ≡ fileSize p → All (Fits p) (writes ms) → (c : ℕ) → 1 ≤ c → c ≤ p .n
-      → blockAt p (written p ms file) c ≡ wrotes (blockAt p file) (writes ms) c
-  unfolding written writes
+  pub written-text : (ms : List Transfer) (file : List ℕ) → length file ≡ fileSize p → All (Fits p) (cellsWritten ms) → (c : ℕ) → 1 ≤ c → c ≤ p .n
+      → blockAt p (written p ms file) c ≡ wrotes (blockAt p file) (cellsWritten ms) c
+  unfolding written cellsWritten
   written-text [] file e h c l u = refl
   written-text (Read b ∷ ms) file e h c l u = written-text ms file e h c l u
   written-text (Write b t ∷ ms) file e h c l u =
       written-text ms (putBlock p file b t) (put-length p file e b (h .0 .0) (h .0 .1) t (h .0 .2)) (h .1) c l u
-      ∙ wrotes-ext (writes ms) (blockAt p (putBlock p file b t)) (wrote (blockAt p file) b t) c (λ z. put-block p file e b (h .0 .0) (h .0 .1) t (h .0 .2) c l u)
+      ∙ wrotes-ext (cellsWritten ms) (blockAt p (putBlock p file b t)) (wrote (blockAt p file) b t) c
+      (λ z. put-block p file e b (h .0 .0) (h .0 .1) t (h .0 .2) c l u)

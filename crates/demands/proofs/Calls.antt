@@ -30,10 +30,11 @@ use Rattle.rules.specs.Open.{openFile, openChecks, openDone, openLayout}
 use Rattle.rules.specs.Requests.{Request, opening, closing, seeking, advancing, inserting, deleting, updating, extending, lending, answer}
 use Rattle.demands.specs.Formula.{acceptedBy, share}
 use Rattle.demands.specs.History.{eventOf}
-use Rattle.demands.specs.History as told
+use Rattle.demands.specs.History as history
+use Rattle.demands.proofs.Scene.{Scene, scene}
 use Rattle.demands.proofs.Lists.{All}
 use Rattle.demands.proofs.Order.{Asc, asc-right, below, from, below-above, ins, upd, del, hit}
-use Rattle.demands.proofs.Trees.{leavesOf, contents, key, reach}
+use Rattle.demands.proofs.Trees.{leavesIn, recordsIn, key, reach}
 use Rattle.demands.proofs.Holds.{Free}
 use Rattle.demands.proofs.Sound.{Key, Sound}
 use Rattle.demands.proofs.Answers.{Ready, key-of, work-key, sizes-pass, Gives}
@@ -45,12 +46,13 @@ use Rattle.demands.proofs.DleteRight.{DleteRight, dlete-right}
 use Rattle.demands.proofs.AdvRight.{adv-right}
 use Rattle.demands.proofs.Last.{Last}
 use Rattle.demands.proofs.XtendRight as x
-use Rattle.demands.proofs.History.{Event, stored, removed, happen, happened, ins-upd}
+use Rattle.demands.proofs.History.{happen, happened, ins-upd}
 use Rattle.demands.proofs.Growth.{Growth, nothing, aRecord, aSplit, bothSplit, aStart, bothStart, Grows, grow-none}
 use Rattle.demands.specs.Filled.{disturbs, Filled}
 use Rattle.demands.specs.Reuse.{some-left, Deletes}
 use Rattle.demands.proofs.Moves.{treeIn, kept, none-taken}
-use Rattle.demands.proofs.Filling.{room-blocks, split-blocks, both-blocks, record-blocks, start-blocks, start-both-blocks, record-filled, start-filled, start-both-filled}
+use Rattle.demands.proofs.Filling.{room-blocks, split-blocks, both-blocks, record-blocks, start-blocks, start-both-blocks, record-filled, start-filled}
+use Rattle.demands.proofs.Filling.{start-both-filled}
 use Rattle.demands.proofs.Stepped.{Brought, Moved, most, numbered, KeyOf, Stepped}
 use Rattle.demands.proofs.Step.{Gate, stopped, ready, gate, opened-sound, lent-sound}
 
@@ -103,27 +105,24 @@ moved-none (updating w) o t = kept t
 moved-none (extending w) o t = none-taken t
 
 module _ (st : State) (ss : List Section) (f : Free) (q : Request) where
-  abbrev p : Description
-  p = desc st
-
-  abbrev K : List ℕ → ℕ
-  K = key (desc st .k)
+  open Scene (scene st ss) using (p, K)
 
   abbrev o : Outcome
   o = answer st q
 
   abbrev rows : List (List ℕ)
-  rows = contents (leavesOf ss)
+  rows = recordsIn (leavesIn ss)
 
-  step-by : (ss′ : List Section) (f′ : Free) → Sound (o .after) ss′ f′ → desc (o .after) ≡ p → (es : List told.Event) → eventOf p q o ≡ es
-      → contents (leavesOf ss′) ≡ happened K (map numbered es) rows → All (KeyOf p) es → (g : Growth) → Grows p ss ss′ g → Brought q o g → length (o .transfers) ≤ most q g
+  step-by : (ss′ : List Section) (f′ : Free) → Sound (o .after) ss′ f′ → desc (o .after) ≡ p → (es : List history.Event) → eventOf p q o ≡ es
+      → recordsIn (leavesIn ss′) ≡ happened K (map numbered es) rows → All (KeyOf p) es → (g : Growth) → Grows p ss ss′ g → Brought q o g
+      → length (o .transfers) ≤ most q g
       → Moved q o g (treeIn ss f) (treeIn ss′ f′) → (disturbs q o ≡ 0 → Filled p (treeIn ss f) → Filled p (treeIn ss′ f′)) → Stepped st ss f q
   step-by ss′ f′ s d es e c k g gr b cost mv fl = record {
     sections = ss′;
     free = f′;
     sound = s;
     desc-is = d;
-    contents-is = c ∙ ap (λ (z : List told.Event). happened K (map numbered z) rows) (sym e);
+    contents-is = c ∙ ap (λ (z : List history.Event). happened K (map numbered z) rows) (sym e);
     keys = subst (All (KeyOf p)) (sym e) k;
     growth = g;
     grows = gr;
@@ -142,17 +141,19 @@ module _ (st : State) (ss : List Section) (f : Free) (q : Request) where
   step-calm s d a cost = step-by ss f s d [] (a .0) refl tt nothing (grow-none p ss) (a .1) (omega arith) (moved-none q o (treeIn ss f)) (λ e h. h)
 
   -- the record w was put in, or the record with the key x taken out
-  step-stored : (ss′ : List Section) (f′ : Free) → Sound (o .after) ss′ f′ → desc (o .after) ≡ p → (w : List ℕ) → eventOf p q o ≡ told.stored w ∷ [] → contents (leavesOf ss′) ≡ upd K w rows
+  step-stored : (ss′ : List Section) (f′ : Free) → Sound (o .after) ss′ f′ → desc (o .after) ≡ p → (w : List ℕ) → eventOf p q o ≡ history.stored w ∷ []
+      → recordsIn (leavesIn ss′) ≡ upd K w rows
       → Key p (keyIn p w) → (g : Growth) → Grows p ss ss′ g → Brought q o g → length (o .transfers) ≤ most q g
       → Moved q o g (treeIn ss f) (treeIn ss′ f′) → (disturbs q o ≡ 0 → Filled p (treeIn ss f) → Filled p (treeIn ss′ f′)) → Stepped st ss f q
   unfolding happened happen numbered
-  step-stored ss′ f′ s d w e c k g gr b cost mv fl = step-by ss′ f′ s d (told.stored w ∷ []) e c (k, tt) g gr b cost mv fl
+  step-stored ss′ f′ s d w e c k g gr b cost mv fl = step-by ss′ f′ s d (history.stored w ∷ []) e c (k, tt) g gr b cost mv fl
 
-  step-removed : (ss′ : List Section) (f′ : Free) → Sound (o .after) ss′ f′ → desc (o .after) ≡ p → (y : List ℕ) → eventOf p q o ≡ told.removed y ∷ [] → contents (leavesOf ss′) ≡ del K (val y) rows
+  step-removed : (ss′ : List Section) (f′ : Free) → Sound (o .after) ss′ f′ → desc (o .after) ≡ p → (y : List ℕ) → eventOf p q o ≡ history.removed y ∷ []
+      → recordsIn (leavesIn ss′) ≡ del K (val y) rows
       → Key p y → Grows p ss ss′ nothing → Brought q o nothing → length (o .transfers) ≤ share q
       → Moved q o nothing (treeIn ss f) (treeIn ss′ f′) → (disturbs q o ≡ 0 → Filled p (treeIn ss f) → Filled p (treeIn ss′ f′)) → Stepped st ss f q
   unfolding happened happen numbered
-  step-removed ss′ f′ s d y e c k gr b cost mv fl = step-by ss′ f′ s d (told.removed y ∷ []) e c (k, tt) nothing gr b (omega arith) mv fl
+  step-removed ss′ f′ s d y e c k gr b cost mv fl = step-by ss′ f′ s d (history.removed y ∷ []) e c (k, tt) nothing gr b (omega arith) mv fl
 
 -- an NSERT or a DLETE that is accepted does not leave a filled tree alone
 disturbed : {A : Type 0} (o : Outcome) → 1 ≡ acceptedBy o → acceptedBy o ≡ 0 → A
@@ -165,10 +166,10 @@ calm st ss f (opening marks) e = (refl, refl)
 calm st ss f closing e = (refl, refl)
 calm st ss f (seeking w) e = (refl, refl)
 calm st ss f (advancing w) e = (refl, refl)
-calm st ss f (inserting w) e = (ap (λ (t : Bool). cond t (told.stored w ∷ []) []) e, (accepts (answer st (inserting w)) false e, refl, refl))
-calm st ss f (deleting w) e = (ap (λ (t : Bool). cond t (told.removed (keyIn (desc st) w) ∷ []) []) (not-done (answer st (deleting w) .number) e), refl)
-calm st ss f (updating w) e = (ap (λ (t : Bool). cond t (told.stored w ∷ []) []) e, refl)
-calm st ss f (extending w) e = (ap (λ (t : Bool). cond t (told.stored w ∷ []) []) e, (accepts (answer st (extending w)) false e, refl, refl))
+calm st ss f (inserting w) e = (ap (λ (t : Bool). cond t (history.stored w ∷ []) []) e, (accepts (answer st (inserting w)) false e, refl, refl))
+calm st ss f (deleting w) e = (ap (λ (t : Bool). cond t (history.removed (keyIn (desc st) w) ∷ []) []) (not-done (answer st (deleting w) .number) e), refl)
+calm st ss f (updating w) e = (ap (λ (t : Bool). cond t (history.stored w ∷ []) []) e, refl)
+calm st ss f (extending w) e = (ap (λ (t : Bool). cond t (history.stored w ∷ []) []) e, (accepts (answer st (extending w)) false e, refl, refl))
 
 -- ---- refusals: the state is as it was given
 
@@ -182,7 +183,8 @@ module _ (st : State) (ss : List Section) (f : Free) where
     -- SEEK, whichever it answers
     seek-step : (w : List ℕ) → Gate (lending w st) ss f (lent-sound w st ss f h) (desc st .k) → Stepped st ss f (seeking w)
     unfolding answer lending seek share eventOf
-    seek-step w (stopped n ne ac nf e) = stays (seeking w) (lending w st) n (lent-sound w st ss f h) refl ac (e (seekSteps (texts (lending w st)) (st .session .flag) w))
+    seek-step w (stopped n ne ac nf e) =
+        stays (seeking w) (lending w st) n (lent-sound w st ss f h) refl ac (e (seekSteps (texts (lending w st)) (st .session .flag) w))
     seek-step w (ready r) = go (seek-right (lending w st) ss f r)
       where
         go : SeekRight (lending w st) ss f → Stepped st ss f (seeking w)
@@ -191,9 +193,12 @@ module _ (st : State) (ss : List Section) (f : Free) where
 
     adv-step : (w : List ℕ) → Dec (length w ≡ desc st .wpr) → (u : Bool) → st .session .opened ≡ u → Stepped st ss f (advancing w)
     unfolding answer lending adv settle workOk isOpen share eventOf
-    adv-step w (no n) u e = stays (advancing w) (lending w st) wrongSize (lent-sound w st ss f h) refl refl (simp (sizes-pass (lending w st) ss f (lent-sound w st ss f h), ne-eqb (length w) (desc st .wpr) n))
+    adv-step w (no n) u e =
+        stays (advancing w) (lending w st) wrongSize (lent-sound w st ss f h) refl refl
+        (simp (sizes-pass (lending w st) ss f (lent-sound w st ss f h), ne-eqb (length w) (desc st .wpr) n))
     adv-step w (yes l) false e =
-        stays (advancing w) (lending w st) isClosed (lent-sound w st ss f h) refl refl (simp (sizes-pass (lending w st) ss f (lent-sound w st ss f h), eq-eqb (length w) (desc st .wpr) l, e))
+        stays (advancing w) (lending w st) isClosed (lent-sound w st ss f h) refl refl
+        (simp (sizes-pass (lending w st) ss f (lent-sound w st ss f h), eq-eqb (length w) (desc st .wpr) l, e))
     adv-step w (yes l) true e =
         let a = adv-right (lending w st) ss f (lent-sound w st ss f h) e l in
         step-calm st ss f (advancing w) (a .3 .sound) (a .3 .desc-is) (refl, refl) (a .3 .most-is)
@@ -212,55 +217,68 @@ module _ (st : State) (ss : List Section) (f : Free) where
     key-fits = good-facts (desc st) (h .kept .good) .key
 
     -- a call that is not accepted
-    none-step : (q : Request) (w : List ℕ) (n m : ℕ) → Gives (lending w st) ss (answer st q) n m (contents (leavesOf ss)) nothing ss f → accepted n ≡ false → m ≤ share q → Stepped st ss f q
+    none-step : (q : Request) (w : List ℕ) (n m : ℕ) → Gives (lending w st) ss (answer st q) n m (recordsIn (leavesIn ss)) nothing ss f → accepted n ≡ false
+        → m ≤ share q → Stepped st ss f q
     unfolding lending
     none-step q w n m g a l =
         step-calm st ss f q (g .sound) (g .desc-is) (calm st ss f q (ap accepted (g .number-is) ∙ a)) (omega (arith, g .most-is))
 
     -- NSERT and XTEND put in a record whose key was not there
-    put-step : (q : Request) (w : List ℕ) → eventOf (desc st) q (answer st q) ≡ cond (accepted (answer st q .number)) (told.stored w ∷ []) [] → Key (desc st) (keyIn (desc st) w)
-        → (n m : ℕ) (b : Growth) {ss′ : List Section} {f′ : Free} → Gives (lending w st) ss (answer st q) n m (ins (key (desc st .k)) w (contents (leavesOf ss))) b ss′ f′ → accepted n ≡ true
+    put-step : (q : Request) (w : List ℕ) → eventOf (desc st) q (answer st q) ≡ cond (accepted (answer st q .number)) (history.stored w ∷ []) []
+        → Key (desc st) (keyIn (desc st) w)
+        → (n m : ℕ) (b : Growth) {ss′ : List Section} {f′ : Free}
+        → Gives (lending w st) ss (answer st q) n m (ins (key (desc st .k)) w (recordsIn (leavesIn ss))) b ss′ f′ → accepted n ≡ true
         → (1 ≡ acceptedBy (answer st q) → Brought q (answer st q) b) → m ≤ most q b
-        → Moved q (answer st q) b (treeIn ss f) (treeIn ss′ f′) → (1 ≡ acceptedBy (answer st q) → disturbs q (answer st q) ≡ 0 → Filled (desc st) (treeIn ss f) → Filled (desc st) (treeIn ss′ f′)) → Stepped st ss f q
+        → Moved q (answer st q) b (treeIn ss f) (treeIn ss′ f′)
+        → (1 ≡ acceptedBy (answer st q) → disturbs q (answer st q) ≡ 0 → Filled (desc st) (treeIn ss f) → Filled (desc st) (treeIn ss′ f′))
+        → Stepped st ss f q
     unfolding lending
     put-step q w e k n m b {ss′} {f′} g a br l mv fl =
         let K : List ℕ → ℕ = key (desc st .k) in
-        let rows : List (List ℕ) = contents (leavesOf ss) in
-        let end : ℕ = reach (desc st .k) 0 (leavesOf ss′) in
-        let asc : Asc K 0 (contents (leavesOf ss′)) end
-        = subst (λ (z : Description). Asc (key (z .k)) 0 (contents (leavesOf ss′)) (reach (z .k) 0 (leavesOf ss′))) (g .desc-is) (asc-rows (desc (answer st q .after)) _ _ ss′ f′ (g .sound .kept .holds)) in
+        let rows : List (List ℕ) = recordsIn (leavesIn ss) in
+        let end : ℕ = reach (desc st .k) 0 (leavesIn ss′) in
+        let asc : Asc K 0 (recordsIn (leavesIn ss′)) end
+        = subst (λ (z : Description). Asc (key (z .k)) 0 (recordsIn (leavesIn ss′)) (reach (z .k) 0 (leavesIn ss′))) (g .desc-is)
+        (asc-rows (desc (answer st q .after)) _ _ ss′ f′ (g .sound .kept .holds)) in
         let none : hit K (K w) rows ≡ [] = ins-fresh K 0 w rows end (subst (λ (z : List (List ℕ)). Asc K 0 z end) (g .contents-is) asc) in
         let ok : accepted (answer st q .number) ≡ true = ap accepted (g .number-is) ∙ a in
-        step-stored st ss f q ss′ f′ (g .sound) (g .desc-is) w (e ∙ ap (λ (t : Bool). cond t (told.stored w ∷ []) []) ok)
-        (g .contents-is ∙ ins-upd K (K w) _ rows (asc-rows (desc st) _ _ ss f (h .kept .holds)) (omega (arith, work-key (desc st) w, k .below, h .kept .holds .top)) w refl none)
+        step-stored st ss f q ss′ f′ (g .sound) (g .desc-is) w (e ∙ ap (λ (t : Bool). cond t (history.stored w ∷ []) []) ok)
+        (g .contents-is ∙ ins-upd K (K w) _ rows (asc-rows (desc st) _ _ ss f (h .kept .holds))
+        (omega (arith, work-key (desc st) w, k .below, h .kept .holds .top)) w refl none)
         k b (g .grows) (br (accepts (answer st q) true ok)) (omega (arith, g .most-is)) mv (fl (accepts (answer st q) true ok))
 
     updat-step : (w : List ℕ) → Gate (lending w st) ss f (lent-sound w st ss f h) (desc st .wpr) → Stepped st ss f (updating w)
     unfolding answer lending updat share eventOf
-    updat-step w (stopped n ne ac nf e) = stays (updating w) (lending w st) n (lent-sound w st ss f h) refl ac (e (updatSteps (texts (lending w st)) (st .session .flag) w))
+    updat-step w (stopped n ne ac nf e) =
+        stays (updating w) (lending w st) n (lent-sound w st ss f h) refl ac (e (updatSteps (texts (lending w st)) (st .session .flag) w))
     updat-step w (ready r) = go (updat-right (lending w st) ss f r)
       where
         go : UpdatRight (lending w st) ss f → Stepped st ss f (updating w)
         go (inl (e, g)) = none-step (updating w) w notFound 3 g refl (omega arith)
         go (inr (y, e, ss′, f′, g, mv, fl)) =
-            step-stored st ss f (updating w) ss′ f′ (g .sound) (g .desc-is) w (ap (λ (m : ℕ). cond (accepted m) (told.stored w ∷ []) []) (g .number-is)) (g .contents-is)
+            step-stored st ss f (updating w) ss′ f′ (g .sound) (g .desc-is) w (ap (λ (m : ℕ). cond (accepted m) (history.stored w ∷ []) []) (g .number-is))
+            (g .contents-is)
             (ready-key w (desc st .wpr) key-fits (omega arith) r) nothing (g .grows) refl (g .most-is) mv (λ e. fl)
 
     dlete-step : (w : List ℕ) → Gate (lending w st) ss f (lent-sound w st ss f h) (desc st .k) → Stepped st ss f (deleting w)
     unfolding answer lending dlete share eventOf disturbs
-    dlete-step w (stopped n ne ac nf e) = stays (deleting w) (lending w st) n (lent-sound w st ss f h) refl ac (e (dleteSteps (texts (lending w st)) (st .session .flag) w))
+    dlete-step w (stopped n ne ac nf e) =
+        stays (deleting w) (lending w st) n (lent-sound w st ss f h) refl ac (e (dleteSteps (texts (lending w st)) (st .session .flag) w))
     dlete-step w (ready r) = go (dlete-right (lending w st) ss f r)
       where
         go : DleteRight (lending w st) ss f → Stepped st ss f (deleting w)
         go (inl (e, g)) = none-step (deleting w) w notFound 3 g refl (omega arith)
         go (inr (y, e, ss′, f′, g, mv)) =
-            step-removed st ss f (deleting w) ss′ f′ (g .sound) (g .desc-is) (keyIn (desc st) w) (ap (λ (m : ℕ). cond (eqb m done) (told.removed (keyIn (desc st) w) ∷ []) []) (g .number-is)) (g .contents-is)
+            step-removed st ss f (deleting w) ss′ f′ (g .sound) (g .desc-is) (keyIn (desc st) w)
+            (ap (λ (m : ℕ). cond (eqb m done) (history.removed (keyIn (desc st) w) ∷ []) []) (g .number-is)) (g .contents-is)
             (ready-key w (desc st .k) (omega arith) key-fits r) (g .grows) refl (g .most-is)
-            (subst (λ (n : ℕ). Deletes (eqb n done) (treeIn ss f) (treeIn ss′ f′)) (sym (g .number-is)) mv) (disturbed _ (accepts (answer st (deleting w)) true (ap accepted (g .number-is))))
+            (subst (λ (n : ℕ). Deletes (eqb n done) (treeIn ss f) (treeIn ss′ f′)) (sym (g .number-is)) mv)
+            (disturbed _ (accepts (answer st (deleting w)) true (ap accepted (g .number-is))))
 
     nsert-step : (w : List ℕ) → Gate (lending w st) ss f (lent-sound w st ss f h) (desc st .wpr) → Stepped st ss f (inserting w)
     unfolding answer lending nsert share eventOf disturbs
-    nsert-step w (stopped n ne ac nf e) = stays (inserting w) (lending w st) n (lent-sound w st ss f h) refl ac (e (nsertSteps (texts (lending w st)) (st .session .flag) w))
+    nsert-step w (stopped n ne ac nf e) =
+        stays (inserting w) (lending w st) n (lent-sound w st ss f h) refl ac (e (nsertSteps (texts (lending w st)) (st .session .flag) w))
     nsert-step w (ready r) = go (nsert-right (lending w st) ss f r)
       where
         kw : Key (desc st) (keyIn (desc st) w)
@@ -269,14 +287,20 @@ module _ (st : State) (ss : List Section) (f : Free) where
         go : Nserted (lending w st) ss f → Stepped st ss f (inserting w)
         go (duplicate y e g) = none-step (inserting w) w notFound 3 g refl (omega arith)
         go (no-room e a i l m g) = none-step (inserting w) w noRoom 3 g refl (omega arith)
-        go (room e a i l g) = put-step (inserting w) w refl kw _ 3 aRecord g (stored-accepted (desc st) _ f) (λ b. (b, refl, refl)) (omega arith) (room-blocks (lending w st) ss f a i) (disturbed _)
-        go (split e a i l m s k q g) = put-step (inserting w) w refl kw _ 7 aSplit g (stored-accepted (desc st) _ (taken f)) (λ b. (b, refl, refl)) (omega arith) (split-blocks (lending w st) ss f a i) (disturbed _)
-        go (both e a i l m s c k q g) = put-step (inserting w) w refl kw _ 8 bothSplit g (stored-accepted (desc st) _ (taken (taken f))) (λ b. (b, refl, refl)) (omega arith)
+        go (room e a i l g) =
+            put-step (inserting w) w refl kw _ 3 aRecord g (stored-accepted (desc st) _ f) (λ b. (b, refl, refl)) (omega arith)
+            (room-blocks (lending w st) ss f a i) (disturbed _)
+        go (split e a i l m s k q g) =
+            put-step (inserting w) w refl kw _ 7 aSplit g (stored-accepted (desc st) _ (taken f)) (λ b. (b, refl, refl)) (omega arith)
+            (split-blocks (lending w st) ss f a i) (disturbed _)
+        go (both e a i l m s c k q g) =
+            put-step (inserting w) w refl kw _ 8 bothSplit g (stored-accepted (desc st) _ (taken (taken f))) (λ b. (b, refl, refl)) (omega arith)
             (both-blocks (lending w st) ss f a i m (good-facts (desc st) (h .kept .good) .two-entries)) (disturbed _)
 
     xtend-step : (w : List ℕ) → Gate (lending w st) ss f (lent-sound w st ss f h) (desc st .wpr) → Stepped st ss f (extending w)
     unfolding answer lending xtend share eventOf
-    xtend-step w (stopped n ne ac nf e) = stays (extending w) (lending w st) n (lent-sound w st ss f h) refl ac (e (xtendSteps (texts (lending w st)) (st .session .flag) w))
+    xtend-step w (stopped n ne ac nf e) =
+        stays (extending w) (lending w st) n (lent-sound w st ss f h) refl ac (e (xtendSteps (texts (lending w st)) (st .session .flag) w))
     xtend-step w (ready r) = let z = x.xtend-right (lending w st) ss f r in go (z .0) (z .1)
       where
         kw : Key (desc st) (keyIn (desc st) w)
@@ -286,15 +310,22 @@ module _ (st : State) (ss : List Section) (f : Free) where
         go L (x.too-low fr y e l g) = none-step (extending w) w outOfSequence 4 g refl (omega arith)
         go L (x.too-low-alone e l g) = none-step (extending w) w outOfSequence 4 g refl (omega arith)
         go L (x.no-room l m g) = none-step (extending w) w noRoom 4 g refl (omega arith)
-        go L (x.room l g) = put-step (extending w) w refl kw _ 4 aRecord g (stored-accepted (desc st) _ f) (λ b. (b, refl, refl)) (omega arith) (record-blocks (lending w st) ss f L) (λ e d h. record-filled (lending w st) ss f L h l)
-        go L (x.started l m s g) = put-step (extending w) w refl kw _ 7 aStart g (stored-accepted (desc st) _ (taken f)) (λ b. (b, refl, refl)) (omega arith) (start-blocks (lending w st) ss f L)
+        go L (x.room l g) =
+            put-step (extending w) w refl kw _ 4 aRecord g (stored-accepted (desc st) _ f) (λ b. (b, refl, refl)) (omega arith)
+            (record-blocks (lending w st) ss f L) (λ e d h. record-filled (lending w st) ss f L h l)
+        go L (x.started l m s g) =
+            put-step (extending w) w refl kw _ 7 aStart g (stored-accepted (desc st) _ (taken f)) (λ b. (b, refl, refl)) (omega arith)
+            (start-blocks (lending w st) ss f L)
             (λ e d z. start-filled (lending w st) ss f L z (h .kept .good) l m)
-        go L (x.both l m s c g) = put-step (extending w) w refl kw _ 8 bothStart g (stored-accepted (desc st) _ (taken (taken f))) (λ b. (b, refl, refl)) (omega arith) (start-both-blocks (lending w st) ss f L)
+        go L (x.both l m s c g) =
+            put-step (extending w) w refl kw _ 8 bothStart g (stored-accepted (desc st) _ (taken (taken f))) (λ b. (b, refl, refl)) (omega arith)
+            (start-both-blocks (lending w st) ss f L)
             (λ e d z. start-both-filled (lending w st) ss f L z (h .kept .good) l m)
 
     -- OPEN: refused, or the file as it is
     open-left : (marks : List ℕ) (c : Checked Bool) → openChecks st marks ≡ c
-        → Sound (openDone st marks c .outcome .after) ss f × (desc (openDone st marks c .outcome .after) ≡ desc st) × (length (openDone st marks c .outcome .transfers) ≤ 0)
+        → Sound (openDone st marks c .outcome .after) ss f × (desc (openDone st marks c .outcome .after) ≡ desc st) ×
+        (length (openDone st marks c .outcome .transfers) ≤ 0)
     unfolding openChecks openDone openLayout atRest
     open-left marks (refused n) e = (h, refl, omega arith)
     open-left marks (passed t) e = go (layoutMarks (desc st) (st .file))
@@ -302,7 +333,9 @@ module _ (st : State) (ss : List Section) (f : Free) where
         closed : not (st .session .opened) ≡ true
         closed = last-test (sizesOk st) (require (eqb (length marks) (desc st .n)) wrongSize) (not (st .session .opened)) alreadyOpen t e
 
-        go : (d : Checked (List ℕ)) → Sound (openLayout st d .outcome .after) ss f × (desc (openLayout st d .outcome .after) ≡ desc st) × (length (openLayout st d .outcome .transfers) ≤ 0)
+        go : (d : Checked (List ℕ))
+            → Sound (openLayout st d .outcome .after) ss f × (desc (openLayout st d .outcome .after) ≡ desc st)
+            × (length (openLayout st d .outcome .transfers) ≤ 0)
         go (refused n) = (h, refl, omega arith)
         go (passed m) = (opened-sound st ss f h (not-true _ closed), refl, omega arith)
 

@@ -72,12 +72,12 @@ unfolding weigh
 weigh-append w [] ys = sym (zero-add (weigh w ys))
 weigh-append w (x ∷ xs) ys = rw (weigh-append w xs ys) (omega arith)
 
-abbrev pub Same : List Cell → List Cell → Type 0
-Same xs ys = (w : Cell → ℕ) → weigh w xs ≡ weigh w ys
+abbrev pub SameCells : List Cell → List Cell → Type 0
+SameCells xs ys = (w : Cell → ℕ) → weigh w xs ≡ weigh w ys
 
 -- how many of the cells name block b
-unfoldable pub times : ℕ → List Cell → ℕ
-times b cs = weigh (λ c. is (c .0) b) cs
+unfoldable pub cellTimes : ℕ → List Cell → ℕ
+cellTimes b cs = weigh (λ c. is (c .0) b) cs
 
 -- ---- cells and blocks
 
@@ -102,12 +102,12 @@ zero-bad text (c ∷ cs) h = (go (sameKey (text (c .0)) (c .1)) refl (omega arit
     go true e z = sameKey-true (text (c .0)) (c .1) e
     go false e z = absurd (omega arith)
 
-pub agree-same : (text : ℕ → List ℕ) (xs ys : List Cell) → Same xs ys → Agree text xs → Agree text ys
+pub agree-same : (text : ℕ → List ℕ) (xs ys : List Cell) → SameCells xs ys → Agree text xs → Agree text ys
 agree-same text xs ys s h = zero-bad text ys (sym (s (bad text)) ∙ bad-zero text xs h)
 
 -- a block that none of the cells names may get another text
-pub agree-wrote : (text : ℕ → List ℕ) (b : ℕ) (t : List ℕ) (cs : List Cell) → times b cs ≡ 0 → Agree text cs → Agree (wrote text b t) cs
-unfolding times weigh
+pub agree-wrote : (text : ℕ → List ℕ) (b : ℕ) (t : List ℕ) (cs : List Cell) → cellTimes b cs ≡ 0 → Agree text cs → Agree (wrote text b t) cs
+unfolding cellTimes weigh
 agree-wrote text b t [] h g = tt
 agree-wrote text b t (c ∷ cs) h g = (wrote-other text b t (c .0) (is-ne (c .0) b (omega arith)) ∙ g .0, agree-wrote text b t cs (omega arith) (g .1))
 
@@ -118,8 +118,8 @@ wrotes text [] = text
 wrotes text (w ∷ ws) = wrotes (wrote text (w .0) (w .1)) ws
 
 -- where no number is there twice, the written cells are as written, and the others as they were
-pub agree-wrotes : (text : ℕ → List ℕ) (ws cs : List Cell) → ((c : ℕ) → times c ws + times c cs ≤ 1) → Agree text cs → Agree (wrotes text ws) (ws ++ cs)
-unfolding times weigh
+pub agree-wrotes : (text : ℕ → List ℕ) (ws cs : List Cell) → ((c : ℕ) → cellTimes c ws + cellTimes c cs ≤ 1) → Agree text cs → Agree (wrotes text ws) (ws ++ cs)
+unfolding cellTimes weigh
 agree-wrotes text [] cs h g = g
 agree-wrotes text (w ∷ ws) cs h g =
     all-middle (λ c. wrotes (wrote text (w .0) (w .1)) ws (c .0) ≡ c .1) ws w cs (agree-wrotes (wrote text (w .0) (w .1)) ws (w ∷ cs) (λ c. omega (arith, h c))
@@ -127,14 +127,16 @@ agree-wrotes text (w ∷ ws) cs h g =
 
 -- The blocks agree with `cells`, in which no number is there twice. The cells `ws` are written, whose numbers are those of `old`, and the cells `keep` stay:
 -- the blocks then agree with the new cells, and each number is there as often as before.
-module _ (text : ℕ → List ℕ) (cells cells′ old keep ws : List Cell) (was : Same cells (old ++ keep)) (will : Same cells′ (ws ++ keep))
-    (moved : (b : ℕ) → times b ws ≡ times b old) where
-  pub rewrite-times : (b : ℕ) → times b cells′ ≡ times b cells
-  unfolding times
-  rewrite-times b = omega (arith, was (λ c. is (c .0) b), will (λ c. is (c .0) b), weigh-append (λ c. is (c .0) b) old keep, weigh-append (λ c. is (c .0) b) ws keep, moved b)
+module _ (text : ℕ → List ℕ) (cells cells′ old keep ws : List Cell) (was : SameCells cells (old ++ keep)) (will : SameCells cells′ (ws ++ keep))
+    (moved : (b : ℕ) → cellTimes b ws ≡ cellTimes b old) where
+  pub rewrite-times : (b : ℕ) → cellTimes b cells′ ≡ cellTimes b cells
+  unfolding cellTimes
+  rewrite-times b =
+      omega
+      (arith, was (λ c. is (c .0) b), will (λ c. is (c .0) b), weigh-append (λ c. is (c .0) b) old keep, weigh-append (λ c. is (c .0) b) ws keep, moved b)
 
-  pub rewrite-agree : ((b : ℕ) → times b cells ≤ 1) → Agree text cells → Agree (wrotes text ws) cells′
-  unfolding times
+  pub rewrite-agree : ((b : ℕ) → cellTimes b cells ≤ 1) → Agree text cells → Agree (wrotes text ws) cells′
+  unfolding cellTimes
   rewrite-agree o g =
       agree-same (wrotes text ws) (ws ++ keep) cells′ (λ w. sym (will w)) (agree-wrotes text ws keep
       (λ b. omega (arith, o b, was (λ c. is (c .0) b), weigh-append (λ c. is (c .0) b) old keep, moved b))

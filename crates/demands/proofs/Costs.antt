@@ -1,8 +1,8 @@
 -- The transfers of one call, from its definition alone, in whatever state: at most its share, 4 for each detail block that its plan splits or
 -- starts, and 1 for each new index block.
-use Prim.Native.Nat.{ℕ, suc, _+_, _*_, _≤_}
+use Prim.Native.Nat.{ℕ, _+_, _*_, _≤_}
 use mathlib.Core.Bool.{Bool, true, false, cond}
-use mathlib.Core.Path.{refl, sym, subst}
+use mathlib.Core.Path.{_≡_, refl, sym, subst}
 use mathlib.Core.List.{List, [], _∷_, _++_}
 use native.Mathlib.Omega.{arith}
 use lib.Dec.{eqb}
@@ -10,7 +10,6 @@ use lib.ListN.{length, length-append}
 use Rattle.numbers.specs.Checked.{Checked, passed, refused, _>>=_, _>>_}
 use Rattle.drum.specs.Blocks.{Transfer, Read, Texts}
 use Rattle.layout.specs.Inspect.{layoutMarks}
-use Rattle.rules.specs.declared.Path.{Path}
 use Rattle.rules.specs.declared.Way.{Way}
 use Rattle.rules.specs.declared.Way.the-variants.{By}
 use Rattle.rules.specs.declared.Look.{Look}
@@ -39,8 +38,8 @@ use Rattle.rules.specs.Requests.{Request, opening, closing, seeking, advancing,
 use Rattle.numbers.proofs.Passed.{Passed, by-refused, by-bind, by-then, by-passed}
 use Rattle.demands.specs.Formula.{share}
 use Rattle.demands.specs.Counted.{detailSplits, indexSplits, detailStarts, indexStarts, nsertPlan, xtendPlan, ofPlan, splitsOf, startsOf}
+use Rattle.rules.proofs.Sizes.{flush-few, bring-few, way-few, adv-few}
 use Rattle.demands.proofs.Counted.{as-planned}
-use Rattle.demands.proofs.Reach.{flush-cost, bring-cost, way-cost}
 
 -- ---- the steps of each call
 
@@ -49,21 +48,21 @@ Most n e = length (e .transfers) ≤ n
 
 -- transfers behind those of the way to a block
 way-more : (v : Texts) (flag : Bool) (way : Way) (ms : List Transfer) → length (reached v flag way .moves ++ ms) ≤ 3 + length ms
-way-more v flag way ms = rw (length-append (reached v flag way .moves) ms) (omega (arith, way-cost v flag way))
+way-more v flag way ms = rw (length-append (reached v flag way .moves) ms) (omega (arith, way-few v flag way))
 
 module _ (v : Texts) (flag : Bool) (work : List ℕ) where
   stop-most : (way : Way) (n : ℕ) → Most 3 (stopping n work (reached v flag way))
   unfolding stopping
-  stop-most way n = way-cost v flag way
+  stop-most way n = way-few v flag way
 
   store-most : (way : Way) (n : ℕ) (t : List ℕ) → Most 3 (storing n work (reached v flag way) t)
   unfolding storing
-  store-most way n t = way-cost v flag way
+  store-most way n t = way-few v flag way
 
   seek-most : (l : Look) → Passed (Most 3) (seekDone v flag work l)
   unfolding seekDone giving
   seek-most look-is.Bad = by-refused _
-  seek-most (look-is.Found way i) = by-passed _ (way-cost v flag way)
+  seek-most (look-is.Found way i) = by-passed _ (way-few v flag way)
   seek-most (look-is.Missing w) = by-passed _ (stop-most (By w) _)
 
   updat-most : (l : Look) → Passed (Most 3) (updatDone v flag work l)
@@ -72,22 +71,14 @@ module _ (v : Texts) (flag : Bool) (work : List ℕ) where
   updat-most (look-is.Found way i) = by-passed _ (store-most way _ _)
   updat-most (look-is.Missing w) = by-passed _ (stop-most (By w) _)
 
-  reads-most : (w x : Path) → length (advReads w x) ≤ 4
-  unfolding advReads
-  reads-most w x = go (eqb (x .section) (w .section))
-    where
-      go : (t : Bool) → suc (suc (length (cond t (Read (x .detail) ∷ []) (Read (x .index) ∷ Read (x .detail) ∷ [])))) ≤ 4
-      go true = omega arith
-      go false = omega arith
-
   adv-most : (s : Step) → Passed (Most 5) (advDone v flag s)
   unfolding advDone advGiving giving
   adv-most step-is.Bad = by-refused _
-  adv-most (step-is.At way i) = by-passed _ (omega (arith, way-cost v flag way))
-  adv-most (step-is.Beyond w x i) = by-passed _ (omega (arith, bring-cost v flag (x .detail) (advReads w x), reads-most w x))
+  adv-most (step-is.At way i) = by-passed _ (omega (arith, way-few v flag way))
+  adv-most (step-is.Beyond w x i) = by-passed _ (omega (arith, bring-few v flag (x .detail) (advReads w x), adv-few w x))
 
   insert-most : (d : Insert) → Passed (Most (3 + 4 * detailSplits d + indexSplits d)) (insertDone v flag work d)
-  unfolding insertDone landing detailSplits indexSplits splitMoves nsert-is.bothMoves
+  unfolding insertDone landing detailSplits indexSplits splitMoves nsert-is.bothSplitMoves
   insert-most insert-is.Bad = by-refused _
   insert-most (insert-is.Stop way n) = by-passed _ (stop-most way n)
   insert-most (insert-is.Room w i n) = by-passed _ (store-most (By w) n _)
@@ -97,8 +88,8 @@ module _ (v : Texts) (flag : Bool) (work : List ℕ) where
   delete-most : (d : Delete) → Passed (Most 6) (deleteDone v flag work d)
   unfolding deleteDone stopping storing emptying emptyAll bothAll emptyMoves
   delete-most delete-is.Bad = by-refused _
-  delete-most (delete-is.Stop w) = by-passed _ (omega (arith, way-cost v flag (By w)))
-  delete-most (delete-is.Remove way i) = by-passed _ (omega (arith, way-cost v flag way))
+  delete-most (delete-is.Stop w) = by-passed _ (omega (arith, way-few v flag (By w)))
+  delete-most (delete-is.Remove way i) = by-passed _ (omega (arith, way-few v flag way))
   delete-most (delete-is.Empty way w head) = by-passed _ (way-more v flag way _)
   delete-most (delete-is.Both way w head) = by-passed _ (way-more v flag way _)
 
@@ -111,12 +102,12 @@ module _ (v : Texts) (flag : Bool) (work : List ℕ) where
       go false = omega arith
 
   extend-most : (d : Extend) → Passed (Most (4 + 4 * detailStarts d + indexStarts d)) (extendDone v flag work d)
-  unfolding extendDone stopping storing landing detailStarts indexStarts newMoves xtend-is.bothMoves
+  unfolding extendDone stopping storing landing detailStarts indexStarts newMoves xtend-is.sectionMoves
   extend-most extend-is.Bad = by-refused _
   extend-most (extend-is.Stop way x n) = by-passed _ (read-most x way)
   extend-most (extend-is.Room way x n) = by-passed _ (read-most x way)
   extend-most (extend-is.New way w d n) = by-passed _ (omega (arith, way-more v flag way (newMoves v way w work (d .block))))
-  extend-most (extend-is.Both way w b x n) = by-passed _ (omega (arith, way-more v flag way (xtend-is.bothMoves v way w work b (x .block))))
+  extend-most (extend-is.Both way w b x n) = by-passed _ (omega (arith, way-more v flag way (xtend-is.sectionMoves v way w work b (x .block))))
 
 -- ---- the calls
 
@@ -127,7 +118,8 @@ settled st (refused m) n h = omega arith
 settled st (passed e) n h = h .holds e refl
 
 -- the refusals before a call's own steps
-open-most : (st : State) (steps : Checked Effect) (n : ℕ) → Passed (Most n) steps → length (settle st (sizesOk st >> (workOk st >> (isOpen st >> steps))) .transfers) ≤ n
+open-most : (st : State) (steps : Checked Effect) (n : ℕ) → Passed (Most n) steps
+    → length (settle st (sizesOk st >> (workOk st >> (isOpen st >> steps))) .transfers) ≤ n
 open-most st steps n h =
     let h₁ : Passed (Most n) (isOpen st >> steps) = by-then (isOpen st) steps (λ a e. h) in
     let h₂ : Passed (Most n) (workOk st >> (isOpen st >> steps)) = by-then (workOk st) (isOpen st >> steps) (λ a e. h₁) in
@@ -173,21 +165,24 @@ module _ (st : State) where
   unfolding dlete dleteSteps
   dlete-cost = keyed st (desc st .k) (dleteSteps v flag (st .work)) 6 (by-bind (deleteDeed v flag key) _ λ d e. delete-most v flag (st .work) d)
 
+  -- a call that carries out a plan, each of its plans within its own bound
+  planned-cost : {A : Type 0} (o : Outcome) (plan : Checked A) (deed : A → Checked Effect) (bound : Checked A → ℕ) → o ≡ settle st (plan >>= deed)
+      → ((d : A) → Passed (Most (bound (passed d))) (deed d)) → length (o .transfers) ≤ bound plan
+  planned-cost {A} o plan deed bound e h =
+      subst (λ (x : Outcome). length (x .transfers) ≤ bound plan) (sym e)
+      (settled st (plan >>= deed) (bound plan) (by-bind plan deed λ d q. subst (λ (c : Checked A). Passed (Most (bound c)) (deed d)) (sym q) (h d)))
+
   pub nsert-cost : length (nsert st .transfers) ≤ insert-bound (nsertPlan st)
   unfolding ofPlan
   nsert-cost =
-      let steps : Checked Effect = nsertPlan st >>= (λ d. insertDone v flag (st .work) d) in
-      subst (λ (o : Outcome). length (o .transfers) ≤ insert-bound (nsertPlan st)) (sym (as-planned st .nsert-is))
-      (settled st steps (insert-bound (nsertPlan st)) (by-bind (nsertPlan st) _ λ d e.
-      subst (λ (c : Checked Insert). Passed (Most (insert-bound c)) (insertDone v flag (st .work) d)) (sym e) (insert-most v flag (st .work) d)))
+      planned-cost (nsert st) (nsertPlan st) (λ d. insertDone v flag (st .work) d) insert-bound (as-planned st .nsert-is)
+      (λ d. insert-most v flag (st .work) d)
 
   pub xtend-cost : length (xtend st .transfers) ≤ extend-bound (xtendPlan st)
   unfolding ofPlan
   xtend-cost =
-      let steps : Checked Effect = xtendPlan st >>= (λ d. extendDone v flag (st .work) d) in
-      subst (λ (o : Outcome). length (o .transfers) ≤ extend-bound (xtendPlan st)) (sym (as-planned st .xtend-is))
-      (settled st steps (extend-bound (xtendPlan st)) (by-bind (xtendPlan st) _ λ d e.
-      subst (λ (c : Checked Extend). Passed (Most (extend-bound c)) (extendDone v flag (st .work) d)) (sym e) (extend-most v flag (st .work) d)))
+      planned-cost (xtend st) (xtendPlan st) (λ d. extendDone v flag (st .work) d) extend-bound (as-planned st .xtend-is)
+      (λ d. extend-most v flag (st .work) d)
 
 pub close-cost : (st : State) → length (close st .transfers) ≤ 1
 unfolding close closeDone
@@ -195,19 +190,23 @@ close-cost st = go (closeChecks st)
   where
     go : (c : Checked Bool) → length (closeDone st c .transfers) ≤ 1
     go (refused n) = omega arith
-    go (passed x) = flush-cost (texts st) (st .session .flag)
+    go (passed x) = flush-few (texts st) (st .session .flag)
+
+-- OPEN moves nothing
+pub open-none : (st : State) (marks : List ℕ) → length (openFile st marks .outcome .transfers) ≡ 0
+unfolding openFile openDone openLayout
+open-none st marks = go (openChecks st marks)
+  where
+    laid : (c : Checked (List ℕ)) → length (openLayout st c .outcome .transfers) ≡ 0
+    laid (refused n) = refl
+    laid (passed m) = refl
+
+    go : (c : Checked Bool) → length (openDone st marks c .outcome .transfers) ≡ 0
+    go (refused n) = refl
+    go (passed t) = laid (layoutMarks (desc st) (st .file))
 
 pub open-cost : (st : State) (marks : List ℕ) → length (openFile st marks .outcome .transfers) ≤ 0
-unfolding openFile openDone openLayout
-open-cost st marks = go (openChecks st marks)
-  where
-    laid : (c : Checked (List ℕ)) → length (openLayout st c .outcome .transfers) ≤ 0
-    laid (refused n) = omega arith
-    laid (passed m) = omega arith
-
-    go : (c : Checked Bool) → length (openDone st marks c .outcome .transfers) ≤ 0
-    go (refused n) = omega arith
-    go (passed x) = laid (layoutMarks (desc st) (st .file))
+open-cost st marks = omega (arith, open-none st marks)
 
 -- the bound of one call, whatever the state and the request
 pub call-cost : (st : State) (q : Request)
@@ -222,3 +221,34 @@ call-cost st (inserting w) = omega (arith, nsert-cost (lending w st))
 call-cost st (deleting w) = dlete-cost (lending w st)
 call-cost st (updating w) = updat-cost (lending w st)
 call-cost st (extending w) = omega (arith, xtend-cost (lending w st))
+
+-- a plan splits one block of each kind at most, and starts one of each at most
+splits-few : (c : Checked Insert) → 4 * ofPlan detailSplits c + ofPlan indexSplits c ≤ 5
+unfolding ofPlan detailSplits indexSplits
+splits-few (refused n) = omega arith
+splits-few (passed insert-is.Bad) = omega arith
+splits-few (passed (insert-is.Stop way n)) = omega arith
+splits-few (passed (insert-is.Room w i n)) = omega arith
+splits-few (passed (insert-is.Split w i d n)) = omega arith
+splits-few (passed (insert-is.Both w i b x n)) = omega arith
+
+starts-few : (c : Checked Extend) → 4 * ofPlan detailStarts c + ofPlan indexStarts c ≤ 5
+unfolding ofPlan detailStarts indexStarts
+starts-few (refused n) = omega arith
+starts-few (passed extend-is.Bad) = omega arith
+starts-few (passed (extend-is.Stop way x n)) = omega arith
+starts-few (passed (extend-is.Room way x n)) = omega arith
+starts-few (passed (extend-is.New way w d n)) = omega arith
+starts-few (passed (extend-is.Both way w b x n)) = omega arith
+
+-- so at most 16, whatever the state and the request
+pub few-transfers : (st : State) (q : Request) → length (answer st q .transfers) ≤ 16
+unfolding answer
+few-transfers st (opening marks) = omega (arith, open-cost st marks)
+few-transfers st closing = omega (arith, close-cost st)
+few-transfers st (seeking w) = omega (arith, seek-cost (lending w st))
+few-transfers st (advancing w) = omega (arith, adv-cost (lending w st))
+few-transfers st (inserting w) = omega (arith, nsert-cost (lending w st), splits-few (nsertPlan (lending w st)))
+few-transfers st (deleting w) = omega (arith, dlete-cost (lending w st))
+few-transfers st (updating w) = omega (arith, updat-cost (lending w st))
+few-transfers st (extending w) = omega (arith, xtend-cost (lending w st), starts-few (xtendPlan (lending w st)))

@@ -103,7 +103,7 @@ module _ (st : State) (ss : List Section) (f : Free) (h : Sound st ss f) where
         indexes = no-indexes st w _ j is ∙ omega (arith, none indexSplits);
       }
   nsert-counts w (ready r) =
-      let c : n.Came (lending w st) ss f = n.nsert-came (lending w st) ss f r in
+      let c : n.NsertCame (lending w st) ss f = n.nsert-came (lending w st) ss f r in
       let u = ways (c .way) in
       let some : (g : Insert → ℕ) → ofPlan g (nsertPlan (lending w st)) ≡ g (c .plan) = λ g. some-planned g (lending w st) ss f r _ (c .plan) (c .plan-is) in
       record { details = omega (arith, u .0, c .splits, some detailSplits); indexes = omega (arith, u .1, c .index-splits, some indexSplits) }
@@ -137,7 +137,7 @@ module _ (st : State) (ss : List Section) (f : Free) (h : Sound st ss f) where
       ways L (x.both l m o c g) = used w _ g
       ways L (x.no-room l m g) = used w _ g
 
-      go : (L : Last (texts (lending w st)) (st .session .flag) ss f) → x.Came (lending w st) ss f L → Counts st (extending w)
+      go : (L : Last (texts (lending w st)) (st .session .flag) ss f) → x.XtendCame (lending w st) ss f L → Counts st (extending w)
       go L c =
           let u = ways L (c .way) in
           let some : (g : Extend → ℕ) → ofPlan g (xtendPlan (lending w st)) ≡ g (c .plan)

@@ -1,35 +1,34 @@
 -- Demand 2's and demand 3's sentences over whole runs, from CREATE and OPEN on.
 use Prim.Native.Nat.{ℕ}
 use mathlib.Core.Bool.{Bool, true, false, cond, not, _&&_}
-use mathlib.Core.Path.{_≡_, refl, sym, ap, _∙_, subst}
+use mathlib.Core.Path.{_≡_, refl, ap, _∙_, subst}
 use mathlib.Core.List.{List, [], _∷_}
 use native.Mathlib.Omega.{arith}
 use lib.Dec.{eqb}
 use lib.ListN.{length}
 use borrow.Author.Tests.{eqb-true, not-true}
 use Rattle.numbers.specs.Numbers.{done, wrongSize, alreadyOpen}
-use Rattle.numbers.specs.Checked.{Checked, passed, refused, _>>_, require}
+use Rattle.numbers.specs.Checked.{_>>_, require}
 use Rattle.drum.specs.declared.Description.{Description}
 use Rattle.drum.specs.Params.{goodParams, fileSize, sized}
 use Rattle.drum.proofs.Good.{Sized, sized-facts}
 use Rattle.layout.specs.Create.{created}
 use Rattle.layout.specs.Tree.{Tree, Section, freshTree, freshSection, freshLeaf}
 use Rattle.layout.specs.Tree as lay
-use Rattle.layout.specs.Inspect.{layoutMarks}
 use Rattle.layout.specs.Holds.{Holds}
 use Rattle.layout.proofs.Made.{create-opens}
 use Rattle.layout.proofs.Unique.{one-tree}
-use Rattle.rules.specs.State.{Session, State, desc, keyIn, lent, atRest}
+use Rattle.rules.specs.State.{Session, State, desc, keyIn, lent}
 use Rattle.rules.specs.Checks.{sizesOk}
-use Rattle.rules.specs.Open.{Created, create, openChecks, openDone, openLayout, openFile}
-use Rattle.rules.specs.Requests.{Request}
+use Rattle.rules.specs.Open.{Created, create, openChecks, openDone, openFile}
+use Rattle.rules.specs.Requests.{Request, answer, opening as openingWith}
 use Rattle.demands.specs.Formula.{Within, AfterCreate, Demand3, CallWithin}
 use Rattle.demands.specs.Nearest.{Nearest, NeverMet}
 use Rattle.demands.specs.History.{FoundExactly, events, standing, withKey}
-use Rattle.demands.proofs.Trees.{leavesOf, contents}
+use Rattle.demands.proofs.Came.{same-parameters}
+use Rattle.demands.proofs.Trees.{leavesIn, recordsIn}
 use Rattle.demands.proofs.Holds.{Free}
 use Rattle.demands.proofs.Sound.{Sound}
-use Rattle.demands.proofs.Reader.{leaves-in, records-in}
 use Rattle.demands.proofs.Opens.{Opens, open-right}
 use Rattle.demands.proofs.Growth.{counts, sizes, nothing}
 use Rattle.demands.proofs.Within as formula
@@ -47,7 +46,8 @@ record Opening (st : State) (marks : List ℕ) : Type 0 where
   marks-are : length marks ≡ desc st .n
   was-closed : st .session .opened ≡ false
 
-opening-by : (st : State) (marks : List ℕ) (a b c : Bool) → openDone st marks (require a wrongSize >> (require b wrongSize >> require c alreadyOpen)) .outcome .number ≡ done → (a ≡ true) × (b ≡ true) × (c ≡ true)
+opening-by : (st : State) (marks : List ℕ) (a b c : Bool)
+    → openDone st marks (require a wrongSize >> (require b wrongSize >> require c alreadyOpen)) .outcome .number ≡ done → (a ≡ true) × (b ≡ true) × (c ≡ true)
 unfolding openDone
 opening-by st marks true true true e = (refl, refl, refl)
 opening-by st marks true true false e = absurd (omega arith)
@@ -61,20 +61,13 @@ opening st marks e =
     record { sizes-are = sized-facts (desc st) (length (st .file)) (length (st .buffer)) (t .0); marks-are = eqb-true _ _ (t .1); was-closed = not-true _ (t .2) }
 
 pub opens : (st : State) (marks : List ℕ) → openFile st marks .outcome .number ≡ done → Opens st marks
-opens st marks e = let o = opening st marks e in open-right st marks (o .sizes-are .good) (o .sizes-are .file-is) (o .sizes-are .buffer-is) (o .marks-are) (o .was-closed) e
+opens st marks e = let o = opening st marks e in open-right st marks (o .sizes-are .good) (o .sizes-are .file-is) (o .sizes-are .buffer-is) (o .marks-are)
+    (o .was-closed) e
 
 -- it keeps the parameters
 pub opened-desc : (st : State) (marks : List ℕ) → openFile st marks .outcome .number ≡ done → desc (openFile st marks .outcome .after) ≡ desc st
-unfolding openFile openDone openLayout atRest
-opened-desc st marks e = go (openChecks st marks)
-  where
-    tested : (c : Checked (List ℕ)) → desc (openLayout st c .outcome .after) ≡ desc st
-    tested (refused n) = refl
-    tested (passed m) = refl
-
-    go : (c : Checked Bool) → desc (openDone st marks c .outcome .after) ≡ desc st
-    go (refused n) = refl
-    go (passed t) = tested (layoutMarks (desc st) (st .file))
+unfolding answer
+opened-desc st marks o = same-parameters st (openingWith marks)
 
 -- ---- demand 3
 
@@ -88,12 +81,13 @@ create-file p f = go (goodParams p && eqb (length f) (fileSize p))
     go true e = refl
     go false e = absurd (omega arith)
 
-fresh-counts : (p : Description) → (counts (leavesOf (freshTree p .sections)) ≡ 1 ∷ []) × (sizes (freshTree p .sections) ≡ 1 ∷ [])
+fresh-counts : (p : Description) → (counts (leavesIn (freshTree p .sections)) ≡ 1 ∷ []) × (sizes (freshTree p .sections) ≡ 1 ∷ [])
 unfolding counts sizes freshTree freshSection freshLeaf
 fresh-counts p = (refl, refl)
 
 -- the tree that stands in a file just made
-pub made-fresh : (session : Session) (f buffer work marks : List ℕ) → create (session .desc) f .number ≡ done → (o : openFile (lent session (create (session .desc) f .file) buffer work) marks .outcome .number ≡ done)
+pub made-fresh : (session : Session) (f buffer work marks : List ℕ) → create (session .desc) f .number ≡ done
+    → (o : openFile (lent session (create (session .desc) f .file) buffer work) marks .outcome .number ≡ done)
     → opens (lent session (create (session .desc) f .file) buffer work) marks o .tree ≡ freshTree (session .desc)
 made-fresh session f buffer work marks c o =
     let st : State = lent session (create (session .desc) f .file) buffer work in
@@ -105,13 +99,13 @@ made-fresh session f buffer work marks c o =
 -- what holds of a run that began with nothing brought
 pub after-create : (P : State → List Request → Type 0) → ((st : State) (qs : List Request) → formula.Ran (desc st) st qs nothing → P st qs) → AfterCreate P
 after-create =
-    formula.after-create stepped λ session f buffer work marks c o.
+    formula.within-create stepped λ session f buffer work marks c o.
     let z : Opens _ marks = opens (lent session (create (session .desc) f .file) buffer work) marks o in
     let is : z .tree ≡ freshTree (session .desc) = made-fresh session f buffer work marks c o in (
       z .tree .sections,
       _,
       z .sound,
-      ap (λ (t : Tree). counts (leavesOf (t .sections))) is ∙ fresh-counts (session .desc) .0,
+      ap (λ (t : Tree). counts (leavesIn (t .sections))) is ∙ fresh-counts (session .desc) .0,
       ap (λ (t : Tree). sizes (t .sections)) is ∙ fresh-counts (session .desc) .1,
     )
 
@@ -129,8 +123,8 @@ found-after-open st marks o t h qs w u =
     let p : Description = desc st in
     let good : goodParams p ≡ true = opening st marks o .sizes-are .good in
     let is : z .tree ≡ t = one-tree p (st .file) (z .tree) t good (z .stands) h in
-    let c : contents (leavesOf (z .tree .sections)) ≡ lay.contents t = sym (records-in (leavesOf (z .tree .sections))) ∙ ap lay.recordsIn (sym (leaves-in (z .tree .sections))) ∙ ap lay.contents is in
+    let c : recordsIn (leavesIn (z .tree .sections)) ≡ lay.contents t = ap lay.contents is in
     let s : State = openFile st marks .outcome .after in
     found s (z .tree .sections) _ (z .sound) qs w u
-    ∙ ap (λ (d : Description). standing d (keyIn d w) (events s qs) (withKey d (keyIn d w) (contents (leavesOf (z .tree .sections))))) (opened-desc st marks o)
+    ∙ ap (λ (d : Description). standing d (keyIn d w) (events s qs) (withKey d (keyIn d w) (recordsIn (leavesIn (z .tree .sections))))) (opened-desc st marks o)
     ∙ ap (λ (rows : List (List ℕ)). standing p (keyIn p w) (events s qs) (withKey p (keyIn p w) rows)) c

@@ -16,7 +16,7 @@ use Rattle.rules.specs.Lookup.{look}
 use Rattle.rules.specs.Dlete.{dlete}
 use Rattle.demands.proofs.Order.{hit, del}
 use Rattle.layout.specs.Tree.{Section}
-use Rattle.demands.proofs.Trees.{leavesOf, contents, key}
+use Rattle.demands.proofs.Trees.{leavesIn, recordsIn, key}
 use Rattle.demands.proofs.Holds.{Free}
 use Rattle.demands.proofs.Steps.{withRows}
 use Rattle.demands.proofs.Places.{Place, treeWith}
@@ -27,29 +27,49 @@ use Rattle.demands.proofs.Lookup.{Covers, Looked, absent, there, looks}
 use Rattle.demands.proofs.Dlete.{dlete-absent, dlete-some}
 use Rattle.demands.proofs.DleteEmpty.{dlete-emptied}
 use Rattle.demands.proofs.Growth.{nothing}
-use Rattle.demands.specs.Reuse.{Keeps, Deleted, some-left}
+use Rattle.demands.specs.Reuse.{KeepsBlocks, Deleted, some-left}
 use Rattle.demands.proofs.Moves.{treeIn, kept-block}
 
 abbrev pub DleteRight : State → List Section → Free → Type 0
 DleteRight st ss f =
-    ((hit (key (desc st .k)) (val (keyIn (desc st) (st .work))) (contents (leavesOf ss)) ≡ []) × Gives st ss (dlete st) notFound 3 (contents (leavesOf ss)) nothing ss f)
-    ⊎ ((x : List ℕ) × (hit (key (desc st .k)) (val (keyIn (desc st) (st .work))) (contents (leavesOf ss)) ≡ x ∷ [])
-    × (ss′ : List Section) × (f′ : Free) × Gives st ss (dlete st) done 6 (del (key (desc st .k)) (val (keyIn (desc st) (st .work))) (contents (leavesOf ss))) nothing ss′ f′
+    ((hit (key (desc st .k)) (val (keyIn (desc st) (st .work))) (recordsIn (leavesIn ss)) ≡ []) × Gives st ss (dlete st) notFound 3
+    (recordsIn (leavesIn ss)) nothing ss f)
+    ⊎ ((x : List ℕ) × (hit (key (desc st .k)) (val (keyIn (desc st) (st .work))) (recordsIn (leavesIn ss)) ≡ x ∷ [])
+    × (ss′ : List Section) × (f′ : Free) × Gives st ss (dlete st) done 6
+    (del (key (desc st .k)) (val (keyIn (desc st) (st .work))) (recordsIn (leavesIn ss))) nothing ss′ f′
     × Deleted (treeIn ss f) (treeIn ss′ f′))
 
 module _ (st : State) (ss : List Section) (f : Free) (r : Ready (desc st .k) st ss f) (kw : Key (desc st) (keyIn (desc st) (st .work))) where
   abbrev Result : Type 0
-  Result = (ss′ : List Section) × (f′ : Free) × Gives st ss (dlete st) done 6 (del (key (desc st .k)) (val (keyIn (desc st) (st .work))) (contents (leavesOf ss))) nothing ss′ f′
+  Result =
+      (ss′ : List Section) × (f′ : Free) × Gives st ss (dlete st) done 6
+      (del (key (desc st .k)) (val (keyIn (desc st) (st .work))) (recordsIn (leavesIn ss))) nothing ss′ f′
       × Deleted (treeIn ss f) (treeIn ss′ f′)
 
-  kept-some : (a : Place) (way : Way) → At (texts st) (st .session .flag) ss f a way → (rows : List (List ℕ)) → Deleted (treeIn ss f) (treeIn (treeWith a (withRows (desc st) (a .leaf) rows ∷ [])) f)
-  kept-some a way A rows = some-left (subst (λ (z : List Section). Keeps (treeIn z f) (treeIn (treeWith a (withRows (desc st) (a .leaf) rows ∷ [])) f)) (sym (A .is)) (kept-block a f (withRows (desc st) (a .leaf) rows) refl))
+  kept-some : (a : Place) (way : Way) → At (texts st) (st .session .flag) ss f a way → (rows : List (List ℕ))
+      → Deleted (treeIn ss f) (treeIn (treeWith a (withRows (desc st) (a .leaf) rows ∷ [])) f)
+  kept-some a way A rows = some-left (subst (λ (z : List Section). KeepsBlocks (treeIn z f) (treeIn (treeWith a (withRows (desc st) (a .leaf) rows ∷ [])) f))
+      (sym (A .is)) (kept-block a f (withRows (desc st) (a .leaf) rows) refl))
 
-  take-out : (a : Place) (way : Way) → At (texts st) (st .session .flag) ss f a way → Covers (texts st) (keyIn (desc st) (st .work)) a → (bs : List (List ℕ)) (x : List ℕ) (cs : List (List ℕ))
-      → a .leaf .records ≡ bs ++ x ∷ cs → key (desc st .k) x ≡ val (keyIn (desc st) (st .work)) → look (texts st) (st .session .flag) (keyIn (desc st) (st .work)) ≡ passed (Found way (length bs)) → Result
+  take-out : (a : Place) (way : Way) → At (texts st) (st .session .flag) ss f a way → Covers (texts st) (keyIn (desc st) (st .work)) a
+      → (bs : List (List ℕ)) (x : List ℕ) (cs : List (List ℕ))
+      → a .leaf .records ≡ bs ++ x ∷ cs → key (desc st .k) x ≡ val (keyIn (desc st) (st .work))
+      → look (texts st) (st .session .flag) (keyIn (desc st) (st .work)) ≡ passed (Found way (length bs)) → Result
   take-out a way A C [] x [] q k l = dlete-emptied st ss f r kw a way A C x q k l
-  take-out a way A C [] x (c ∷ cs) q k l = (_, f, gives-more st ss _ _ 3 6 _ nothing _ f (dlete-some st ss f r kw a way A C [] x (c ∷ cs) q k l (omega (arith, ap length q))) (omega arith), kept-some a way A _)
-  take-out a way A C (b ∷ bs) x cs q k l = (_, f, gives-more st ss _ _ 3 6 _ nothing _ f (dlete-some st ss f r kw a way A C (b ∷ bs) x cs q k l (omega (arith, ap length q, length-append bs (x ∷ cs)))) (omega arith), kept-some a way A _)
+  take-out a way A C [] x (c ∷ cs) q k l = (
+    _,
+    f,
+    gives-more st ss _ _ 3 6 _ nothing _ f
+        (dlete-some st ss f r kw a way A C [] x (c ∷ cs) q k l (omega (arith, ap length q))) (omega arith),
+    kept-some a way A _,
+  )
+  take-out a way A C (b ∷ bs) x cs q k l = (
+    _,
+    f,
+    gives-more st ss _ _ 3 6 _ nothing _ f
+        (dlete-some st ss f r kw a way A C (b ∷ bs) x cs q k l (omega (arith, ap length q, length-append bs (x ∷ cs)))) (omega arith),
+    kept-some a way A _,
+  )
 
   at : Looked (texts st) (st .session .flag) (keyIn (desc st) (st .work)) ss f → DleteRight st ss f
   at (absent a A C e none l) = inl (e, dlete-absent st ss f r a A l)

@@ -21,9 +21,10 @@ use Rattle.layout.specs.Tree.{Leaf, Section}
 use Rattle.rules.specs.State.{State, desc, texts, keyIn}
 use Rattle.rules.specs.XtendDone.{xtend}
 use Rattle.demands.specs.Answers.{ordinary, recordsFrom, lastBlock, Extended}
+use Rattle.demands.proofs.Scene.{Scene, scene}
 use Rattle.demands.proofs.Lists.{All, all-left, all-right, from-end}
 use Rattle.demands.proofs.Order.{Asc, after, asc-append, asc-right}
-use Rattle.demands.proofs.Trees.{leavesOf, leaves-append, contents, contents-append, key, reach-append, Ranged, ranged-left, ranged-asc}
+use Rattle.demands.proofs.Trees.{leavesIn, leavesIn-append, recordsIn, records-append, key, reach-append, Ranged, ranged-left, ranged-asc}
 use Rattle.demands.proofs.Holds.{Free, RowOk}
 use Rattle.demands.proofs.Steps.{sec}
 use Rattle.demands.proofs.Places.{lo, hi}
@@ -48,14 +49,7 @@ stored-one p n f m e = go (eqb n (D p) && eqb (freeCount f) 0) e
     go false q = inl q
 
 module _ (st : State) (ss : List Section) (f : Free) (r : Ready (desc st .wpr) st ss f) where
-  abbrev p : Description
-  p = desc st
-
-  abbrev w : List ℕ
-  w = keyIn (desc st) (st .work)
-
-  abbrev K : List ℕ → ℕ
-  K = key (desc st .k)
+  open Scene (scene st ss) using (p, w, K)
 
   kr : p .k ≤ p .wpr
   kr = good-facts p (r .sound .kept .good) .key
@@ -66,35 +60,38 @@ module _ (st : State) (ss : List Section) (f : Free) (r : Ready (desc st .wpr) s
   module _ (L : Last (texts st) (st .session .flag) ss f) where
     -- the records of the blocks before the last, and where the keys of the last start
     abbrev pre : List (List ℕ)
-    pre = contents (leavesOf (L .before) ++ L .low)
+    pre = recordsIn (leavesIn (L .before) ++ L .low)
 
     abbrev start : ℕ
     start = lo (desc st) (ending (L .before) (L .index) (L .low) (L .leaf))
 
-    rows-are : contents (leavesOf ss) ≡ (pre ++ L .front) ++ endRecord p ∷ []
+    rows-are : recordsIn (leavesIn ss) ≡ (pre ++ L .front) ++ endRecord p ∷ []
     rows-are =
-        ap (λ (s : List Section). contents (leavesOf s)) (L .at .is) ∙ spread
+        ap (λ (s : List Section). recordsIn (leavesIn s)) (L .at .is) ∙ spread
         ∙ ap (λ (z : List (List ℕ)). pre ++ z) (L .rows-are) ∙ sym (append-assoc pre (L .front) (endRecord p ∷ []))
       where
-        spread : contents (leavesOf (L .before ++ (sec (L .index) (L .low ++ (L .leaf ∷ [])) ∷ []))) ≡ pre ++ L .leaf .records
-        spread = simp (leaves-append, contents-append, append-assoc, append-nil)
+        spread : recordsIn (leavesIn (L .before ++ (sec (L .index) (L .low ++ (L .leaf ∷ [])) ∷ []))) ≡ pre ++ L .leaf .records
+        spread = simp (leavesIn-append, records-append, append-assoc, append-nil)
 
-    flat : leavesOf ss ≡ (leavesOf (L .before) ++ L .low) ++ (L .leaf ∷ [])
-    flat = ap leavesOf (L .at .is) ∙ simp (leaves-append, append-assoc, append-nil)
+    flat : leavesIn ss ≡ (leavesIn (L .before) ++ L .low) ++ (L .leaf ∷ [])
+    flat = ap leavesIn (L .at .is) ∙ simp (leavesIn-append, append-assoc, append-nil)
 
     before-asc : Asc K 0 pre start
     before-asc =
-        let ra : Ranged (p .k) 0 (leavesOf (L .before) ++ L .low) = ranged-left (p .k) 0 (leavesOf (L .before) ++ L .low) (L .leaf ∷ []) (subst (Ranged (p .k) 0) flat (r .sound .kept .holds .ranged)) in
-        subst (Asc K 0 pre) (reach-append (p .k) 0 (leavesOf (L .before)) (L .low)) (ranged-asc (p .k) 0 (leavesOf (L .before) ++ L .low) ra)
+        let ra : Ranged (p .k) 0 (leavesIn (L .before) ++ L .low)
+        = ranged-left (p .k) 0 (leavesIn (L .before) ++ L .low) (L .leaf ∷ []) (subst (Ranged (p .k) 0) flat (r .sound .kept .holds .ranged)) in
+        subst (Asc K 0 pre) (reach-append (p .k) 0 (leavesIn (L .before)) (L .low)) (ranged-asc (p .k) 0 (leavesIn (L .before) ++ L .low) ra)
 
     abbrev high : List (List ℕ)
-    high = ordinary (desc st) (recordsFrom (desc st) (keyIn (desc st) (st .work)) (contents (leavesOf ss)))
+    high = ordinary (desc st) (recordsFrom (desc st) (keyIn (desc st) (st .work)) (recordsIn (leavesIn ss)))
 
     -- the last block's highest ordinary record, where it is not below the key
     not-below : (fr : List (List ℕ)) (y : List ℕ) → L .front ≡ fr ++ y ∷ [] → val w ≤ K y → high ≡ [] → ⊥
-    not-below fr y e l z = some-from p kr w kw (pre ++ fr) y (endRecord p ∷ []) (row-under p kr w kw y yok ∙ le-ltb (K y) (val w) l) (less (isOnes (keyIn p y)) refl) (ap (λ (x : List (List ℕ)). ordinary p (recordsFrom p w x)) (sym at) ∙ z)
+    not-below fr y e l z =
+        some-from p kr w kw (pre ++ fr) y (endRecord p ∷ []) (row-under p kr w kw y yok ∙ le-ltb (K y) (val w) l) (less (isOnes (keyIn p y)) refl)
+        (ap (λ (x : List (List ℕ)). ordinary p (recordsFrom p w x)) (sym at) ∙ z)
       where
-        at : contents (leavesOf ss) ≡ (pre ++ fr) ++ y ∷ (endRecord p ∷ [])
+        at : recordsIn (leavesIn ss) ≡ (pre ++ fr) ++ y ∷ (endRecord p ∷ [])
         at = rows-are ∙ ap (λ (x : List (List ℕ)). (pre ++ x) ++ endRecord p ∷ []) e ∙ simp append-assoc
 
         here : L .front ++ endRecord p ∷ [] ≡ fr ++ y ∷ (endRecord p ∷ [])
@@ -107,7 +104,9 @@ module _ (st : State) (ss : List Section) (f : Free) (r : Ready (desc st .wpr) s
         less false o = refl
         less true o =
             let top : K y ≡ val (ones (p .k)) = unfold key part in ap val (isOnes-true (p .k) _ (key-long p kr y yok .0) o) in
-            let s = asc-right K start fr (y ∷ (endRecord p ∷ [])) _ (subst (λ (x : List (List ℕ)). Asc K start x (hi p (a st ss f r kw L))) here (asc st ss f r kw L)) in
+            let s
+            = asc-right K start fr (y ∷ (endRecord p ∷ [])) _
+            (subst (λ (x : List (List ℕ)). Asc K start x (hi p (a st ss f r kw L))) here (asc st ss f r kw L)) in
             absurd (omega (arith, top, s .1 .0, s .1 .1, top-is st ss f r kw L))
 
     -- it is out of sequence, or above all the ordinary keys
@@ -122,7 +121,8 @@ module _ (st : State) (ss : List Section) (f : Free) (r : Ready (desc st .wpr) s
           where
             by : Dec (val w < start) → Sequence
             by (yes l) = inl (alone-five st ss f r kw L e l .number-is, λ z. e)
-            by (no n) = inr (asc-append K 0 pre start (L .front) (val w) before-asc (subst (λ (z : List (List ℕ)). Asc K start z (val w)) (sym e) (omega arith)))
+            by (no n) =
+                inr (asc-append K 0 pre start (L .front) (val w) before-asc (subst (λ (z : List (List ℕ)). Asc K start z (val w)) (sym e) (omega arith)))
         go (inr (fr, y, e)) = by (decLt (K y) (val w))
           where
             by : Dec (K y < val w) → Sequence
@@ -133,22 +133,25 @@ module _ (st : State) (ss : List Section) (f : Free) (r : Ready (desc st .wpr) s
     ends = unfold part in end-ones (texts st) (st .session .flag) ss f (r .sound .kept)
 
     -- the end record is alone in the last block
-    alone : L .front ≡ [] → ordinary p (lastBlock (leavesOf ss)) ≡ []
+    alone : L .front ≡ [] → ordinary p (lastBlock (leavesIn ss)) ≡ []
     unfolding ordinary
     alone e =
         ap (λ (ls : List Leaf). ordinary p (lastBlock ls)) flat
-        ∙ ap (ordinary p) (last-leaf (leavesOf (L .before) ++ L .low) (L .leaf) ∙ L .rows-are ∙ ap (λ (x : List (List ℕ)). x ++ endRecord p ∷ []) e) ∙ ap (λ (t : Bool). cond t [] (endRecord p ∷ [])) ends
+        ∙ ap (ordinary p) (last-leaf (leavesIn (L .before) ++ L .low) (L .leaf) ∙ L .rows-are ∙ ap (λ (x : List (List ℕ)). x ++ endRecord p ∷ []) e)
+        ∙ ap (λ (t : Bool). cond t [] (endRecord p ∷ [])) ends
 
-    numbers : Asc K 0 (pre ++ L .front) (val w) → Xtended st ss f L → Extended p (lastBlock (leavesOf ss)) [] (xtend st)
+    numbers : Asc K 0 (pre ++ L .front) (val w) → Xtended st ss f L → Extended p (lastBlock (leavesIn ss)) [] (xtend st)
     numbers h x = go x
       where
-        in-two : (n : ℕ) → (n ≡ done) ⊎ (n ≡ noneFree) → (n ≡ done) ⊎ ((n ≡ noneFree) ⊎ ((n ≡ noRoom) ⊎ ((n ≡ outOfSequence) × (ordinary p (lastBlock (leavesOf ss)) ≡ []))))
+        in-two : (n : ℕ) → (n ≡ done) ⊎ (n ≡ noneFree)
+            → (n ≡ done) ⊎ ((n ≡ noneFree) ⊎ ((n ≡ noRoom) ⊎ ((n ≡ outOfSequence) × (ordinary p (lastBlock (leavesIn ss)) ≡ []))))
         in-two n (inl e) = inl e
         in-two n (inr e) = inr (inl e)
 
-        go : Xtended st ss f L → Extended p (lastBlock (leavesOf ss)) [] (xtend st)
+        go : Xtended st ss f L → Extended p (lastBlock (leavesIn ss)) [] (xtend st)
         go (too-low fr y e l g) =
-            let s = asc-right K _ fr (y ∷ []) (val w) (subst (λ (z : List (List ℕ)). Asc K (after K 0 pre) z (val w)) e (asc-right K 0 pre (L .front) (val w) h)) in
+            let s
+            = asc-right K _ fr (y ∷ []) (val w) (subst (λ (z : List (List ℕ)). Asc K (after K 0 pre) z (val w)) e (asc-right K 0 pre (L .front) (val w) h)) in
             absurd (omega (arith, s .1, l))
         go (too-low-alone e l g) = inr (inr (inr (g .number-is, alone e)))
         go (no-room l m g) = inr (inr (inl (g .number-is)))
@@ -156,22 +159,23 @@ module _ (st : State) (ss : List Section) (f : Free) (r : Ready (desc st .wpr) s
         go (started l m s g) = in-two (xtend st .number) (stored-one p (length (L .leaf .records)) (taken f) (xtend st .number) (g .number-is))
         go (both l m s c g) = in-two (xtend st .number) (stored-one p (length (L .leaf .records)) (taken (taken f)) (xtend st .number) (g .number-is))
 
-    answers : Xtended st ss f L → Extended p (lastBlock (leavesOf ss)) high (xtend st)
+    answers : Xtended st ss f L → Extended p (lastBlock (leavesIn ss)) high (xtend st)
     answers x = go sequence
       where
-        any : (xs : List (List ℕ)) → xtend st .number ≡ outOfSequence → (xs ≡ [] → L .front ≡ []) → Extended p (lastBlock (leavesOf ss)) xs (xtend st)
+        any : (xs : List (List ℕ)) → xtend st .number ≡ outOfSequence → (xs ≡ [] → L .front ≡ []) → Extended p (lastBlock (leavesIn ss)) xs (xtend st)
         any [] e q = inr (inr (inr (e, alone (q refl))))
         any (y ∷ ys) e q = e
 
         ok : All (RowOk p) ((pre ++ L .front) ++ endRecord p ∷ [])
-        ok = subst (All (RowOk p)) rows-are (rows-of p (leavesOf ss) (rows-ok p ss (r .sound .kept .holds .sized)))
+        ok = subst (All (RowOk p)) rows-are (rows-of p (leavesIn ss) (rows-ok p ss (r .sound .kept .holds .sized)))
 
-        go : Sequence → Extended p (lastBlock (leavesOf ss)) high (xtend st)
+        go : Sequence → Extended p (lastBlock (leavesIn ss)) high (xtend st)
         go (inl (e, q)) = any high e q
         go (inr h) =
-            subst (λ (xs : List (List ℕ)). Extended p (lastBlock (leavesOf ss)) xs (xtend st))
-            (sym (ap (λ (z : List (List ℕ)). ordinary p (recordsFrom p w z)) rows-are ∙ none-from p kr w kw 0 (pre ++ L .front) (endRecord p) h (all-left (RowOk p) (pre ++ L .front) (endRecord p ∷ []) ok) ends))
+            subst (λ (xs : List (List ℕ)). Extended p (lastBlock (leavesIn ss)) xs (xtend st))
+            (sym (ap (λ (z : List (List ℕ)). ordinary p (recordsFrom p w z)) rows-are ∙ none-from p kr w kw 0 (pre ++ L .front) (endRecord p) h
+            (all-left (RowOk p) (pre ++ L .front) (endRecord p ∷ []) ok) ends))
             (numbers h x)
 
-  pub xtend-answers : Extended p (lastBlock (leavesOf ss)) (ordinary p (recordsFrom p w (contents (leavesOf ss)))) (xtend st)
+  pub xtend-answers : Extended p (lastBlock (leavesIn ss)) (ordinary p (recordsFrom p w (recordsIn (leavesIn ss)))) (xtend st)
   xtend-answers = let z = xtend-right st ss f r in answers (z .0) (z .1)

@@ -19,18 +19,16 @@ use Rattle.rules.specs.State.{State, desc, texts, lent}
 use Rattle.rules.specs.Open.{create, openFile}
 use Rattle.rules.specs.Requests.{Request, answer, left, tally}
 use Rattle.demands.specs.Answers.{ordinary}
-use Rattle.demands.specs.Filled.{ButLast, countFrom, OneInOrder, Full, Most, FullIndex, MostIndex, Filled, Counted, disturbs}
+use Rattle.demands.specs.Filled.{ButLast, countFrom, OneInOrder, Full, Most, FullIndex, MostIndex, Filled, CountedOf, disturbs}
 use Rattle.demands.specs.Filled.{OnlyXtends, StandsFilled, StaysFilled, ExtendedFilled}
 use Rattle.demands.proofs.Lists.{All, all-right, from-end}
-use Rattle.demands.proofs.Trees.{leavesOf, leaves-append, contents, contents-append}
-use Rattle.demands.proofs.Holds.{Free, LeafOk, SectionOk}
+use Rattle.demands.proofs.Trees.{leavesIn, leavesIn-append, recordsIn, records-append}
+use Rattle.demands.proofs.Holds.{Free, LeafFits, SectionOk}
 use Rattle.demands.proofs.Sound.{Sound}
 use Rattle.demands.proofs.Stores.{asc-rows}
 use Rattle.demands.proofs.Last.{end-ones}
-use Rattle.demands.proofs.Reader.{leaves-in}
 use Rattle.demands.proofs.Standing.{rows-of, rows-ok}
-use Rattle.demands.proofs.Storing.{ordinary-front}
-use Rattle.demands.proofs.Contents.{read-in}
+use Rattle.demands.proofs.XtendNumber.{ordinary-front}
 use Rattle.demands.proofs.Opens.{Opens, flushed-stands}
 use Rattle.demands.proofs.Moves.{treeIn}
 use Rattle.demands.proofs.Fills.{fronts, ending-one}
@@ -40,13 +38,13 @@ use Rattle.demands.proofs.Demands.{opens, opened-desc, made-fresh}
 
 -- ---- how many blocks there are
 
-pub full-records : (p : Description) (ls : List Leaf) → All (Full p) ls → length (contents ls) ≡ length ls * FD p
+pub full-records : (p : Description) (ls : List Leaf) → All (Full p) ls → length (recordsIn ls) ≡ length ls * FD p
 full-records p [] h = omega arith
-full-records p (l ∷ ls) h = omega (arith, length-append (l .records) (contents ls), h .0, full-records p ls (h .1))
+full-records p (l ∷ ls) h = omega (arith, length-append (l .records) (recordsIn ls), h .0, full-records p ls (h .1))
 
-pub full-leaves : (p : Description) (ss : List Section) → All (FullIndex p) ss → length (leavesOf ss) ≡ length ss * FI p
+pub full-leaves : (p : Description) (ss : List Section) → All (FullIndex p) ss → length (leavesIn ss) ≡ length ss * FI p
 full-leaves p [] h = omega arith
-full-leaves p (s ∷ ss) h = omega (arith, length-append (s .leaves) (leavesOf ss), h .0, full-leaves p ss (h .1))
+full-leaves p (s ∷ ss) h = omega (arith, length-append (s .leaves) (leavesIn ss), h .0, full-leaves p ss (h .1))
 
 -- n full ones and one of 1 to m: n is the number below, divided by m
 divided : (n m r total : ℕ) → 1 ≤ r → r ≤ m → total ≡ n * m + r → (total - 1) / m ≡ n
@@ -58,57 +56,57 @@ module _ (st : State) (ss : List Section) (f : Free) (h : Sound st ss f) (F : Fi
 
   front-is : ordinary p (lay.contents (treeIn ss f)) ≡ h .kept .ended .front
   front-is =
-      let is : contents (leavesOf ss) ≡ h .kept .ended .front ++ endRecord p ∷ [] = h .kept .ended .is in
-      ap (ordinary p) (read-in ss ∙ is)
+      let is : recordsIn (leavesIn ss) ≡ h .kept .ended .front ++ endRecord p ∷ [] = h .kept .ended .is in
+      ap (ordinary p) is
       ∙ ordinary-front p (good-facts p (h .kept .good) .key) (endRecord p) (unfold part in end-ones (texts st) (st .session .flag) ss f (h .kept)) 0
       (h .kept .ended .front) _
-      (rw is at (asc-rows p _ _ ss f (h .kept .holds))) (h .kept .holds .top) (rw is at (rows-of p (leavesOf ss) (rows-ok p ss (h .kept .holds .sized))))
+      (rw is at (asc-rows p _ _ ss f (h .kept .holds))) (h .kept .holds .top) (rw is at (rows-of p (leavesIn ss) (rows-ok p ss (h .kept .holds .sized))))
 
   -- the records of the file are one more than the ordinary ones
-  pub total-is : length (contents (leavesOf ss)) - 1 ≡ length (ordinary p (lay.contents (treeIn ss f)))
+  pub total-is : length (recordsIn (leavesIn ss)) - 1 ≡ length (ordinary p (lay.contents (treeIn ss f)))
   total-is = omega (arith, ap length (h .kept .ended .is), length-append (h .kept .ended .front) (endRecord p ∷ []), ap length front-is)
 
-  details-by : (leavesOf ss ≡ []) ⊎ ((xs : List Leaf) × (y : Leaf) × (leavesOf ss ≡ xs ++ y ∷ []))
-      → length (leavesOf ss) ≡ 1 + length (ordinary p (lay.contents (treeIn ss f))) / FD p
+  details-by : (leavesIn ss ≡ []) ⊎ ((xs : List Leaf) × (y : Leaf) × (leavesIn ss ≡ xs ++ y ∷ []))
+      → length (leavesIn ss) ≡ 1 + length (ordinary p (lay.contents (treeIn ss f))) / FD p
   details-by (inl e) =
       absurd (omega (
         arith,
-        ap (λ (z : List Leaf). length (contents z)) e,
+        ap (λ (z : List Leaf). length (recordsIn z)) e,
         ap length (h .kept .ended .is),
         length-append (h .kept .ended .front) (endRecord p ∷ []),
       ))
   details-by (inr (xs, y, e)) =
-      let b : ButLast (Full p) (Most p) (xs ++ y ∷ []) = subst (ButLast (Full p) (Most p)) (leaves-in ss ∙ e) (F .details) in
-      let ok : LeafOk p y = all-right (LeafOk p) xs _ (rw e at (rows-ok p ss (h .kept .holds .sized))) .0 in
-      let n : length (contents (leavesOf ss)) ≡ length xs * FD p + length (y .records)
-      = ap (λ (z : List Leaf). length (contents z)) e ∙ omega (
+      let b : ButLast (Full p) (Most p) (xs ++ y ∷ []) = subst (ButLast (Full p) (Most p)) e (F .details) in
+      let ok : LeafFits p y = all-right (LeafFits p) xs _ (rw e at (rows-ok p ss (h .kept .holds .sized))) .0 in
+      let n : length (recordsIn (leavesIn ss)) ≡ length xs * FD p + length (y .records)
+      = ap (λ (z : List Leaf). length (recordsIn z)) e ∙ omega (
         arith,
-        ap length (contents-append xs (y ∷ [])),
-        length-append (contents xs) (contents (y ∷ [])),
+        ap length (records-append xs (y ∷ [])),
+        length-append (recordsIn xs) (recordsIn (y ∷ [])),
         length-append (y .records) [],
         full-records p xs (fronts (Full p) (Most p) xs y b),
       ) in
       let d : length (ordinary p (lay.contents (treeIn ss f))) / FD p ≡ length xs
-      = ap (λ (m : ℕ). m / FD p) (sym total-is) ∙ divided (length xs) (FD p) (length (y .records)) (length (contents (leavesOf ss))) (ok .some)
+      = ap (λ (m : ℕ). m / FD p) (sym total-is) ∙ divided (length xs) (FD p) (length (y .records)) (length (recordsIn (leavesIn ss))) (ok .some)
       (ending-one (Full p) (Most p) xs y b) n in
       omega (arith, ap length e, length-append xs (y ∷ []), d)
 
-  indexes-by : (ss ≡ []) ⊎ ((xs : List Section) × (y : Section) × (ss ≡ xs ++ y ∷ [])) → length ss ≡ 1 + (length (leavesOf ss) - 1) / FI p
+  indexes-by : (ss ≡ []) ⊎ ((xs : List Section) × (y : Section) × (ss ≡ xs ++ y ∷ [])) → length ss ≡ 1 + (length (leavesIn ss) - 1) / FI p
   indexes-by (inl e) =
       absurd (omega (
         arith,
-        ap (λ (z : List Section). length (contents (leavesOf z))) e,
+        ap (λ (z : List Section). length (recordsIn (leavesIn z))) e,
         ap length (h .kept .ended .is),
         length-append (h .kept .ended .front) (endRecord p ∷ []),
       ))
   indexes-by (inr (xs, y, e)) =
       let b : ButLast (FullIndex p) (MostIndex p) (xs ++ y ∷ []) = subst (ButLast (FullIndex p) (MostIndex p)) e (F .indexes) in
       let ok : SectionOk p y = all-right (SectionOk p) xs _ (rw e at (h .kept .holds .sized)) .0 in
-      let n : length (leavesOf ss) ≡ length xs * FI p + length (y .leaves)
-      = ap (λ (z : List Section). length (leavesOf z)) e ∙ omega (
+      let n : length (leavesIn ss) ≡ length xs * FI p + length (y .leaves)
+      = ap (λ (z : List Section). length (leavesIn z)) e ∙ omega (
         arith,
-        ap length (leaves-append xs (y ∷ [])),
-        length-append (leavesOf xs) (leavesOf (y ∷ [])),
+        ap length (leavesIn-append xs (y ∷ [])),
+        length-append (leavesIn xs) (leavesIn (y ∷ [])),
         length-append (y .leaves) [],
         full-leaves p xs (fronts (FullIndex p) (MostIndex p) xs y b),
       ) in
@@ -116,13 +114,11 @@ module _ (st : State) (ss : List Section) (f : Free) (h : Sound st ss f) (F : Fi
         arith,
         ap length e,
         length-append xs (y ∷ []),
-        divided (length xs) (FI p) (length (y .leaves)) (length (leavesOf ss)) (ok .some) (ending-one (FullIndex p) (MostIndex p) xs y b) n,
+        divided (length xs) (FI p) (length (y .leaves)) (length (leavesIn ss)) (ok .some) (ending-one (FullIndex p) (MostIndex p) xs y b) n,
       )
 
-  counted : Counted p (treeIn ss f)
-  counted =
-      let n : length (lay.leavesIn ss) ≡ length (leavesOf ss) = ap length (leaves-in ss) in
-      record { details = n ∙ details-by (from-end (leavesOf ss)); indexes = indexes-by (from-end ss) ∙ ap (λ (m : ℕ). 1 + (m - 1) / FI p) (sym n) }
+  counted : CountedOf p (treeIn ss f)
+  counted = record { details = details-by (from-end (leavesIn ss)); indexes = indexes-by (from-end ss) }
 
 -- ---- over a run
 
@@ -147,7 +143,7 @@ stays-filled st marks o t ht F qs only =
 
 -- the file that CREATE writes
 fresh-filled : (p : Description) → goodParams p ≡ true → Filled p (freshTree p)
-unfolding freshTree freshSection freshLeaf lay.leavesIn ButLast OneInOrder leafBlocks countFrom FD FI
+unfolding freshTree freshSection freshLeaf ButLast OneInOrder leafBlocks countFrom FD FI
 fresh-filled p good =
     let g = good-facts p good in
     record {

@@ -12,7 +12,7 @@ use Rattle.drum.specs.declared.Description.{Description}
 use Rattle.drum.specs.Params.{D, I, FD, FI, goodParams}
 use Rattle.drum.proofs.Good.{good-facts}
 use Rattle.layout.specs.Create.{endRecord}
-use Rattle.layout.specs.Tree.{Leaf, Section, lastOf}
+use Rattle.layout.specs.Tree.{Leaf, Section, lastIn}
 use Rattle.layout.proofs.Lists.{last-right}
 use Rattle.rules.specs.State.{State, desc, texts, keyIn}
 use Rattle.demands.specs.Filled.{Filled}
@@ -95,14 +95,14 @@ module _ (st : State) (ss : List Section) (f : Free) where
       pub record-filled : length (L .leaf .records) < FD p → Filled p (treeIn (withRecord st ss f L) f)
       record-filled less =
           let rows : List (List ℕ) = L .front ++ st .work ∷ (endRecord p ∷ []) in
-          let last : lastOf rows ≡ lastOf (L .leaf .records)
+          let last : lastIn rows ≡ lastIn (L .leaf .records)
           = last-right (L .front) (st .work ∷ (endRecord p ∷ [])) (omega arith)
-          ∙ unfold lastOf in sym (ap lastOf (L .rows-are) ∙ last-right (L .front) (endRecord p ∷ []) (omega arith)) in
+          ∙ unfold lastIn in sym (ap lastIn (L .rows-are) ∙ last-right (L .front) (endRecord p ∷ []) (omega arith)) in
           filled-swap p end (withRows p (L .leaf) rows) f refl refl (ap (keyIn p) last) (λ e. absurd (omega (arith, less, e)))
           (λ e. omega (arith, less, size, length-append (L .front) (st .work ∷ (endRecord p ∷ [])))) filled-end
 
-      tight : old .bound ≡ keyIn p (lastOf (old .records))
-      unfolding part lastOf
+      tight : old .bound ≡ keyIn p (lastIn (old .records))
+      unfolding part lastIn
       tight = ap (keyIn p) (sym (last-right (L .front) (st .work ∷ []) (omega arith)))
 
       old-size : length (old .records) ≡ length (L .leaf .records)

@@ -6,17 +6,16 @@ use native.Mathlib.Omega.{arith}
 use lib.ListN.{length, length-append}
 use Rattle.drum.specs.declared.Description.{Description}
 use Rattle.drum.specs.Params.{FD, FI}
-use Rattle.layout.specs.Tree.{Leaf, Section, lastOf, leafBlocks}
+use Rattle.layout.specs.Tree.{Leaf, Section, lastIn, leafBlocks}
 use Rattle.layout.specs.Tree as lay
 use Rattle.layout.proofs.Lists.{last-right}
 use Rattle.rules.specs.State.{keyIn}
 use Rattle.demands.specs.Filled.{ButLast, countFrom, OneInOrder, Full, Most, FullIndex, MostIndex, Tight, Any, Filled}
 use Rattle.demands.proofs.Lists.{All, all-append}
-use Rattle.demands.proofs.Trees.{leavesOf, leaves-append}
+use Rattle.demands.proofs.Trees.{leavesIn, leavesIn-append}
 use Rattle.demands.proofs.Holds.{Free}
 use Rattle.demands.proofs.Steps.{sec, withRows}
 use Rattle.demands.proofs.Places.{Place, treeOf, treeWith, olds}
-use Rattle.demands.proofs.Reader.{leaves-in}
 use Rattle.demands.proofs.Frees.{next, taken}
 use Rattle.demands.proofs.Moves.{treeIn, withChain, blocks-append}
 
@@ -105,27 +104,27 @@ fresh-next f e =
 -- ---- the key of the last record, where one gives way to another with its key
 
 last-key : (p : Description) (bs : List (List ℕ)) (x w : List ℕ) (cs : List (List ℕ)) → keyIn p w ≡ keyIn p x
-    → keyIn p (lastOf (bs ++ w ∷ cs)) ≡ keyIn p (lastOf (bs ++ x ∷ cs))
-unfolding lastOf
+    → keyIn p (lastIn (bs ++ w ∷ cs)) ≡ keyIn p (lastIn (bs ++ x ∷ cs))
+unfolding lastIn
 last-key p bs x w cs e = ap (keyIn p) (last-right bs (w ∷ cs) (omega arith)) ∙ go cs ∙ sym (ap (keyIn p) (last-right bs (x ∷ cs) (omega arith)))
   where
-    go : (cs : List (List ℕ)) → keyIn p (lastOf (w ∷ cs)) ≡ keyIn p (lastOf (x ∷ cs))
+    go : (cs : List (List ℕ)) → keyIn p (lastIn (w ∷ cs)) ≡ keyIn p (lastIn (x ∷ cs))
     go [] = e
     go (c ∷ cs) = refl
 
 -- ---- the parts of a filled tree
 
 module _ (p : Description) where
-  place-leaves : (a : Place) (ls : List Leaf) → lay.leavesIn (treeWith a ls) ≡ (leavesOf (a .before) ++ a .low) ++ (ls ++ (a .high ++ leavesOf (a .behind)))
-  place-leaves a ls = leaves-in (treeWith a ls) ∙ simp (leaves-append, append-assoc)
+  place-leaves : (a : Place) (ls : List Leaf) → lay.leavesIn (treeWith a ls) ≡ (leavesIn (a .before) ++ a .low) ++ (ls ++ (a .high ++ leavesIn (a .behind)))
+  place-leaves a ls = simp (leavesIn-append, append-assoc)
 
   -- a block's records give way to others: UPDAT, and XTEND where the last block has room
   pub filled-swap : (a : Place) (m : Leaf) (f : Free) → m .block ≡ a .leaf .block → m .bound ≡ a .leaf .bound
-      → keyIn p (lastOf (m .records)) ≡ keyIn p (lastOf (a .leaf .records))
+      → keyIn p (lastIn (m .records)) ≡ keyIn p (lastIn (a .leaf .records))
       → (Full p (a .leaf) → Full p m) → (Most p (a .leaf) → Most p m) → Filled p (treeIn (treeOf a) f) → Filled p (treeIn (treeWith a (m ∷ [])) f)
   filled-swap a m f eb ed ek full most h =
-      let pre : List Leaf = leavesOf (a .before) ++ a .low in
-      let post : List Leaf = a .high ++ leavesOf (a .behind) in
+      let pre : List Leaf = leavesIn (a .before) ++ a .low in
+      let post : List Leaf = a .high ++ leavesIn (a .behind) in
       let was : lay.leavesIn (treeOf a) ≡ pre ++ (a .leaf ∷ post) = place-leaves a (a .leaf ∷ []) in
       let now : lay.leavesIn (treeWith a (m ∷ [])) ≡ pre ++ (m ∷ post) = place-leaves a (m ∷ []) in
       let size : length (a .low ++ (m ∷ a .high)) ≡ length (a .low ++ (a .leaf ∷ a .high))
@@ -158,20 +157,20 @@ module _ (p : Description) where
       → Filled p (treeIn ss f) → Filled p (treeIn (treeWith a (withRows p (a .leaf) (bs ++ w ∷ cs) ∷ [])) f)
   filled-updated a f ss is bs x w cs q k h =
       let size : length (bs ++ w ∷ cs) ≡ length (a .leaf .records) = length-append bs (w ∷ cs) ∙ sym (ap length q ∙ length-append bs (x ∷ cs)) in
-      filled-swap a (withRows p (a .leaf) (bs ++ w ∷ cs)) f refl refl (last-key p bs x w cs k ∙ ap (λ (z : List (List ℕ)). keyIn p (lastOf z)) (sym q))
+      filled-swap a (withRows p (a .leaf) (bs ++ w ∷ cs)) f refl refl (last-key p bs x w cs k ∙ ap (λ (z : List (List ℕ)). keyIn p (lastIn z)) (sym q))
       (λ e. size ∙ e) (λ l. omega (arith, size))
       (subst (λ (z : List Section). Filled p (treeIn z f)) is h)
 
   -- ---- a block starts behind the last one, which is full
 
   module _ (bs : List Section) (i : ℕ) (low : List Leaf) (l m n : Leaf) (f : Free) (h : Filled p (treeIn (bs ++ (sec i (low ++ (l ∷ [])) ∷ [])) f))
-      (full : FD p ≤ length (l .records)) (size : length (m .records) ≡ length (l .records)) (tight : m .bound ≡ keyIn p (lastOf (m .records)))
+      (full : FD p ≤ length (l .records)) (size : length (m .records) ≡ length (l .records)) (tight : m .bound ≡ keyIn p (lastIn (m .records)))
       (block : m .block ≡ l .block) (new : n .block ≡ next f) (few : length (n .records) ≤ FD p) where
     abbrev pre : List Leaf
-    pre = leavesOf bs ++ low
+    pre = leavesIn bs ++ low
 
     was : lay.leavesIn (bs ++ (sec i (low ++ (l ∷ [])) ∷ [])) ≡ pre ++ (l ∷ [])
-    was = leaves-in _ ∙ simp (leaves-append, append-assoc, append-nil)
+    was = simp (leavesIn-append, append-assoc, append-nil)
 
     full-now : All (Full p) (pre ++ (m ∷ []))
     full-now =
@@ -202,7 +201,7 @@ module _ (p : Description) where
         let s : Section = sec i (low ++ (l ∷ [])) in
         let u : Section = sec i (low ++ (m ∷ (n ∷ []))) in
         let z = fresh-next f (h .chain) in
-        with-both (bs ++ (u ∷ [])) (taken f) (leaves-in _ ∙ simp (leaves-append, append-assoc, append-nil)) (z .1)
+        with-both (bs ++ (u ∷ [])) (taken f) (simp (leavesIn-append, append-assoc, append-nil)) (z .1)
         (swapped (FullIndex p) (MostIndex p) bs s u [] (λ e. absurd (omega (arith, room, e)))
         (λ e. omega (arith, room, length-append low (l ∷ []), length-append low (m ∷ (n ∷ [])))) (h .indexes))
         (omega (arith, z .2, length-append bs (s ∷ []), length-append bs (u ∷ [])))
@@ -221,7 +220,7 @@ module _ (p : Description) where
         let y = fresh-next (taken f) (z .1) in
         let long : length (low ++ (m ∷ [])) ≡ length (low ++ (l ∷ [])) = length-append low (m ∷ []) ∙ sym (length-append low (l ∷ [])) in
         let top : length (low ++ (l ∷ [])) ≤ FI p = ending-one (FullIndex p) (MostIndex p) bs (sec i (low ++ (l ∷ []))) (h .indexes) in
-        with-both (bs ++ (s ∷ (u ∷ []))) (taken (taken f)) (leaves-in _ ∙ simp (leaves-append, append-assoc, append-nil)) (y .1)
+        with-both (bs ++ (s ∷ (u ∷ []))) (taken (taken f)) (simp (leavesIn-append, append-assoc, append-nil)) (y .1)
         (subst (ButLast (FullIndex p) (MostIndex p)) (append-assoc bs (s ∷ []) (u ∷ []))
         (ends-in (FullIndex p) (MostIndex p) (bs ++ (s ∷ [])) u
         (all-append (FullIndex p) bs (s ∷ []) (fronts (FullIndex p) (MostIndex p) bs (sec i (low ++ (l ∷ []))) (h .indexes))

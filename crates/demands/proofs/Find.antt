@@ -44,11 +44,14 @@ module _ (key : List ℕ) (wide : allWords key ≡ true) where
   test-above w [] h = tt
   test-above w (r ∷ rows) h = (keyLt-val key (take w r) wide (h .0 .1) (sym (h .0 .0)), test-above w rows (h .1))
 
-module _ (h : Shape) (kw : h .width ≤ h .stride) (rows : List (List ℕ)) (er : Each (h .stride) rows) (key : List ℕ) (wide : allWords key ≡ true) (hk : All (KeyRow key wide (h .width)) rows) where
+module _ (h : Shape) (kw : h .width ≤ h .stride) (rows : List (List ℕ)) (er : Each (h .stride) rows) (key : List ℕ) (wide : allWords key ≡ true)
+    (hk : All (KeyRow key wide (h .width)) rows) where
   -- in the master
-  pub from-is : (front : List ℕ) → h .base ≡ suc (length front) → (z : ℕ) (rest : List ℕ) → rowFrom h key (tab front rows z rest) ≡ firstIn (λ r. leb (val key) (val (take (h .width) r))) rows
+  pub from-is : (front : List ℕ) → h .base ≡ suc (length front) → (z : ℕ) (rest : List ℕ)
+      → rowFrom h key (tab front rows z rest) ≡ firstIn (λ r. leb (val key) (val (take (h .width) r))) rows
   unfolding tab encode
-  from-is front eb z rest = from-encode h front eb kw key (length rows) rows refl er (zeros z ++ rest) ∙ firstIn-same _ _ rows (test-from key wide (h .width) rows hk)
+  from-is front eb z rest =
+      from-encode h front eb kw key (length rows) rows refl er (zeros z ++ rest) ∙ firstIn-same _ _ rows (test-from key wide (h .width) rows hk)
 
   -- in a block
   module _ (one : h .base ≡ 1) (wpb : ℕ) where

@@ -31,11 +31,14 @@ module _ (h : Shape) (front : List ℕ) (eb : h .base ≡ suc (length front)) (b
     pub inserted-tab : Each (h .stride) cs → inserted h (length bs) r (tab front (bs ++ cs) (h .stride + z) rest) ≡ tab front (bs ++ r ∷ cs) z rest
     unfolding tab encode
     inserted-tab hc =
-        rw (zeros-split (h .stride) z rest) (inserted-encode h front eb bs cs hb hc (length (bs ++ cs)) (length (bs ++ r ∷ cs)) r (zeros (h .stride)) (zeros z ++ rest) refl refl hr (zeros-length (h .stride)))
+        rw (zeros-split (h .stride) z rest) (inserted-encode h front eb bs cs hb hc (length (bs ++ cs)) (length (bs ++ r ∷ cs)) r (zeros (h .stride))
+        (zeros z ++ rest) refl refl hr (zeros-length (h .stride)))
 
     pub removed-tab : Each (h .stride) cs → removed h (length bs) (tab front (bs ++ r ∷ cs) z rest) ≡ tab front (bs ++ cs) (h .stride + z) rest
     unfolding tab encode
-    removed-tab hc = rw (zeros-split (h .stride) z rest) (removed-encode h front eb bs cs hb hc (length (bs ++ r ∷ cs)) (length (bs ++ cs)) r (zeros z ++ rest) refl refl hr)
+    removed-tab hc =
+        rw (zeros-split (h .stride) z rest)
+        (removed-encode h front eb bs cs hb hc (length (bs ++ r ∷ cs)) (length (bs ++ cs)) r (zeros z ++ rest) refl refl hr)
 
   -- entries: a key, and the block that it bounds
   module _ (w : List ℕ) (b : ℕ) (hw : length w ≡ h .width) (cs : List (List ℕ)) (z : ℕ) (rest : List ℕ) where
@@ -44,10 +47,12 @@ module _ (h : Shape) (front : List ℕ) (eb : h .base ≡ suc (length front)) (b
     block-tab hs = entry-block h (length (bs ++ (w ++ (b ∷ [])) ∷ cs) ∷ front) eb hs bs hb w hw b cs (zeros z ++ rest)
 
     -- another key for the entry
-    pub rekeyed-tab : (w′ : List ℕ) → length w′ ≡ h .width → replaced h (length bs) w′ (tab front (bs ++ (w ++ (b ∷ [])) ∷ cs) z rest) ≡ tab front (bs ++ (w′ ++ (b ∷ [])) ∷ cs) z rest
+    pub rekeyed-tab : (w′ : List ℕ) → length w′ ≡ h .width
+        → replaced h (length bs) w′ (tab front (bs ++ (w ++ (b ∷ [])) ∷ cs) z rest) ≡ tab front (bs ++ (w′ ++ (b ∷ [])) ∷ cs) z rest
     unfolding tab encode
     rekeyed-tab w′ hw′ =
-        let n : length (bs ++ (w ++ (b ∷ [])) ∷ cs) ≡ length (bs ++ (w′ ++ (b ∷ [])) ∷ cs) = length-append bs ((w ++ (b ∷ [])) ∷ cs) ∙ sym (length-append bs ((w′ ++ (b ∷ [])) ∷ cs)) in
+        let n : length (bs ++ (w ++ (b ∷ [])) ∷ cs) ≡ length (bs ++ (w′ ++ (b ∷ [])) ∷ cs)
+        = length-append bs ((w ++ (b ∷ [])) ∷ cs) ∙ sym (length-append bs ((w′ ++ (b ∷ [])) ∷ cs)) in
         rekeyed-encode h (length (bs ++ (w ++ (b ∷ [])) ∷ cs) ∷ front) eb bs hb w w′ (b ∷ []) cs (zeros z ++ rest) (hw ∙ sym hw′)
         ∙ ap (λ (m : ℕ). encode (m ∷ front) (bs ++ (w′ ++ (b ∷ [])) ∷ cs) (zeros z ++ rest)) n
 
@@ -58,4 +63,5 @@ module _ (h : Shape) (front : List ℕ) (eb : h .base ≡ suc (length front)) (b
   unfolding tab encode
   entered-tab w b hw cs z rest hs hc r hr c =
       rw (zeros-split (h .stride) z rest)
-      (entered-encode h front eb hs bs cs hb hc (length (bs ++ (w ++ (b ∷ [])) ∷ cs)) (length (bs ++ r ∷ ((w ++ (c ∷ [])) ∷ cs))) w b c r (zeros (h .stride)) (zeros z ++ rest) refl refl hw hr (zeros-length (h .stride)))
+      (entered-encode h front eb hs bs cs hb hc (length (bs ++ (w ++ (b ∷ [])) ∷ cs)) (length (bs ++ r ∷ ((w ++ (c ∷ [])) ∷ cs))) w b c r (zeros (h .stride))
+      (zeros z ++ rest) refl refl hw hr (zeros-length (h .stride)))

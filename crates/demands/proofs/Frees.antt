@@ -18,13 +18,13 @@ use Rattle.drum.specs.Blocks.{Texts, textOf, freeText, linkIn}
 use Rattle.rules.specs.declared.Taken.{Taken}
 use Rattle.rules.specs.Free.{noneLeft, granted, isNew, storedNumber}
 use Rattle.demands.proofs.Lists.{All, all-left, all-right}
-use Rattle.demands.proofs.Cells.{Cell, is, is-self, is-ne, weigh, weigh-append, weigh-cons, times, Agree}
+use Rattle.demands.proofs.Cells.{Cell, is, is-self, is-ne, weigh, weigh-append, weigh-cons, cellTimes, Agree}
 use Rattle.layout.specs.Tree.{Section}
 use Rattle.demands.proofs.Trees.{cellsOf}
-use Rattle.demands.proofs.Holds.{Free, Holds, headOr, chainCells, freshCells, freeCells, inside, inside-le}
+use Rattle.demands.proofs.Holds.{Free, HoldsCells, headOr, chainCells, freshCells, freeCells, inside, inside-le}
 use Rattle.demands.proofs.Places.{Place, treeOf, inside-low, cells-in, spot-cell}
 use Rattle.demands.proofs.Paths.{pathOf, within-pass, upto-pass}
-use Rattle.demands.proofs.Sound.{Kept}
+use Rattle.demands.proofs.Sound.{KeptTree}
 
 abbrev pub next : Free → ℕ
 next f = headOr (f .chain) (f .lowest)
@@ -56,7 +56,8 @@ pub take-block : (p : Description) (f : Free) → 1 ≤ freeCount f → freeCell
 unfolding freeCells firstText
 take-block p f h = go (f .chain) (f .spare) h
   where
-    go : (c : List ℕ) (s : ℕ) → 1 ≤ length c + s → freeCells p (record { chain = c; lowest = f .lowest; spare = s }) ≡ (headOr c (f .lowest), firstText p c) ∷ freeCells p (takes c (f .lowest) s)
+    go : (c : List ℕ) (s : ℕ) → 1 ≤ length c + s
+        → freeCells p (record { chain = c; lowest = f .lowest; spare = s }) ≡ (headOr c (f .lowest), firstText p c) ∷ freeCells p (takes c (f .lowest) s)
     go [] zero h = absurd (omega arith)
     go [] (suc s) h = refl
     go (c ∷ cs) s h = refl
@@ -89,12 +90,12 @@ cells-chain : (p : Description) (Q : ℕ → Type 0) (bs : List ℕ) → All (λ
 cells-chain p Q [] h = tt
 cells-chain p Q (b ∷ bs) h = (h .0, cells-chain p Q bs (h .1))
 
-all-times : (Q : ℕ → Type 0) (cs : List Cell) → ((b : ℕ) → 1 ≤ times b cs → Q b) → All (λ c. Q (c .0)) cs
-unfolding times weigh
+all-times : (Q : ℕ → Type 0) (cs : List Cell) → ((b : ℕ) → 1 ≤ cellTimes b cs → Q b) → All (λ c. Q (c .0)) cs
+unfolding cellTimes weigh
 all-times Q [] h = tt
 all-times Q (c ∷ cs) h = (h (c .0) (omega (arith, is-self (c .0))), all-times Q cs (λ b l. h b (omega arith)))
 
-pub free-ok : (v : Texts) (ss : List Section) (f : Free) (master : List ℕ) → Holds (v .desc) master (textOf v) ss f → FreeOk v f
+pub free-ok : (v : Texts) (ss : List Section) (f : Free) (master : List ℕ) → HoldsCells (v .desc) master (textOf v) ss f → FreeOk v f
 unfolding freeCells
 free-ok v ss f master h =
     let p : Description = v .desc in
@@ -150,7 +151,8 @@ module _ (v : Texts) where
   unfolding storedNumber
   stored-number n f h = go (eqb n (D (v .desc)))
     where
-      go : (t : Bool) → (cond t (noneLeft (v .desc) (headOr (f .chain) 0) (f .lowest) >>= (λ none. passed (cond none noneFree done))) (passed done)) ≡ passed (cond (t && eqb (freeCount f) 0) noneFree done)
+      go : (t : Bool) → (cond t (noneLeft (v .desc) (headOr (f .chain) 0) (f .lowest) >>= (λ none. passed (cond none noneFree done))) (passed done)) ≡ passed
+          (cond (t && eqb (freeCount f) 0) noneFree done)
       go true = simp (none-left f h)
       go false = refl
 
@@ -176,41 +178,52 @@ module _ (v : Texts) where
 
 -- ---- a new block is none of the call's other blocks
 
-module _ (p : Description) (master : List ℕ) (text : ℕ → List ℕ) (ss : List Section) (f : Free) (h : Holds p master text ss f) (l : 1 ≤ freeCount f) where
-  split : (b : ℕ) → times b (cellsOf (p .wpb) ss) + (is (next f) b + times b (freeCells p (taken f))) ≡ inside (p .n) b
-  unfolding times
+module _ (p : Description) (master : List ℕ) (text : ℕ → List ℕ) (ss : List Section) (f : Free) (h : HoldsCells p master text ss f) (l : 1 ≤ freeCount f) where
+  split : (b : ℕ) → cellTimes b (cellsOf (p .wpb) ss) + (is (next f) b + cellTimes b (freeCells p (taken f))) ≡ inside (p .n) b
+  unfolding cellTimes
   split b =
       sym (weigh-append (λ c. is (c .0) b) (cellsOf (p .wpb) ss) (freeCells p f)
-      ∙ ap (λ (n : ℕ). weigh (λ c. is (c .0) b) (cellsOf (p .wpb) ss) + n) (ap (weigh (λ c. is (c .0) b)) (take-block p f l) ∙ weigh-cons (λ c. is (c .0) b) (next f, firstText p (f .chain)) (freeCells p (taken f)))) ∙ h .once b
+      ∙ ap (λ (n : ℕ). weigh (λ c. is (c .0) b) (cellsOf (p .wpb) ss) + n)
+      (ap (weigh (λ c. is (c .0) b)) (take-block p f l) ∙ weigh-cons (λ c. is (c .0) b) (next f, firstText p (f .chain)) (freeCells p (taken f)))) ∙ h .once b
 
   pub next-in : (1 ≤ next f) × (next f ≤ p .n)
   next-in = inside-low (p .n) (next f) (omega (arith, split (next f), is-self (next f)))
 
   -- the first new block, and the second
-  pub next-outside : times (next f) (cellsOf (p .wpb) ss) ≡ 0
+  pub next-outside : cellTimes (next f) (cellsOf (p .wpb) ss) ≡ 0
   next-outside = omega (arith, split (next f), is-self (next f), inside-le (p .n) (next f))
 
   module _ (l₂ : 1 ≤ freeCount (taken f)) where
-    more : (b : ℕ) → times b (freeCells p (taken f)) ≡ is (next (taken f)) b + times b (freeCells p (taken (taken f)))
-    unfolding times
-    more b = ap (weigh (λ c. is (c .0) b)) (take-block p (taken f) l₂) ∙ weigh-cons (λ c. is (c .0) b) (next (taken f), firstText p (taken f .chain)) (freeCells p (taken (taken f)))
+    more : (b : ℕ) → cellTimes b (freeCells p (taken f)) ≡ is (next (taken f)) b + cellTimes b (freeCells p (taken (taken f)))
+    unfolding cellTimes
+    more b =
+        ap (weigh (λ c. is (c .0) b)) (take-block p (taken f) l₂)
+        ∙ weigh-cons (λ c. is (c .0) b) (next (taken f), firstText p (taken f .chain)) (freeCells p (taken (taken f)))
 
     pub second-in : (1 ≤ next (taken f)) × (next (taken f) ≤ p .n)
     second-in = inside-low (p .n) (next (taken f)) (omega (arith, split (next (taken f)), more (next (taken f)), is-self (next (taken f))))
 
-    pub second-outside : times (next (taken f)) (cellsOf (p .wpb) ss) ≡ 0
+    pub second-outside : cellTimes (next (taken f)) (cellsOf (p .wpb) ss) ≡ 0
     second-outside = omega (arith, split (next (taken f)), more (next (taken f)), is-self (next (taken f)), inside-le (p .n) (next (taken f)))
 
     pub second-other : next (taken f) ≢ next f
     second-other = is-ne (next (taken f)) (next f) (omega (arith, split (next f), more (next f), is-self (next f), inside-le (p .n) (next f)))
 
-pub new-pass : (v : Texts) (flag : Bool) (ss : List Section) (f : Free) → Kept v flag ss f → (a : Place) → ss ≡ treeOf a → (b : ℕ) → times b (cellsOf (v .desc .wpb) ss) ≡ 0
+pub new-pass : (v : Texts) (flag : Bool) (ss : List Section) (f : Free) → KeptTree v flag ss f → (a : Place) → ss ≡ treeOf a → (b : ℕ)
+    → cellTimes b (cellsOf (v .desc .wpb) ss) ≡ 0
     → isNew (v .current) flag (pathOf a) b ≡ true
 new-pass v flag ss f h a e b z =
     let apart : is (a .index) b + is (a .leaf .block) b ≡ 0 = omega (arith, cells-in (v .desc .wpb) a b, rw e at z) in
-    simp (ne-eqb b (a .index) (λ q. is-ne (a .index) b (omega arith) (sym q)), ne-eqb b (a .leaf .block) (λ q. is-ne (a .leaf .block) b (omega arith) (sym q))) (go flag refl)
+    simp
+    (ne-eqb b (a .index) (λ q. is-ne (a .index) b (omega arith) (sym q)), ne-eqb b (a .leaf .block) (λ q. is-ne (a .leaf .block) b (omega arith) (sym q)))
+    (go flag refl)
   where
     go : (t : Bool) → flag ≡ t → not (t && eqb b (v .current)) ≡ true
     go false g = refl
     go true g =
-        simp (ne-eqb b (v .current) (λ q. omega (arith, z, subst (λ (c : ℕ). 1 ≤ times c (cellsOf (v .desc .wpb) ss)) (sym q) (spot-cell (v .desc) ss (v .current) (h .current (h .flagged g))))))
+        simp (ne-eqb b (v .current) (λ q. omega (
+          arith,
+          z,
+          subst (λ (c : ℕ). 1 ≤ cellTimes c (cellsOf (v .desc .wpb) ss)) (sym q)
+              (spot-cell (v .desc) ss (v .current) (h .current (h .flagged g))),
+        )))

@@ -21,7 +21,6 @@ use Rattle.demands.specs.Promises.{putBack}
 use Rattle.demands.specs.Answers.{Keyed, lastBlock}
 use Rattle.demands.specs.Storing.{sectionFor, blockFor, lastSection}
 use Rattle.demands.specs.Growing.{oneIf, stores, Grown, CallGrowth}
-use Rattle.demands.proofs.Trees.{leavesOf}
 use Rattle.demands.proofs.Holds.{Free}
 use Rattle.demands.proofs.Places.{Place, olds}
 use Rattle.demands.proofs.Sound.{Sound}
@@ -36,12 +35,14 @@ use Rattle.demands.proofs.Opens.{flushed-stands}
 use Rattle.demands.proofs.Stepped.{Stepped}
 use Rattle.demands.proofs.Calls.{stepped}
 use Rattle.demands.proofs.Answered.{readied}
-use Rattle.demands.proofs.Storing.{section-is, block-is, rows-are, section-are}
+use Rattle.demands.proofs.NsertNumber.{section-is, block-is}
+use Rattle.demands.proofs.XtendNumber.{rows-are, section-are}
 use Rattle.demands.proofs.Moves.{treeIn}
 use Rattle.demands.proofs.Promised.{after-open}
 
 -- so many more blocks are in use
-module _ (st : State) (ss : List Section) (f : Free) (h : Sound st ss f) (o : Outcome) (ss′ : List Section) (f′ : Free) (h′ : Sound (o .after) ss′ f′) (b : Growth) (g : Grows (desc st) ss ss′ b) where
+module _ (st : State) (ss : List Section) (f : Free) (h : Sound st ss f) (o : Outcome) (ss′ : List Section) (f′ : Free) (h′ : Sound (o .after) ss′ f′)
+    (b : Growth) (g : Grows (desc st) ss ss′ b) where
   pub more-details : newDetails st o ≡ b .splits + b .starts
   unfolding newDetails
   more-details = ap₂ (λ (m n : ℕ). m - n) (details-are (o .after) ss′ f′ h′) (details-are st ss f h) ∙ g .details
@@ -61,7 +62,8 @@ stored-yes p n f = go (eqb n (D p) && eqb (freeCount f) 0)
 abbrev News : State → Outcome → Bool → Bool → Type 0
 News st o full top = (newDetails st o ≡ oneIf (accepted (o .number) && full)) × (newIndexes st o ≡ oneIf (accepted (o .number) && (full && top)))
 
-news-by : (st : State) (o : Outcome) (full top : Bool) {n : ℕ} (a : Bool) → o .number ≡ n → accepted n ≡ a → newDetails st o ≡ oneIf (a && full) → newIndexes st o ≡ oneIf (a && (full && top)) → News st o full top
+news-by : (st : State) (o : Outcome) (full top : Bool) {n : ℕ} (a : Bool) → o .number ≡ n → accepted n ≡ a → newDetails st o ≡ oneIf (a && full)
+    → newIndexes st o ≡ oneIf (a && (full && top)) → News st o full top
 news-by st o full top a e q d i =
     let s : a ≡ accepted (o .number) = sym (ap accepted e ∙ q) in
     (d ∙ ap (λ (t : Bool). oneIf (t && full)) s, i ∙ ap (λ (t : Bool). oneIf (t && (full && top))) s)
@@ -74,11 +76,13 @@ module _ (st : State) (ss : List Section) (f : Free) (h : Sound st ss f) (w : Li
   r = readied st ss f h (p .wpr) w ask
 
   module _ (o : Outcome) where
-    details-of : {n m : ℕ} {rows : List (List ℕ)} {b : Growth} {ss′ : List Section} {f′ : Free} → Gives (lending w st) ss o n m rows b ss′ f′ → newDetails st o ≡ b .splits + b .starts
+    details-of : {n m : ℕ} {rows : List (List ℕ)} {b : Growth} {ss′ : List Section} {f′ : Free} → Gives (lending w st) ss o n m rows b ss′ f′
+        → newDetails st o ≡ b .splits + b .starts
     unfolding lending
     details-of {n} {m} {rows} {b} {ss′} {f′} g = more-details st ss f h o ss′ f′ (g .sound) b (g .grows)
 
-    indexes-of : {n m : ℕ} {rows : List (List ℕ)} {b : Growth} {ss′ : List Section} {f′ : Free} → Gives (lending w st) ss o n m rows b ss′ f′ → newIndexes st o ≡ b .index-splits + b .index-starts
+    indexes-of : {n m : ℕ} {rows : List (List ℕ)} {b : Growth} {ss′ : List Section} {f′ : Free} → Gives (lending w st) ss o n m rows b ss′ f′
+        → newIndexes st o ≡ b .index-splits + b .index-starts
     unfolding lending
     indexes-of {n} {m} {rows} {b} {ss′} {f′} g = more-indexes st ss f h o ss′ f′ (g .sound) b (g .grows)
 
@@ -92,7 +96,8 @@ module _ (st : State) (ss : List Section) (f : Free) (h : Sound st ss f) (w : Li
       o : Outcome
       o = answer st (inserting w)
 
-      at : (a : Place) → Belongs (lending w st) ss a → News st o (leb (D p) (length (a .leaf .records))) (leb (I p) (length (olds a))) → News st o (leb (D p) (length (blockFor (keyIn p w) leaves))) (leb (I p) (length leaves))
+      at : (a : Place) → Belongs (lending w st) ss a → News st o (leb (D p) (length (a .leaf .records))) (leb (I p) (length (olds a)))
+          → News st o (leb (D p) (length (blockFor (keyIn p w) leaves))) (leb (I p) (length leaves))
       at a B n =
           let s : leaves ≡ olds a = section-is st ss f h w ask a B in
           subst (λ (z : List Leaf). News st o (leb (D p) (length (blockFor (keyIn p w) z))) (leb (I p) (length z))) (sym s)
@@ -101,11 +106,14 @@ module _ (st : State) (ss : List Section) (f : Free) (h : Sound st ss f) (w : Li
       go : Nserted (lending w st) ss f → News st o (leb (D p) (length (blockFor (keyIn p w) leaves))) (leb (I p) (length leaves))
       go (duplicate y e g) = news-by st o _ _ false (g .number-is) refl (details-of o g) (indexes-of o g)
       go (no-room e a B l m g) = news-by st o _ _ false (g .number-is) refl (details-of o g) (indexes-of o g)
-      go (room e a B l g) = at a B (rw (lt-leb (D p) (length (a .leaf .records)) l) (news-by st o false (leb (I p) (length (olds a))) true (g .number-is) (stored-yes p _ f) (details-of o g) (indexes-of o g)))
+      go (room e a B l g) = at a B (rw (lt-leb (D p) (length (a .leaf .records)) l)
+          (news-by st o false (leb (I p) (length (olds a))) true (g .number-is) (stored-yes p _ f) (details-of o g) (indexes-of o g)))
       go (split e a B l m s k q g) =
-          at a B (rw (le-leb (D p) (length (a .leaf .records)) (omega (arith, l)), lt-leb (I p) (length (olds a)) m) (news-by st o true false true (g .number-is) (stored-yes p _ (taken f)) (details-of o g) (indexes-of o g)))
+          at a B (rw (le-leb (D p) (length (a .leaf .records)) (omega (arith, l)), lt-leb (I p) (length (olds a)) m)
+          (news-by st o true false true (g .number-is) (stored-yes p _ (taken f)) (details-of o g) (indexes-of o g)))
       go (both e a B l m s c k q g) =
-          at a B (rw (le-leb (D p) (length (a .leaf .records)) (omega (arith, l)), le-leb (I p) (length (olds a)) (omega (arith, m))) (news-by st o true true true (g .number-is) (stored-yes p _ (taken (taken f))) (details-of o g) (indexes-of o g)))
+          at a B (rw (le-leb (D p) (length (a .leaf .records)) (omega (arith, l)), le-leb (I p) (length (olds a)) (omega (arith, m)))
+          (news-by st o true true true (g .number-is) (stored-yes p _ (taken (taken f))) (details-of o g) (indexes-of o g)))
 
   xtend-news : News st (answer st (extending w)) (leb (FD p) (length (lastBlock (lay.leavesOf (treeIn ss f))))) (leb (FI p) (length (lastSection ss)))
   unfolding answer lending
@@ -114,21 +122,31 @@ module _ (st : State) (ss : List Section) (f : Free) (h : Sound st ss f) (w : Li
       o : Outcome
       o = answer st (extending w)
 
-      at : (L : Last (texts (lending w st)) (st .session .flag) ss f) (a b : Bool) → leb (FD p) (length (L .leaf .records)) ≡ a → News st o a (leb (FI p) (length (lastSection ss))) → News st o (leb (FD p) (length (lastBlock (lay.leavesOf (treeIn ss f))))) (leb (FI p) (length (lastSection ss)))
-      at L a b e n = subst (λ (t : Bool). News st o t (leb (FI p) (length (lastSection ss)))) (sym (ap (λ (z : List (List ℕ)). leb (FD p) (length z)) (rows-are (lending w st) ss f r L) ∙ e)) n
+      at : (L : Last (texts (lending w st)) (st .session .flag) ss f) (a b : Bool) → leb (FD p) (length (L .leaf .records)) ≡ a
+          → News st o a (leb (FI p) (length (lastSection ss)))
+          → News st o (leb (FD p) (length (lastBlock (lay.leavesOf (treeIn ss f))))) (leb (FI p) (length (lastSection ss)))
+      at L a b e n =
+          subst (λ (t : Bool). News st o t (leb (FI p) (length (lastSection ss))))
+          (sym (ap (λ (z : List (List ℕ)). leb (FD p) (length z)) (rows-are (lending w st) ss f r L) ∙ e)) n
 
-      top : (L : Last (texts (lending w st)) (st .session .flag) ss f) (b : Bool) → leb (FI p) (length (L .low ++ (L .leaf ∷ []))) ≡ b → News st o true b → News st o true (leb (FI p) (length (lastSection ss)))
+      top : (L : Last (texts (lending w st)) (st .session .flag) ss f) (b : Bool) → leb (FI p) (length (L .low ++ (L .leaf ∷ []))) ≡ b → News st o true b
+          → News st o true (leb (FI p) (length (lastSection ss)))
       top L b e n = subst (News st o true) (sym (ap (λ (z : List Leaf). leb (FI p) (length z)) (section-are (lending w st) ss f r L) ∙ e)) n
 
-      go : (L : Last (texts (lending w st)) (st .session .flag) ss f) → x.Xtended (lending w st) ss f L → News st o (leb (FD p) (length (lastBlock (lay.leavesOf (treeIn ss f))))) (leb (FI p) (length (lastSection ss)))
+      go : (L : Last (texts (lending w st)) (st .session .flag) ss f) → x.Xtended (lending w st) ss f L
+          → News st o (leb (FD p) (length (lastBlock (lay.leavesOf (treeIn ss f))))) (leb (FI p) (length (lastSection ss)))
       go L (x.too-low fr y e l g) = news-by st o _ _ false (g .number-is) refl (details-of o g) (indexes-of o g)
       go L (x.too-low-alone e l g) = news-by st o _ _ false (g .number-is) refl (details-of o g) (indexes-of o g)
       go L (x.no-room l m g) = news-by st o _ _ false (g .number-is) refl (details-of o g) (indexes-of o g)
-      go L (x.room l g) = at L false false (lt-leb (FD p) (length (L .leaf .records)) l) (news-by st o false (leb (FI p) (length (lastSection ss))) true (g .number-is) (stored-yes p _ f) (details-of o g) (indexes-of o g))
+      go L (x.room l g) =
+          at L false false (lt-leb (FD p) (length (L .leaf .records)) l)
+          (news-by st o false (leb (FI p) (length (lastSection ss))) true (g .number-is) (stored-yes p _ f) (details-of o g) (indexes-of o g))
       go L (x.started l m s g) =
-          at L true false (le-leb (FD p) (length (L .leaf .records)) l) (top L false (lt-leb (FI p) _ m) (news-by st o true false true (g .number-is) (stored-yes p _ (taken f)) (details-of o g) (indexes-of o g)))
+          at L true false (le-leb (FD p) (length (L .leaf .records)) l)
+          (top L false (lt-leb (FI p) _ m) (news-by st o true false true (g .number-is) (stored-yes p _ (taken f)) (details-of o g) (indexes-of o g)))
       go L (x.both l m s c g) =
-          at L true true (le-leb (FD p) (length (L .leaf .records)) l) (top L true (le-leb (FI p) _ m) (news-by st o true true true (g .number-is) (stored-yes p _ (taken (taken f))) (details-of o g) (indexes-of o g)))
+          at L true true (le-leb (FD p) (length (L .leaf .records)) l)
+          (top L true (le-leb (FI p) _ m) (news-by st o true true true (g .number-is) (stored-yes p _ (taken (taken f))) (details-of o g) (indexes-of o g)))
 
 -- the other calls
 module _ (st : State) (ss : List Section) (f : Free) (h : Sound st ss f) where

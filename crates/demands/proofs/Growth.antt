@@ -10,7 +10,7 @@ use Rattle.drum.specs.Params.{D, I, FD, FI, goodParams}
 use Rattle.drum.proofs.Good.{Good, good-facts}
 use Rattle.demands.proofs.Lists.{map-append}
 use Rattle.layout.specs.Tree.{Leaf, Section}
-use Rattle.demands.proofs.Trees.{leavesOf}
+use Rattle.demands.proofs.Trees.{leavesIn}
 use Rattle.demands.proofs.Potential.{Paid, paid-same, paid-made}
 
 -- the records of each leaf; the leaves of each section
@@ -41,7 +41,8 @@ grown m S X s x = record { records = m; splits = S; starts = X; index-splits = s
 
 -- first h, then g
 abbrev pub plus : Growth → Growth → Growth
-plus g h = grown (g .records + h .records) (g .splits + h .splits) (g .starts + h .starts) (g .index-splits + h .index-splits) (g .index-starts + h .index-starts)
+plus g h =
+    grown (g .records + h .records) (g .splits + h .splits) (g .starts + h .starts) (g .index-splits + h .index-splits) (g .index-starts + h .index-starts)
 
 -- what one call can bring: nothing; a record where there is room; a split, of the leaf or of the section too; a block started, or a section too
 abbrev pub nothing : Growth
@@ -64,18 +65,18 @@ bothStart = grown 1 0 1 0 1
 
 -- records pay for detail blocks, and detail blocks, whose entries come in, for index blocks
 pub record Tally (p : Description) (ss : List Section) (g : Growth) : Type 0 where
-  pub leaves : Paid (D p) (FD p) (counts (leavesOf ss)) (g .records) (g .splits) (g .starts)
+  pub leaves : Paid (D p) (FD p) (counts (leavesIn ss)) (g .records) (g .splits) (g .starts)
   pub entries : Paid (I p) (FI p) (sizes ss) (g .splits + g .starts) (g .index-splits) (g .index-starts)
 
 -- a call takes the tree ss to ss′ and brings g; so many more blocks are in use then
 pub record Grows (p : Description) (ss ss′ : List Section) (g : Growth) : Type 0 where
   pub tally : (h : Growth) → Tally p ss h → Tally p ss′ (plus g h)
-  pub details : length (leavesOf ss′) - length (leavesOf ss) ≡ g .splits + g .starts
+  pub details : length (leavesIn ss′) - length (leavesIn ss) ≡ g .splits + g .starts
   pub indexes : length ss′ - length ss ≡ g .index-splits + g .index-starts
 
 module _ (p : Description) (ss′ : List Section) (g h : Growth) where
   -- the two levels of a tree whose counts are known
-  pub tally-by : (cs es : List ℕ) (m S X e s x : ℕ) → Paid (D p) (FD p) cs m S X → Paid (I p) (FI p) es e s x → cs ≡ counts (leavesOf ss′) → es ≡ sizes ss′
+  pub tally-by : (cs es : List ℕ) (m S X e s x : ℕ) → Paid (D p) (FD p) cs m S X → Paid (I p) (FI p) es e s x → cs ≡ counts (leavesIn ss′) → es ≡ sizes ss′
       → m ≡ g .records + h .records → S ≡ g .splits + h .splits → X ≡ g .starts + h .starts → e ≡ (g .splits + h .splits) + (g .starts + h .starts)
       → s ≡ g .index-splits + h .index-splits → x ≡ g .index-starts + h .index-starts → Tally p ss′ (plus g h)
   tally-by cs es m S X e s x a b ca eb em eS eX ee es′ ex = record {
@@ -86,17 +87,21 @@ module _ (p : Description) (ss′ : List Section) (g h : Growth) where
 -- the tree as it is
 pub grow-none : (p : Description) (ss : List Section) → Grows p ss ss nothing
 grow-none p ss = record {
-  tally = λ h t. tally-by p ss nothing h (counts (leavesOf ss)) (sizes ss) (h .records) (h .splits) (h .starts) (h .splits + h .starts) (h .index-splits) (h .index-starts)
+  tally =
+      λ h t. tally-by p ss nothing h (counts (leavesIn ss)) (sizes ss) (h .records) (h .splits) (h .starts) (h .splits + h .starts) (h .index-splits)
+      (h .index-starts)
       (t .leaves) (t .entries) refl refl (omega arith) (omega arith) (omega arith) (omega arith) (omega arith) (omega arith);
   details = omega arith;
   indexes = omega arith;
 }
 
 -- only the counts of a tree matter
-pub grow-as : (p : Description) (ss ss′ ss″ : List Section) (g : Growth) → counts (leavesOf ss′) ≡ counts (leavesOf ss″) → sizes ss′ ≡ sizes ss″ → Grows p ss ss′ g → Grows p ss ss″ g
+pub grow-as : (p : Description) (ss ss′ ss″ : List Section) (g : Growth) → counts (leavesIn ss′) ≡ counts (leavesIn ss″) → sizes ss′ ≡ sizes ss″
+    → Grows p ss ss′ g → Grows p ss ss″ g
 unfolding counts sizes
 grow-as p ss ss′ ss″ g e f h =
-    let n : length (leavesOf ss′) ≡ length (leavesOf ss″) = sym (length-map (leavesOf ss′) (λ l. length (l .records))) ∙ ap length e ∙ length-map (leavesOf ss″) (λ l. length (l .records)) in
+    let n : length (leavesIn ss′) ≡ length (leavesIn ss″)
+    = sym (length-map (leavesIn ss′) (λ l. length (l .records))) ∙ ap length e ∙ length-map (leavesIn ss″) (λ l. length (l .records)) in
     let m : length ss′ ≡ length ss″ = sym (length-map ss′ (λ s. length (s .leaves))) ∙ ap length f ∙ length-map ss″ (λ s. length (s .leaves)) in
     record {
       tally = λ k t. let u = h .tally k t in record {
@@ -108,7 +113,7 @@ grow-as p ss ss′ ss″ g e f h =
     }
 
 -- a file just made: one section of one leaf with one record
-pub tally-made : (p : Description) → goodParams p ≡ true → (ss : List Section) → counts (leavesOf ss) ≡ 1 ∷ [] → sizes ss ≡ 1 ∷ [] → Tally p ss nothing
+pub tally-made : (p : Description) → goodParams p ≡ true → (ss : List Section) → counts (leavesIn ss) ≡ 1 ∷ [] → sizes ss ≡ 1 ∷ [] → Tally p ss nothing
 tally-made p good ss e f =
     let g : Good p = good-facts p good in
     record {

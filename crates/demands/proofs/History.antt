@@ -13,9 +13,9 @@ use Rattle.words.proofs.Keys.{Tri, tri, lt, eq, gt}
 use Rattle.demands.proofs.Order.{Asc, asc-append, asc-below, asc-from, below, from, below-from, hit, ins, del, upd, hit-local, asc-upd, asc-del}
 
 -- a record is put in (anew, or in place of the one with its key); the record with a key is taken out
-pub data Event (A : Type 0) : Type 0 where
-  stored : A → Event A
-  removed : ℕ → Event A
+pub data Change (A : Type 0) : Type 0 where
+  puts : A → Change A
+  drops : ℕ → Change A
 
 module _ {A : Type 0} (key : A → ℕ) where
   -- a list cut around x: what is below x, what has the key x, what is above
@@ -55,7 +55,8 @@ module _ {A : Type 0} (key : A → ℕ) where
     cut : below key x xs ++ (hit key x xs ++ from key (suc x) xs) ≡ xs
     unfolding hit
     cut =
-        ap (λ (z : List A). below key x xs ++ z) (ap (λ (z : List A). below key (suc x) (from key x xs) ++ z) (sym (from-from x xs)) ∙ below-from key (suc x) (from key x xs))
+        ap (λ (z : List A). below key x xs ++ z)
+        (ap (λ (z : List A). below key (suc x) (from key x xs) ++ z) (sym (from-from x xs)) ∙ below-from key (suc x) (from key x xs))
         ∙ below-from key x xs
 
     hp : Asc key 0 (below key x xs) x
@@ -85,7 +86,8 @@ module _ {A : Type 0} (key : A → ℕ) where
 
     pub upd-other : (r : A) → key r ≡ x → (k : ℕ) → k ≢ x → k < top → hit key k (upd key r xs) ≡ hit key k xs
     unfolding upd
-    upd-other r e k n v = rw e (hit-other x top k (below key x xs) (hit key x xs) (r ∷ []) (from key (suc x) xs) hp hm (omega arith, omega arith) hq n v ∙ ap (hit key k) cut)
+    upd-other r e k n v =
+        rw e (hit-other x top k (below key x xs) (hit key x xs) (r ∷ []) (from key (suc x) xs) hp hm (omega arith, omega arith) hq n v ∙ ap (hit key k) cut)
 
     -- where the key is not there an insertion is an update, so NSERT, XTEND and UPDAT are one event
     pub ins-upd : (r : A) → key r ≡ x → hit key x xs ≡ [] → ins key r xs ≡ upd key r xs
@@ -97,30 +99,30 @@ module _ {A : Type 0} (key : A → ℕ) where
 
   -- ---- a list of events
 
-  unfoldable pub happen : Event A → List A → List A
-  happen (stored r) c = upd key r c
-  happen (removed x) c = del key x c
+  unfoldable pub happen : Change A → List A → List A
+  happen (puts r) c = upd key r c
+  happen (drops x) c = del key x c
 
-  unfoldable pub happened : List (Event A) → List A → List A
+  unfoldable pub happened : List (Change A) → List A → List A
   happened [] c = c
   happened (e ∷ es) c = happened es (happen e c)
 
-  pub happened-append : (es gs : List (Event A)) (c : List A) → happened (es ++ gs) c ≡ happened gs (happened es c)
+  pub happened-append : (es gs : List (Change A)) (c : List A) → happened (es ++ gs) c ≡ happened gs (happened es c)
   unfolding happened
   happened-append [] gs c = refl
   happened-append (e ∷ es) gs c = happened-append es gs (happen e c)
 
   -- what stands at the key k, where d stood: none, or the record last put in under it
-  unfoldable pub standing : ℕ → List (Event A) → List A → List A
-  standing k [] d = d
-  standing k (stored r ∷ es) d = standing k es (cond (eqb (key r) k) (r ∷ []) d)
-  standing k (removed x ∷ es) d = standing k es (cond (eqb x k) [] d)
+  unfoldable pub lastPut : ℕ → List (Change A) → List A → List A
+  lastPut k [] d = d
+  lastPut k (puts r ∷ es) d = lastPut k es (cond (eqb (key r) k) (r ∷ []) d)
+  lastPut k (drops x ∷ es) d = lastPut k es (cond (eqb x k) [] d)
 
   -- no event is at the key `top` or above it
-  abbrev pub Keyed : ℕ → List (Event A) → Type 0
-  Keyed top [] = Unit {0}
-  Keyed top (stored r ∷ es) = (key r < top) × Keyed top es
-  Keyed top (removed x ∷ es) = (x < top) × Keyed top es
+  abbrev pub KeyedBy : ℕ → List (Change A) → Type 0
+  KeyedBy top [] = Unit {0}
+  KeyedBy top (puts r ∷ es) = (key r < top) × KeyedBy top es
+  KeyedBy top (drops x ∷ es) = (x < top) × KeyedBy top es
 
   at-stored : (top k : ℕ) (r : A) (c : List A) → Asc key 0 c top → key r < top → k < top
       → hit key k (upd key r c) ≡ cond (eqb (key r) k) (r ∷ []) (hit key k c)
@@ -138,13 +140,13 @@ module _ {A : Type 0} (key : A → ℕ) where
       go (no n) = rw (ne-eqb x k n) (del-other x top c h u k (λ e. n (sym e)) v)
 
   -- after any events what is found at a key is what stands there
-  pub found-exactly : (top : ℕ) (es : List (Event A)) (c : List A) → Asc key 0 c top → Keyed top es
-      → (k : ℕ) → k < top → hit key k (happened es c) ≡ standing k es (hit key k c)
-  unfolding happened standing happen
+  pub found-exactly : (top : ℕ) (es : List (Change A)) (c : List A) → Asc key 0 c top → KeyedBy top es
+      → (k : ℕ) → k < top → hit key k (happened es c) ≡ lastPut k es (hit key k c)
+  unfolding happened lastPut happen
   found-exactly top [] c h ok k v = refl
-  found-exactly top (stored r ∷ es) c h ok k v =
+  found-exactly top (puts r ∷ es) c h ok k v =
       found-exactly top es (upd key r c) (asc-upd key 0 r c top h (omega arith) (ok .0)) (ok .1) k v
-      ∙ ap (standing k es) (at-stored top k r c h (ok .0) v)
-  found-exactly top (removed x ∷ es) c h ok k v =
+      ∙ ap (lastPut k es) (at-stored top k r c h (ok .0) v)
+  found-exactly top (drops x ∷ es) c h ok k v =
       found-exactly top es (del key x c) (asc-del key 0 x c top h (omega arith) (ok .0)) (ok .1) k v
-      ∙ ap (standing k es) (at-removed top k x c h (ok .0) v)
+      ∙ ap (lastPut k es) (at-removed top k x c h (ok .0) v)

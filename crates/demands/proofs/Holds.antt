@@ -13,9 +13,9 @@ use Rattle.words.specs.Keys.{ones, val}
 use Rattle.words.specs.Words.{zeros, allWords}
 use Rattle.demands.proofs.Lists.{All, all-append, all-left, all-right}
 use Rattle.demands.proofs.Rows.{tab}
-use Rattle.demands.proofs.Cells.{Cell, bit, weigh-append, Same, times, Agree, wrotes, rewrite-agree, rewrite-times}
+use Rattle.demands.proofs.Cells.{Cell, bit, weigh-append, SameCells, cellTimes, Agree, wrotes, rewrite-agree, rewrite-times}
 use Rattle.layout.specs.Tree.{Leaf, Section}
-use Rattle.demands.proofs.Trees.{leavesOf, leaves-append, reach, Ranged, ranged-swap, reach-swap, cellsOf, cells-append}
+use Rattle.demands.proofs.Trees.{leavesIn, leavesIn-append, reach, Ranged, ranged-swap, reach-swap, cellsOf, cells-append}
 
 -- the blocks not in use: the chain, and the lowest number never used with how many there are from it on
 pub record Free : Type 0 where
@@ -66,13 +66,13 @@ module _ (p : Description) where
   unfoldable pub masterWords : List (List ℕ) → ℕ → ℕ → List ℕ
   masterWords rows head lowest = tab (head ∷ lowest ∷ []) rows (masterSize p - (3 + length rows * (p .k + 1))) []
 
-  unfoldable pub masterText : List Section → Free → List ℕ
-  masterText ss f = masterWords (map masterEntry ss) (headOr (f .chain) 0) (f .lowest)
+  unfoldable pub masterFor : List Section → Free → List ℕ
+  masterFor ss f = masterWords (map masterEntry ss) (headOr (f .chain) 0) (f .lowest)
 
   abbrev pub RowOk : List ℕ → Type 0
   RowOk r = (length r ≡ p .wpr) × Wide r
 
-  pub record LeafOk (l : Leaf) : Type 0 where
+  pub record LeafFits (l : Leaf) : Type 0 where
     pub some : 1 ≤ length (l .records)
     pub room : length (l .records) ≤ D p
     pub rows : All RowOk (l .records)
@@ -82,41 +82,46 @@ module _ (p : Description) where
   pub record SectionOk (s : Section) : Type 0 where
     pub some : 1 ≤ length (s .leaves)
     pub room : length (s .leaves) ≤ I p
-    pub leaves : All LeafOk (s .leaves)
+    pub leaves : All LeafFits (s .leaves)
 
-  pub record Holds (master : List ℕ) (text : ℕ → List ℕ) (ss : List Section) (f : Free) : Type 0 where
-    pub master-is : master ≡ masterText ss f
+  pub record HoldsCells (master : List ℕ) (text : ℕ → List ℕ) (ss : List Section) (f : Free) : Type 0 where
+    pub master-is : master ≡ masterFor ss f
     pub agree : Agree text (cellsOf (p .wpb) ss ++ freeCells f)
-    pub once : (b : ℕ) → times b (cellsOf (p .wpb) ss ++ freeCells f) ≡ inside (p .n) b
-    pub ranged : Ranged (p .k) 0 (leavesOf ss)
-    pub top : reach (p .k) 0 (leavesOf ss) ≡ suc (val (ones (p .k)))
+    pub once : (b : ℕ) → cellTimes b (cellsOf (p .wpb) ss ++ freeCells f) ≡ inside (p .n) b
+    pub ranged : Ranged (p .k) 0 (leavesIn ss)
+    pub top : reach (p .k) 0 (leavesIn ss) ≡ suc (val (ones (p .k)))
     pub sized : All SectionOk ss
     pub sections : length ss ≤ p .control
     pub numbers : f .lowest + f .spare ≡ suc (p .n)
 
   -- ---- some sections give way to others: `old` and `ws` are the cells that are written, before and after, and `keep` the others of the place
 
-  module _ (bs ms cs : List Section) (f : Free) (master : List ℕ) (text : ℕ → List ℕ) (h : Holds master text (bs ++ (ms ++ cs)) f) where
+  module _ (bs ms cs : List Section) (f : Free) (master : List ℕ) (text : ℕ → List ℕ) (h : HoldsCells master text (bs ++ (ms ++ cs)) f) where
     pub region : (ms′ : List Section) (f′ : Free) (old keep ws : List Cell)
-        → Same (cellsOf (p .wpb) ms ++ freeCells f) (old ++ keep) → Same (cellsOf (p .wpb) ms′ ++ freeCells f′) (ws ++ keep) → ((b : ℕ) → times b ws ≡ times b old)
-        → Ranged (p .k) (reach (p .k) 0 (leavesOf bs)) (leavesOf ms′)
-        → reach (p .k) (reach (p .k) 0 (leavesOf bs)) (leavesOf ms′) ≡ reach (p .k) (reach (p .k) 0 (leavesOf bs)) (leavesOf ms)
+        → SameCells (cellsOf (p .wpb) ms ++ freeCells f) (old ++ keep) → SameCells (cellsOf (p .wpb) ms′ ++ freeCells f′) (ws ++ keep)
+        → ((b : ℕ) → cellTimes b ws ≡ cellTimes b old)
+        → Ranged (p .k) (reach (p .k) 0 (leavesIn bs)) (leavesIn ms′)
+        → reach (p .k) (reach (p .k) 0 (leavesIn bs)) (leavesIn ms′) ≡ reach (p .k) (reach (p .k) 0 (leavesIn bs)) (leavesIn ms)
         → All SectionOk ms′ → length (bs ++ (ms′ ++ cs)) ≤ p .control → f′ .lowest + f′ .spare ≡ f .lowest + f .spare
-        → Holds (masterText (bs ++ (ms′ ++ cs)) f′) (wrotes text ws) (bs ++ (ms′ ++ cs)) f′
+        → HoldsCells (masterFor (bs ++ (ms′ ++ cs)) f′) (wrotes text ws) (bs ++ (ms′ ++ cs)) f′
     region ms′ f′ old keep ws was will moved g e ok sec num =
         let W : ℕ = p .wpb in
         let others : List Cell = cellsOf W bs ++ cellsOf W cs in
-        let now : Same (cellsOf W (bs ++ (ms ++ cs)) ++ freeCells f) (old ++ (keep ++ others)) = λ w. simp (cells-append, weigh-append) (omega (arith, weigh-append w (cellsOf W ms) (freeCells f), weigh-append w old keep, was w)) in
-        let then : Same (cellsOf W (bs ++ (ms′ ++ cs)) ++ freeCells f′) (ws ++ (keep ++ others)) = λ w. simp (cells-append, weigh-append) (omega (arith, weigh-append w (cellsOf W ms′) (freeCells f′), weigh-append w ws keep, will w)) in
-        let split : leavesOf (bs ++ (ms ++ cs)) ≡ leavesOf bs ++ (leavesOf ms ++ leavesOf cs) = simp leaves-append in
-        let split′ : leavesOf (bs ++ (ms′ ++ cs)) ≡ leavesOf bs ++ (leavesOf ms′ ++ leavesOf cs) = simp leaves-append in
+        let now : SameCells (cellsOf W (bs ++ (ms ++ cs)) ++ freeCells f) (old ++ (keep ++ others))
+        = λ w. simp (cells-append, weigh-append) (omega (arith, weigh-append w (cellsOf W ms) (freeCells f), weigh-append w old keep, was w)) in
+        let then : SameCells (cellsOf W (bs ++ (ms′ ++ cs)) ++ freeCells f′) (ws ++ (keep ++ others))
+        = λ w. simp (cells-append, weigh-append) (omega (arith, weigh-append w (cellsOf W ms′) (freeCells f′), weigh-append w ws keep, will w)) in
+        let split : leavesIn (bs ++ (ms ++ cs)) ≡ leavesIn bs ++ (leavesIn ms ++ leavesIn cs) = simp leavesIn-append in
+        let split′ : leavesIn (bs ++ (ms′ ++ cs)) ≡ leavesIn bs ++ (leavesIn ms′ ++ leavesIn cs) = simp leavesIn-append in
         record {
           master-is = refl;
           agree = rewrite-agree text _ _ old (keep ++ others) ws now then moved (λ b. omega (arith, h .once b, inside-le (p .n) b)) (h .agree);
           once = λ b. rewrite-times text _ _ old (keep ++ others) ws now then moved b ∙ h .once b;
-          ranged = rw split′ (ranged-swap (p .k) 0 (leavesOf bs) (leavesOf ms) (leavesOf ms′) (leavesOf cs) (rw split at (h .ranged)) g e);
-          top = rw split′ (reach-swap (p .k) 0 (leavesOf bs) (leavesOf ms) (leavesOf ms′) (leavesOf cs) e ∙ rw split at (h .top));
-          sized = all-append SectionOk bs _ (all-left SectionOk bs _ (h .sized)) (all-append SectionOk ms′ _ ok (all-right SectionOk ms _ (all-right SectionOk bs _ (h .sized))));
+          ranged = rw split′ (ranged-swap (p .k) 0 (leavesIn bs) (leavesIn ms) (leavesIn ms′) (leavesIn cs) (rw split at (h .ranged)) g e);
+          top = rw split′ (reach-swap (p .k) 0 (leavesIn bs) (leavesIn ms) (leavesIn ms′) (leavesIn cs) e ∙ rw split at (h .top));
+          sized =
+              all-append SectionOk bs _ (all-left SectionOk bs _ (h .sized))
+              (all-append SectionOk ms′ _ ok (all-right SectionOk ms _ (all-right SectionOk bs _ (h .sized))));
           sections = sec;
           numbers = num ∙ h .numbers;
         }

@@ -14,31 +14,35 @@ use Rattle.drum.specs.Blocks.{Texts, blockAt}
 use Rattle.rules.specs.State.{State, desc, texts}
 use Rattle.demands.specs.Formula.{detailsUnder, detailBlocks, indexBlocks}
 use Rattle.demands.proofs.Lists.{all-left, all-right, map-append}
-use Rattle.demands.proofs.Cells.{Cell, is, is-self, weigh, weigh-append, weigh-cons, weigh-nil, times, Agree}
+use Rattle.demands.proofs.Cells.{Cell, is, is-self, weigh, weigh-append, weigh-cons, weigh-nil, cellTimes, Agree}
 use Rattle.layout.specs.Tree.{Section}
-use Rattle.demands.proofs.Trees.{leavesOf, leaves-append, leafCell, indexText, cellsOf, cells-append}
-use Rattle.demands.proofs.Holds.{Free, Holds, inside, inside-le, freeCells}
+use Rattle.demands.proofs.Trees.{leavesIn, leavesIn-append, leafCell, indexText, cellsOf, cells-append}
+use Rattle.demands.proofs.Holds.{Free, HoldsCells, inside, inside-le, freeCells}
 use Rattle.demands.proofs.Places.{Spot, inside-low}
 use Rattle.demands.proofs.Entries.{sections-is, master-at, count-index}
-use Rattle.demands.proofs.Sound.{Kept, Sound, text-other}
+use Rattle.demands.proofs.Sound.{KeptTree, Sound, text-other}
 
 -- the cells of the index blocks, and those of the leaves
 index-cell : ℕ → Section → Cell
 index-cell wpb s = (s .block, indexText wpb (s .leaves))
 
-kinds : (wpb : ℕ) (w : Cell → ℕ) (ss : List Section) → weigh w (cellsOf wpb ss) ≡ weigh w (map (index-cell wpb) ss) + weigh w (map (leafCell wpb) (leavesOf ss))
+kinds : (wpb : ℕ) (w : Cell → ℕ) (ss : List Section) → weigh w (cellsOf wpb ss) ≡ weigh w (map (index-cell wpb) ss) + weigh w (map (leafCell wpb) (leavesIn ss))
 unfolding cellsOf index-cell
 kinds wpb w [] = rw (weigh-nil w)
 kinds wpb w (s ∷ ss) = simp (weigh-append, weigh-cons, map-append) (omega (arith, kinds wpb w ss))
 
-module _ (p : Description) (master : List ℕ) (text : ℕ → List ℕ) (f : Free) (bs : List Section) (s : Section) (cs : List Section) (h : Holds p master text (bs ++ s ∷ cs) f) where
+module _ (p : Description) (master : List ℕ) (text : ℕ → List ℕ) (f : Free) (bs : List Section) (s : Section) (cs : List Section)
+    (h : HoldsCells p master text (bs ++ s ∷ cs) f) where
   index-times : (b : ℕ) → is (s .block) b ≤ weigh (λ c. is (c .0) b) (map (index-cell (p .wpb)) (bs ++ s ∷ cs))
   unfolding index-cell
   index-times b = simp (map-append, weigh-append, weigh-cons) (omega arith)
 
-  once : (b : ℕ) → weigh (λ c. is (c .0) b) (map (index-cell (p .wpb)) (bs ++ s ∷ cs)) + weigh (λ c. is (c .0) b) (map (leafCell (p .wpb)) (leavesOf (bs ++ s ∷ cs))) ≤ inside (p .n) b
-  unfolding times
-  once b = omega (arith, h .once b, weigh-append (λ c. is (c .0) b) (cellsOf (p .wpb) (bs ++ s ∷ cs)) (freeCells p f), kinds (p .wpb) (λ c. is (c .0) b) (bs ++ s ∷ cs))
+  once : (b : ℕ) → weigh (λ c. is (c .0) b) (map (index-cell (p .wpb)) (bs ++ s ∷ cs)) + weigh (λ c. is (c .0) b)
+      (map (leafCell (p .wpb)) (leavesIn (bs ++ s ∷ cs))) ≤ inside (p .n) b
+  unfolding cellTimes
+  once b =
+      omega
+      (arith, h .once b, weigh-append (λ c. is (c .0) b) (cellsOf (p .wpb) (bs ++ s ∷ cs)) (freeCells p f), kinds (p .wpb) (λ c. is (c .0) b) (bs ++ s ∷ cs))
 
   index-block-in : 1 ≤ s .block
   index-block-in = inside-low (p .n) (s .block) (omega (arith, once (s .block), index-times (s .block), is-self (s .block))) .0
@@ -51,8 +55,8 @@ module _ (p : Description) (master : List ℕ) (text : ℕ → List ℕ) (f : Fr
       cell : is (leafCell (p .wpb) (t .place .leaf) .0) b ≡ 1
       cell = unfold leafCell in subst (λ (c : ℕ). is c b ≡ 1) (sym (t .block)) (is-self b)
 
-      leaf-times : 1 ≤ weigh (λ c. is (c .0) b) (map (leafCell (p .wpb)) (leavesOf (bs ++ s ∷ cs)))
-      leaf-times = rw (t .is) (simp (leaves-append, map-append, weigh-append, weigh-cons) (omega (arith, cell)))
+      leaf-times : 1 ≤ weigh (λ c. is (c .0) b) (map (leafCell (p .wpb)) (leavesIn (bs ++ s ∷ cs)))
+      leaf-times = rw (t .is) (simp (leavesIn-append, map-append, weigh-append, weigh-cons) (omega (arith, cell)))
 
   index-words : text (s .block) ≡ indexText (p .wpb) (s .leaves)
   unfolding cellsOf
@@ -61,31 +65,32 @@ module _ (p : Description) (master : List ℕ) (text : ℕ → List ℕ) (f : Fr
       all-right (λ c. text (c .0) ≡ c .1) (cellsOf (p .wpb) bs) _ (rw (cells-append (p .wpb) bs (s ∷ cs)) at a) .0
 
 -- the words of a section's index block in the file
-pub file-index : (v : Texts) (flag : Bool) (f : Free) (bs : List Section) (s : Section) (cs : List Section) → Kept v flag (bs ++ s ∷ cs) f
+pub file-index : (v : Texts) (flag : Bool) (f : Free) (bs : List Section) (s : Section) (cs : List Section) → KeptTree v flag (bs ++ s ∷ cs) f
     → blockAt (v .desc) (v .file) (s .block) ≡ indexText (v .desc .wpb) (s .leaves)
 file-index v flag f bs s cs h = sym (text-other v (s .block) other) ∙ index-words (v .desc) _ _ f bs s cs (h .holds)
   where
     other : s .block ≢ v .current
     other e = index-no-leaf (v .desc) _ _ f bs s cs (h .holds) (v .current) (h .current (omega (arith, e, index-block-in (v .desc) _ _ f bs s cs (h .holds)))) e
 
-section-count : (v : Texts) (flag : Bool) (f : Free) (bs : List Section) (s : Section) (cs : List Section) → Kept v flag (bs ++ s ∷ cs) f
+section-count : (v : Texts) (flag : Bool) (f : Free) (bs : List Section) (s : Section) (cs : List Section) → KeptTree v flag (bs ++ s ∷ cs) f
     → count (blockAt (v .desc) (v .file) (blockIn (masterShape (v .desc)) (v .file) (length bs))) ≡ length (s .leaves)
 section-count v flag f bs s cs h =
     ap (λ (b : ℕ). count (blockAt (v .desc) (v .file) b)) (master-at (v .desc) (v .file) bs s cs f (h .holds .master-is) (h .holds .sized))
     ∙ ap count (file-index v flag f bs s cs h) ∙ count-index (v .desc) (s .leaves)
 
 -- the sections bs are counted, and the others follow
-under : (v : Texts) (flag : Bool) (ss : List Section) (f : Free) → Kept v flag ss f → (bs cs : List Section) → ss ≡ bs ++ cs
-    → detailsUnder (v .desc) (v .file) (length bs) ≡ length (leavesOf bs) → detailsUnder (v .desc) (v .file) (length ss) ≡ length (leavesOf ss)
+under : (v : Texts) (flag : Bool) (ss : List Section) (f : Free) → KeptTree v flag ss f → (bs cs : List Section) → ss ≡ bs ++ cs
+    → detailsUnder (v .desc) (v .file) (length bs) ≡ length (leavesIn bs) → detailsUnder (v .desc) (v .file) (length ss) ≡ length (leavesIn ss)
 unfolding detailsUnder
 under v flag ss f h bs [] e n = rw (e, append-nil bs) n
 under v flag ss f h bs (s ∷ cs) e n =
     let long : length (bs ++ s ∷ []) ≡ suc (length bs) = length-append bs (s ∷ []) ∙ add-one (length bs) in
-    let more : length (leavesOf (bs ++ s ∷ [])) ≡ length (leavesOf bs) + length (s .leaves) = rw (leaves-append bs (s ∷ []), append-nil (s .leaves)) (length-append (leavesOf bs) (s .leaves)) in
+    let more : length (leavesIn (bs ++ s ∷ [])) ≡ length (leavesIn bs) + length (s .leaves)
+    = rw (leavesIn-append bs (s ∷ []), append-nil (s .leaves)) (length-append (leavesIn bs) (s .leaves)) in
     under v flag ss f h (bs ++ s ∷ []) cs (e ∙ sym (append-assoc bs (s ∷ []) cs))
     (rw (long, more, section-count v flag f bs s cs (rw e at h), n))
 
-pub details-are : (st : State) (ss : List Section) (f : Free) → Sound st ss f → detailBlocks st ≡ length (leavesOf ss)
+pub details-are : (st : State) (ss : List Section) (f : Free) → Sound st ss f → detailBlocks st ≡ length (leavesIn ss)
 unfolding detailBlocks detailsUnder
 details-are st ss f h =
     ap (detailsUnder (desc st) (st .file)) (sections-is (desc st) (st .file) ss f (h .kept .holds .master-is) (h .kept .holds .sized))

@@ -29,8 +29,9 @@ use Rattle.rules.specs.Xtend.{endsInOnes, lastOutside, lastWay}
 use Rattle.demands.proofs.Lists.{All, all-right, from-end, last-same}
 use Rattle.demands.proofs.Order.{Asc, asc-le, asc-right}
 use Rattle.layout.specs.Tree.{Leaf, Section}
-use Rattle.demands.proofs.Trees.{leavesOf, leaves-append, contents, contents-append, key, bd, reach, Ranged, reach-append, ranged-right, ranged-asc, table}
-use Rattle.demands.proofs.Holds.{Free, Holds, LeafOk, SectionOk, RowOk}
+use Rattle.demands.proofs.Trees.{leavesIn, leavesIn-append, recordsIn, records-append, key, bd, reach, Ranged, reach-append, ranged-right, ranged-asc}
+use Rattle.demands.proofs.Trees.{table}
+use Rattle.demands.proofs.Holds.{Free, HoldsCells, LeafFits, SectionOk, RowOk}
 use Rattle.demands.proofs.Steps.{sec}
 use Rattle.demands.proofs.Places.{Place, treeOf, olds, lo, hi, Spot, leaf-text, leaf-ok, asc-leaf}
 use Rattle.demands.proofs.Texts.{count-table}
@@ -38,7 +39,7 @@ use Rattle.demands.proofs.Blocks.{masterOf}
 use Rattle.demands.proofs.Entries.{sections-is, count-index}
 use Rattle.demands.proofs.Paths.{pathOf, path-by}
 use Rattle.demands.proofs.Records.{key-here, key-long}
-use Rattle.demands.proofs.Sound.{Kept, buffer-leaf}
+use Rattle.demands.proofs.Sound.{KeptTree, buffer-leaf}
 use Rattle.demands.proofs.Reach.{At, buffer-none, buffer-some, flush-pass, at-here, at-by}
 
 -- the last place of a tree
@@ -57,7 +58,7 @@ pub record Last (v : Texts) (flag : Bool) (ss : List Section) (f : Free) : Type 
   pub path-is : lastPath v ≡ passed (pathOf (ending before index low leaf))
   pub rows-are : leaf .records ≡ front ++ endRecord (v .desc) ∷ []
 
-module _ (v : Texts) (flag : Bool) (ss : List Section) (f : Free) (h : Kept v flag ss f) where
+module _ (v : Texts) (flag : Bool) (ss : List Section) (f : Free) (h : KeptTree v flag ss f) where
   abbrev p : Description
   p = v .desc
 
@@ -78,20 +79,21 @@ module _ (v : Texts) (flag : Bool) (ss : List Section) (f : Free) (h : Kept v fl
   end-ones = ap isOnes (take-at (ones (p .k)) (zeros (p .wpr - p .k)) (p .k) (length-replicate {A = ℕ} (p .k) topWord)) ∙ isOnes-ones (p .k)
 
   module _ (bs : List Section) (ib : ℕ) (low : List Leaf) (l : Leaf) (z : ss ≡ treeOf (ending bs ib low l)) where
-    hz : Holds p (masterOf p (v .file)) (textOf v) (treeOf (ending bs ib low l)) f
-    hz = subst (λ (s : List Section). Holds p (masterOf p (v .file)) (textOf v) s f) z (h .holds)
+    hz : HoldsCells p (masterOf p (v .file)) (textOf v) (treeOf (ending bs ib low l)) f
+    hz = subst (λ (s : List Section). HoldsCells p (masterOf p (v .file)) (textOf v) s f) z (h .holds)
 
-    lok : LeafOk p l
+    lok : LeafFits p l
     lok = leaf-ok p (ending bs ib low l) f _ _ hz
 
     -- the last leaf's last row is the end record
     last-row : (fr : List (List ℕ)) (y : List ℕ) → l .records ≡ fr ++ y ∷ [] → y ≡ endRecord p
     last-row fr y e =
-        last-same (contents (leavesOf bs ++ low) ++ fr) y (h .ended .front) (endRecord p)
-        (sym (ap (λ (s : List Section). contents (leavesOf s)) z ∙ spread ∙ ap (λ (r : List (List ℕ)). contents (leavesOf bs ++ low) ++ r) e ∙ sym (append-assoc (contents (leavesOf bs ++ low)) fr (y ∷ []))) ∙ h .ended .is)
+        last-same (recordsIn (leavesIn bs ++ low) ++ fr) y (h .ended .front) (endRecord p)
+        (sym (ap (λ (s : List Section). recordsIn (leavesIn s)) z ∙ spread ∙ ap (λ (r : List (List ℕ)). recordsIn (leavesIn bs ++ low) ++ r) e ∙ sym
+        (append-assoc (recordsIn (leavesIn bs ++ low)) fr (y ∷ []))) ∙ h .ended .is)
       where
-        spread : contents (leavesOf (bs ++ (sec ib (low ++ (l ∷ [])) ∷ []))) ≡ contents (leavesOf bs ++ low) ++ l .records
-        spread = simp (leaves-append, contents-append, append-assoc, append-nil)
+        spread : recordsIn (leavesIn (bs ++ (sec ib (low ++ (l ∷ [])) ∷ []))) ≡ recordsIn (leavesIn bs ++ low) ++ l .records
+        spread = simp (leavesIn-append, records-append, append-assoc, append-nil)
 
     path-last : lastPath v ≡ passed (pathOf (ending bs ib low l))
     path-last =
@@ -112,7 +114,8 @@ module _ (v : Texts) (flag : Bool) (ss : List Section) (f : Free) (h : Kept v fl
         go (inr (fr, y, e)) =
             let ey : y ≡ endRecord p = last-row fr y e in
             let en : endsInOnes p (textOf v (l .block)) ≡ true
-            = ap (endsInOnes p) (text-is ∙ ap (table (p .wpb)) e) ∙ ends fr y (subst (All (RowOk p)) e (lok .rows)) ∙ ap (λ (r : List ℕ). isOnes (take (p .k) r)) ey ∙ end-ones in
+            = ap (endsInOnes p) (text-is ∙ ap (table (p .wpb)) e) ∙ ends fr y (subst (All (RowOk p)) e (lok .rows))
+            ∙ ap (λ (r : List ℕ). isOnes (take (p .k) r)) ey ∙ end-ones in
             record {
               before = bs;
               index = ib;
@@ -122,7 +125,8 @@ module _ (v : Texts) (flag : Bool) (ss : List Section) (f : Free) (h : Kept v fl
               front = fr;
               at = at-by v flag ss f h (ending bs ib low l) z;
               way-is = ap (λ (m : Checked Bool). m >>= (λ here. cond here (passed Here) (lastOutside v flag))) test
-                  ∙ ap (λ (m : Checked Path). m >>= (λ w. require (endsInOnes p (textOf v (w .detail))) badFile >> (require (flushOk v flag) badFile >> passed (By w)))) path-last
+                  ∙ ap (λ (m : Checked Path). m >>= (λ w. require (endsInOnes p (textOf v (w .detail))) badFile >>
+                  (require (flushOk v flag) badFile >> passed (By w)))) path-last
                   ∙ ap₂ (λ (t u : Bool). require t badFile >> (require u badFile >> passed (By (pathOf (ending bs ib low l))))) en (flush-pass v flag ss f h);
               path-is = path-last;
               rows-are = e ∙ ap (λ (r : List ℕ). fr ++ r ∷ []) ey;
@@ -132,30 +136,40 @@ module _ (v : Texts) (flag : Bool) (ss : List Section) (f : Free) (h : Kept v fl
   nothing-after : (a : Place) → ss ≡ treeOf a → val (ones (p .k)) < hi p a → (a .high ≡ []) × (a .behind ≡ [])
   nothing-after a z top = go (a .high) refl (a .behind) refl
     where
-      hz₂ : Holds p (masterOf p (v .file)) (textOf v) (treeOf a) f
-      hz₂ = subst (λ (s : List Section). Holds p (masterOf p (v .file)) (textOf v) s f) z (h .holds)
+      hz₂ : HoldsCells p (masterOf p (v .file)) (textOf v) (treeOf a) f
+      hz₂ = subst (λ (s : List Section). HoldsCells p (masterOf p (v .file)) (textOf v) s f) z (h .holds)
 
       pre : List Leaf
-      pre = leavesOf (a .before) ++ a .low
+      pre = leavesIn (a .before) ++ a .low
 
       after : List Leaf
-      after = a .high ++ leavesOf (a .behind)
+      after = a .high ++ leavesIn (a .behind)
 
-      split : leavesOf (treeOf a) ≡ (leavesOf (a .before) ++ a .low) ++ (a .leaf ∷ (a .high ++ leavesOf (a .behind)))
-      split = simp (leaves-append, append-assoc)
+      split : leavesIn (treeOf a) ≡ (leavesIn (a .before) ++ a .low) ++ (a .leaf ∷ (a .high ++ leavesIn (a .behind)))
+      split = simp (leavesIn-append, append-assoc)
 
-      rest : Ranged (p .k) (hi p a) (a .high ++ leavesOf (a .behind))
-      rest = ranged-right (p .k) 0 (leavesOf (a .before) ++ a .low) (a .leaf ∷ (a .high ++ leavesOf (a .behind))) (subst (Ranged (p .k) 0) split (hz₂ .ranged)) .1
+      rest : Ranged (p .k) (hi p a) (a .high ++ leavesIn (a .behind))
+      rest =
+          ranged-right (p .k) 0 (leavesIn (a .before) ++ a .low) (a .leaf ∷ (a .high ++ leavesIn (a .behind)))
+          (subst (Ranged (p .k) 0) split (hz₂ .ranged)) .1
 
-      ends-at : reach (p .k) (hi p a) (a .high ++ leavesOf (a .behind)) ≡ suc (val (ones (p .k)))
-      ends-at = sym (ap (reach (p .k) 0) split ∙ reach-append (p .k) 0 (leavesOf (a .before) ++ a .low) (a .leaf ∷ (a .high ++ leavesOf (a .behind)))) ∙ hz₂ .top
+      ends-at : reach (p .k) (hi p a) (a .high ++ leavesIn (a .behind)) ≡ suc (val (ones (p .k)))
+      ends-at =
+          sym (ap (reach (p .k) 0) split ∙ reach-append (p .k) 0 (leavesIn (a .before) ++ a .low) (a .leaf ∷ (a .high ++ leavesIn (a .behind)))) ∙ hz₂ .top
 
       -- a leaf after it would end above ONES
-      no-leaf : (m : Leaf) (ms : List Leaf) → a .high ++ leavesOf (a .behind) ≡ m ∷ ms → LeafOk p m → ⊥
+      no-leaf : (m : Leaf) (ms : List Leaf) → a .high ++ leavesIn (a .behind) ≡ m ∷ ms → LeafFits p m → ⊥
       no-leaf m ms e ok =
           let r : Ranged (p .k) (hi p a) (m ∷ ms) = subst (Ranged (p .k) (hi p a)) e rest in
           let b : reach (p .k) (suc (bd (p .k) m)) ms ≡ suc (val (ones (p .k))) = ap (reach (p .k) (hi p a)) (sym e) ∙ ends-at in
-          omega (arith, asc-le K (suc (bd (p .k) m)) (contents ms) _ (ranged-asc (p .k) (suc (bd (p .k) m)) ms (r .1)), b, top, one (m .records) refl (r .0) (ok .some))
+          omega (
+            arith,
+            asc-le K (suc (bd (p .k) m)) (recordsIn ms) _ (ranged-asc (p .k) (suc (bd (p .k) m)) ms (r .1)),
+            b,
+            top,
+            one (m .records) refl (r .0)
+                (ok .some),
+          )
         where
           one : (rs : List (List ℕ)) → m .records ≡ rs → Asc K (hi p a) (m .records) (suc (bd (p .k) m)) → 1 ≤ length (m .records) → hi p a < suc (bd (p .k) m)
           one [] e r s = absurd (omega (arith, s, ap length e))
@@ -168,7 +182,8 @@ module _ (v : Texts) (flag : Bool) (ss : List Section) (f : Free) (h : Kept v fl
 
       go : (hs : List Leaf) → a .high ≡ hs → (ds : List Section) → a .behind ≡ ds → (a .high ≡ []) × (a .behind ≡ [])
       go [] e [] g = (e, g)
-      go (m ∷ hs) e ds g = absurd (no-leaf m (hs ++ leavesOf (a .behind)) (ap (λ (u : List Leaf). u ++ leavesOf (a .behind)) e) (subst (All (LeafOk p)) e (all-right (LeafOk p) (a .low) _ (secs .0 .leaves) .1) .0))
+      go (m ∷ hs) e ds g = absurd (no-leaf m (hs ++ leavesIn (a .behind)) (ap (λ (u : List Leaf). u ++ leavesIn (a .behind)) e)
+          (subst (All (LeafFits p)) e (all-right (LeafFits p) (a .low) _ (secs .0 .leaves) .1) .0))
       go [] e (s ∷ ds) g = absurd (sect (s .leaves) refl)
         where
           sok : SectionOk p s
@@ -177,7 +192,8 @@ module _ (v : Texts) (flag : Bool) (ss : List Section) (f : Free) (h : Kept v fl
           sect : (ls : List Leaf) → s .leaves ≡ ls → ⊥
           sect [] q = absurd (omega (arith, sok .some, ap length q))
           sect (m ∷ ms) q =
-              no-leaf m (ms ++ leavesOf ds) (ap₂ (λ (u : List Leaf) (w : List Section). u ++ leavesOf w) e g ∙ ap (λ (u : List Leaf). u ++ leavesOf ds) q) (subst (All (LeafOk p)) q (sok .leaves) .0)
+              no-leaf m (ms ++ leavesIn ds) (ap₂ (λ (u : List Leaf) (w : List Section). u ++ leavesIn w) e g ∙ ap (λ (u : List Leaf). u ++ leavesIn ds) q)
+              (subst (All (LeafFits p)) q (sok .leaves) .0)
 
   -- "buffer ends in ONES: 0"
   stays : (s : Spot ss (v .current)) → endsInOnes p (v .buffer) ≡ true → Last v flag ss f
@@ -187,10 +203,10 @@ module _ (v : Texts) (flag : Bool) (ss : List Section) (f : Free) (h : Kept v fl
       buf : v .buffer ≡ table (p .wpb) (s .place .leaf .records)
       buf = buffer-leaf v flag ss f h s
 
-      hs : Holds p (masterOf p (v .file)) (textOf v) (treeOf (s .place)) f
-      hs = subst (λ (z : List Section). Holds p (masterOf p (v .file)) (textOf v) z f) (s .is) (h .holds)
+      hs : HoldsCells p (masterOf p (v .file)) (textOf v) (treeOf (s .place)) f
+      hs = subst (λ (z : List Section). HoldsCells p (masterOf p (v .file)) (textOf v) z f) (s .is) (h .holds)
 
-      ok : LeafOk p (s .place .leaf)
+      ok : LeafFits p (s .place .leaf)
       ok = leaf-ok p (s .place) f _ _ hs
 
       go : (s .place .leaf .records ≡ []) ⊎ ((fr : List (List ℕ)) × (y : List ℕ) × (s .place .leaf .records ≡ fr ++ y ∷ [])) → Last v flag ss f
@@ -198,19 +214,25 @@ module _ (v : Texts) (flag : Bool) (ss : List Section) (f : Free) (h : Kept v fl
       go (inr (fr, y, g)) =
           let yok : RowOk p y = all-right (RowOk p) fr _ (subst (All (RowOk p)) g (ok .rows)) .0 in
           let ky : take (p .k) y ≡ ones (p .k)
-          = isOnes-true (p .k) (take (p .k) y) (key-long p kr y yok .0) (sym (ends fr y (subst (All (RowOk p)) g (ok .rows))) ∙ ap (endsInOnes p) (sym (buf ∙ ap (table (p .wpb)) g)) ∙ e) in
+          = isOnes-true (p .k) (take (p .k) y) (key-long p kr y yok .0)
+          (sym (ends fr y (subst (All (RowOk p)) g (ok .rows))) ∙ ap (endsInOnes p) (sym (buf ∙ ap (table (p .wpb)) g)) ∙ e) in
           let k : K y ≡ val (ones (p .k)) = last-key y ky in
-          let asc₂ : Asc K (lo p (s .place)) (fr ++ y ∷ []) (hi p (s .place)) = subst (λ (u : List (List ℕ)). Asc K (lo p (s .place)) u (hi p (s .place))) g (asc-leaf p (s .place) f _ _ hs) in
-          let n : (s .place .high ≡ []) × (s .place .behind ≡ []) = nothing-after (s .place) (s .is) (omega (arith, k, asc-right K (lo p (s .place)) fr (y ∷ []) _ asc₂ .1)) in
+          let asc₂ : Asc K (lo p (s .place)) (fr ++ y ∷ []) (hi p (s .place))
+          = subst (λ (u : List (List ℕ)). Asc K (lo p (s .place)) u (hi p (s .place))) g (asc-leaf p (s .place) f _ _ hs) in
+          let n : (s .place .high ≡ []) × (s .place .behind ≡ [])
+          = nothing-after (s .place) (s .is) (omega (arith, k, asc-right K (lo p (s .place)) fr (y ∷ []) _ asc₂ .1)) in
           finish fr y g n
         where
           last-key : (y : List ℕ) → take (p .k) y ≡ ones (p .k) → K y ≡ val (ones (p .k))
           last-key y e = unfold key in ap val e
 
-          finish : (fr : List (List ℕ)) (y : List ℕ) → s .place .leaf .records ≡ fr ++ y ∷ [] → (s .place .high ≡ []) × (s .place .behind ≡ []) → Last v flag ss f
+          finish : (fr : List (List ℕ)) (y : List ℕ) → s .place .leaf .records ≡ fr ++ y ∷ [] → (s .place .high ≡ []) × (s .place .behind ≡ [])
+              → Last v flag ss f
           finish fr y g n =
               let a : Place = ending (s .place .before) (s .place .index) (s .place .low) (s .place .leaf) in
-              let z : ss ≡ treeOf a = s .is ∙ ap₂ (λ (u : List Leaf) (w : List Section). s .place .before ++ (sec (s .place .index) (s .place .low ++ (s .place .leaf ∷ u)) ∷ w)) (n .0) (n .1) in
+              let z : ss ≡ treeOf a
+              = s .is ∙ ap₂ (λ (u : List Leaf) (w : List Section). s .place .before ++ (sec (s .place .index) (s .place .low ++ (s .place .leaf ∷ u)) ∷ w))
+              (n .0) (n .1) in
               record {
                 before = s .place .before;
                 index = s .place .index;
@@ -219,7 +241,9 @@ module _ (v : Texts) (flag : Bool) (ss : List Section) (f : Free) (h : Kept v fl
                 way = Here;
                 front = fr;
                 at = at-here v flag ss f h (record { place = a; is = z; block = s .block });
-                way-is = ap (λ (m : Checked Bool). m >>= (λ here. cond here (passed Here) (lastOutside v flag))) (buffer-some v flag ss f h s (endsInOnes p (v .buffer)) ∙ ap passed e);
+                way-is =
+                    ap (λ (m : Checked Bool). m >>= (λ here. cond here (passed Here) (lastOutside v flag)))
+                    (buffer-some v flag ss f h s (endsInOnes p (v .buffer)) ∙ ap passed e);
                 path-is = path-last (s .place .before) (s .place .index) (s .place .low) (s .place .leaf) z;
                 rows-are = g ∙ ap (λ (r : List ℕ). fr ++ r ∷ []) (last-row (s .place .before) (s .place .index) (s .place .low) (s .place .leaf) z fr y g);
               }
@@ -227,12 +251,14 @@ module _ (v : Texts) (flag : Bool) (ss : List Section) (f : Free) (h : Kept v fl
   pub last : Last v flag ss f
   last = go (ℕ-discrete (v .current) 0)
     where
-      leaf : onBuffer v (endsInOnes p (v .buffer)) ≡ passed false → (bs : List Section) (s : Section) → ss ≡ bs ++ s ∷ [] → (s .leaves ≡ []) ⊎ ((low : List Leaf) × (l : Leaf) × (s .leaves ≡ low ++ l ∷ [])) → Last v flag ss f
+      leaf : onBuffer v (endsInOnes p (v .buffer)) ≡ passed false → (bs : List Section) (s : Section) → ss ≡ bs ++ s ∷ []
+          → (s .leaves ≡ []) ⊎ ((low : List Leaf) × (l : Leaf) × (s .leaves ≡ low ++ l ∷ [])) → Last v flag ss f
       leaf t bs s e (inl n) = absurd (omega (arith, all-right (SectionOk p) bs _ (subst (All (SectionOk p)) e (h .holds .sized)) .0 .some, ap length n))
       leaf t bs s e (inr (low, l, g)) = goes bs (s .block) low l (e ∙ ap (λ (u : List Leaf). bs ++ (sec (s .block) u ∷ [])) g) t
 
-      outside : onBuffer v (endsInOnes p (v .buffer)) ≡ passed false → (ss ≡ []) ⊎ ((bs : List Section) × (s : Section) × (ss ≡ bs ++ s ∷ [])) → Last v flag ss f
-      outside t (inl e) = absurd (omega (arith, h .holds .top, ap (λ (s : List Section). reach (p .k) 0 (leavesOf s)) e))
+      outside : onBuffer v (endsInOnes p (v .buffer)) ≡ passed false → (ss ≡ []) ⊎ ((bs : List Section) × (s : Section) × (ss ≡ bs ++ s ∷ []))
+          → Last v flag ss f
+      outside t (inl e) = absurd (omega (arith, h .holds .top, ap (λ (s : List Section). reach (p .k) 0 (leavesIn s)) e))
       outside t (inr (bs, s, e)) = leaf t bs s e (from-end (s .leaves))
 
       buffered : Spot ss (v .current) → (t : Bool) → endsInOnes p (v .buffer) ≡ t → Last v flag ss f

@@ -4,6 +4,7 @@ pub mod Rows
 pub mod Cells
 pub mod Trees
 pub mod Holds
+pub mod Scene
 pub mod Steps
 pub mod Locate
 pub mod Flat
@@ -21,6 +22,7 @@ pub mod Lookup
 pub mod Stores
 pub mod Seek
 pub mod Frees
+pub mod Takes
 pub mod Masters
 pub mod Acts
 pub mod NsertTexts
@@ -62,6 +64,7 @@ pub mod Within
 pub mod Promised
 pub mod Sheets
 pub mod Plans
+pub mod Planning
 pub mod Contents
 pub mod Ordinary
 pub mod Extends
@@ -70,6 +73,9 @@ pub mod Durable
 pub mod Views
 pub mod Whole
 pub mod Mission
+pub mod Placing
+pub mod NsertNumber
+pub mod XtendNumber
 pub mod Storing
 pub mod Routines
 pub mod WrongRoutines
@@ -82,6 +88,7 @@ pub mod Counted
 pub mod Story
 pub mod Lines
 pub mod Sought
+pub mod StuckTrees
 pub mod Stuck
 pub mod Moves
 pub mod Fills
@@ -93,3 +100,20 @@ pub mod Reused
 pub mod RoomCounts
 pub mod Room
 pub mod Turns
+pub mod Refused
+pub mod BadFile
+pub mod Ends
+pub mod Came
+pub mod Refusals
+pub mod SameChecks
+pub mod UnusedLooks
+pub mod UnusedChanges
+pub mod Unbuffered
+pub mod Lengths
+pub mod New
+pub mod OneResult
+pub mod Printed
+pub mod When
+pub mod Position
+pub mod Answering
+pub mod Occurs

@@ -23,15 +23,15 @@ use Rattle.rules.specs.Lookup.{onBuffer, inBuffer, lookOutside, look}
 use Rattle.demands.proofs.Rows.{firstIn}
 use Rattle.demands.proofs.Order.{Asc, asc-le, hit}
 use Rattle.layout.specs.Tree.{Section}
-use Rattle.demands.proofs.Trees.{leavesOf, contents, key, bd, table}
-use Rattle.demands.proofs.Holds.{Free, Holds}
+use Rattle.demands.proofs.Trees.{leavesIn, recordsIn, key, bd, table}
+use Rattle.demands.proofs.Holds.{Free, HoldsCells}
 use Rattle.demands.proofs.Locate.{Located, locate, covered, secBd}
 use Rattle.demands.proofs.Places.{Place, treeOf, olds, lo, hi, Spot, leaf-text, leaf-ok, asc-leaf, hit-here}
 use Rattle.demands.proofs.Texts.{count-table}
 use Rattle.demands.proofs.Blocks.{masterOf, behind}
 use Rattle.demands.proofs.Paths.{pathOf, path-to}
 use Rattle.demands.proofs.Records.{AtKey, missing, present, at-key, cut-front, cut-back, hit-at}
-use Rattle.demands.proofs.Sound.{Key, Kept, buffer-leaf}
+use Rattle.demands.proofs.Sound.{Key, KeptTree, buffer-leaf}
 use Rattle.demands.proofs.Reach.{some-leaves, At, buffer-none, buffer-some, flush-pass, at-here, at-by}
 
 -- the place covers the key, and the search comes to it
@@ -42,24 +42,27 @@ pub record Covers (v : Texts) (w : List ℕ) (a : Place) : Type 0 where
 
 -- the key in the block that the lookup comes to, and in the contents
 pub data Looked (v : Texts) (flag : Bool) (w : List ℕ) (ss : List Section) (f : Free) : Type 0 where
-  absent : (a : Place) → At v flag ss f a (By (pathOf a)) → Covers v w a → hit (key (v .desc .k)) (val w) (contents (leavesOf ss)) ≡ []
+  absent : (a : Place) → At v flag ss f a (By (pathOf a)) → Covers v w a → hit (key (v .desc .k)) (val w) (recordsIn (leavesIn ss)) ≡ []
       → hit (key (v .desc .k)) (val w) (a .leaf .records) ≡ [] → look v flag w ≡ passed (Missing (pathOf a)) → Looked v flag w ss f
-  there : (a : Place) (way : Way) → At v flag ss f a way → Covers v w a → (bs : List (List ℕ)) (r : List ℕ) (cs : List (List ℕ)) → a .leaf .records ≡ bs ++ r ∷ cs → key (v .desc .k) r ≡ val w
-      → hit (key (v .desc .k)) (val w) (contents (leavesOf ss)) ≡ r ∷ [] → look v flag w ≡ passed (Found way (length bs)) → Looked v flag w ss f
+  there : (a : Place) (way : Way) → At v flag ss f a way → Covers v w a → (bs : List (List ℕ)) (r : List ℕ) (cs : List (List ℕ))
+      → a .leaf .records ≡ bs ++ r ∷ cs → key (v .desc .k) r ≡ val w
+      → hit (key (v .desc .k)) (val w) (recordsIn (leavesIn ss)) ≡ r ∷ [] → look v flag w ≡ passed (Found way (length bs)) → Looked v flag w ss f
 
-module _ (v : Texts) (flag : Bool) (ss : List Section) (f : Free) (h : Kept v flag ss f) (w : List ℕ) (kw : Key (v .desc) w) where
+module _ (v : Texts) (flag : Bool) (ss : List Section) (f : Free) (h : KeptTree v flag ss f) (w : List ℕ) (kw : Key (v .desc) w) where
   abbrev p : Description
   p = v .desc
 
   kr : p .k ≤ p .wpr
   kr = good-facts p (h .good) .key
 
-  module _ (a : Place) (hz : Holds p (masterOf p (v .file)) (textOf v) (treeOf a) f) where
+  module _ (a : Place) (hz : HoldsCells p (masterOf p (v .file)) (textOf v) (treeOf a) f) where
     cover : lo p a ≤ val w → val w < hi p a → Covers v w a
     unfolding bd
     cover l u =
-        let places : (firstIn (λ s. leb (val w) (secBd (p .k) s)) (treeOf a) ≡ length (a .before)) × (firstIn (λ m. leb (val w) (bd (p .k) m)) (olds a) ≡ length (a .low))
-        = covered (p .k) (a .before) (a .index) (a .low) (a .leaf) (a .high) (a .behind) (val w) (some-leaves p (treeOf a) (hz .sized)) (hz .ranged) l (omega arith) in
+        let places : (firstIn (λ s. leb (val w) (secBd (p .k) s)) (treeOf a) ≡ length (a .before)) ×
+        (firstIn (λ m. leb (val w) (bd (p .k) m)) (olds a) ≡ length (a .low))
+        = covered (p .k) (a .before) (a .index) (a .low) (a .leaf) (a .high) (a .behind) (val w) (some-leaves p (treeOf a) (hz .sized)) (hz .ranged) l
+        (omega arith) in
         record { above = l; within = u; path-is = path-to v a f hz w (kw .wide) (kw .long) (places .0) (places .1) }
 
     -- the block's own search
@@ -87,8 +90,8 @@ module _ (v : Texts) (flag : Bool) (ss : List Section) (f : Free) (h : Kept v fl
       A : At v flag ss f a (By (pathOf a))
       A = at-by v flag ss f h a (c .is)
 
-      hz : Holds p (masterOf p (v .file)) (textOf v) (treeOf a) f
-      hz = subst (λ (z : List Section). Holds p (masterOf p (v .file)) (textOf v) z f) (c .is) (h .holds)
+      hz : HoldsCells p (masterOf p (v .file)) (textOf v) (treeOf a) f
+      hz = subst (λ (z : List Section). HoldsCells p (masterOf p (v .file)) (textOf v) z f) (c .is) (h .holds)
 
       C : Covers v w a
       C = cover a hz (c .above) (omega (arith, c .within))
@@ -96,8 +99,9 @@ module _ (v : Texts) (flag : Bool) (ss : List Section) (f : Free) (h : Kept v fl
       t : textOf v (a .leaf .block) ≡ table (p .wpb) (a .leaf .records)
       t = leaf-text p a f _ (textOf v) hz
 
-      whole : hit (key (p .k)) (val w) (contents (leavesOf ss)) ≡ hit (key (p .k)) (val w) (a .leaf .records)
-      whole = ap (λ (z : List Section). hit (key (p .k)) (val w) (contents (leavesOf z))) (c .is) ∙ hit-here p a f _ (textOf v) hz (val w) (C .above) (C .within)
+      whole : hit (key (p .k)) (val w) (recordsIn (leavesIn ss)) ≡ hit (key (p .k)) (val w) (a .leaf .records)
+      whole =
+          ap (λ (z : List Section). hit (key (p .k)) (val w) (recordsIn (leavesIn z))) (c .is) ∙ hit-here p a f _ (textOf v) hz (val w) (C .above) (C .within)
 
       place : ℕ
       place = rowWith (detailShape p) w (table (p .wpb) (a .leaf .records))
@@ -107,14 +111,16 @@ module _ (v : Texts) (flag : Bool) (ss : List Section) (f : Free) (h : Kept v fl
           let i : ltb (rowWith (detailShape p) w (textOf v (a .leaf .block))) (count (textOf v (a .leaf .block))) ≡ b
           = ap (λ (x : List ℕ). ltb (rowWith (detailShape p) w x) (count x)) t ∙ ap (ltb place) (count-table (p .wpb) (a .leaf .records)) ∙ g in
           let j : rowWith (detailShape p) w (textOf v (a .leaf .block)) ≡ place = ap (rowWith (detailShape p) w) t in
-          simp (e, C .path-is, flush-pass v flag ss f h) (ap (λ (x : Bool). passed (cond x (Found (By (pathOf a)) (rowWith (detailShape p) w (textOf v (a .leaf .block)))) (Missing (pathOf a)))) i
+          simp (e, C .path-is, flush-pass v flag ss f h)
+          (ap (λ (x : Bool). passed (cond x (Found (By (pathOf a)) (rowWith (detailShape p) w (textOf v (a .leaf .block)))) (Missing (pathOf a)))) i
           ∙ ap (λ (n : ℕ). passed (cond b (Found (By (pathOf a)) n) (Missing (pathOf a)))) j)
 
       go : AtKey (p .k) (val w) (a .leaf .records) place → Looked v flag w ss f
       go (missing i n) = absent a A C (whole ∙ n) n (looked false (le-ltb place (length (a .leaf .records)) (omega arith)))
       go (present bs r cs q i k) =
           there a (By (pathOf a)) A C bs r cs q k (whole ∙ hit-in a hz bs r cs q k .2)
-          (looked true (lt-ltb place (length (a .leaf .records)) (omega (arith, i, ap length q, length-append bs (r ∷ cs)))) ∙ ap (λ (n : ℕ). passed (Found (By (pathOf a)) n)) i)
+          (looked true (lt-ltb place (length (a .leaf .records)) (omega (arith, i, ap length q, length-append bs (r ∷ cs)))) ∙ ap
+          (λ (n : ℕ). passed (Found (By (pathOf a)) n)) i)
 
   located : Located (p .k) ss (val w)
   located = locate (p .k) ss (val w) (some-leaves p ss (h .holds .sized)) (rw (h .holds .top) (omega (arith, kw .below)))
@@ -130,7 +136,7 @@ module _ (v : Texts) (flag : Bool) (ss : List Section) (f : Free) (h : Kept v fl
       a : Place
       a = s .place
 
-      hz : Holds p (masterOf p (v .file)) (textOf v) (treeOf a) f
+      hz : HoldsCells p (masterOf p (v .file)) (textOf v) (treeOf a) f
       hz = A .held
 
       t : v .buffer ≡ table (p .wpb) (a .leaf .records)
@@ -149,8 +155,9 @@ module _ (v : Texts) (flag : Bool) (ss : List Section) (f : Free) (h : Kept v fl
       go (present bs r cs q i k) =
           let c : (lo p a ≤ val w) × (val w < hi p a) × (hit (key (p .k)) (val w) (a .leaf .records) ≡ r ∷ []) = hit-in a hz bs r cs q k in
           let C : Covers v w a = cover a hz (c .0) (c .1) in
-          let whole : hit (key (p .k)) (val w) (contents (leavesOf ss)) ≡ hit (key (p .k)) (val w) (a .leaf .records)
-          = ap (λ (z : List Section). hit (key (p .k)) (val w) (contents (leavesOf z))) (s .is) ∙ hit-here p a f _ (textOf v) hz (val w) (C .above) (C .within) in
+          let whole : hit (key (p .k)) (val w) (recordsIn (leavesIn ss)) ≡ hit (key (p .k)) (val w) (a .leaf .records)
+          = ap (λ (z : List Section). hit (key (p .k)) (val w) (recordsIn (leavesIn z))) (s .is)
+          ∙ hit-here p a f _ (textOf v) hz (val w) (C .above) (C .within) in
           there a Here A C bs r cs q k (whole ∙ c .2)
           (ap (λ (m : Checked Bool). m >>= (λ here. cond here (passed (Found Here (rowWith (detailShape p) w (v .buffer)))) (lookOutside v flag w)))
           (tested true (lt-ltb place (length (a .leaf .records)) (omega (arith, i, ap length q, length-append bs (r ∷ cs)))))

@@ -6,12 +6,11 @@ use native.Mathlib.Omega.{arith}
 use lib.ListN.{length, drop}
 use Rattle.layout.specs.Tree.{Leaf, Section, Tree, leafBlocks, times}
 use Rattle.layout.specs.Tree as lay
-use Rattle.demands.specs.Reuse.{indexesIn, newBlocks, Takes, Frees, Keeps}
-use Rattle.demands.proofs.Trees.{leavesOf, leaves-append}
+use Rattle.demands.specs.Reuse.{indexesIn, newBlocks, Takes, Frees, KeepsBlocks}
+use Rattle.demands.proofs.Trees.{leavesIn, leavesIn-append}
 use Rattle.demands.proofs.Holds.{Free}
 use Rattle.demands.proofs.Steps.{sec}
 use Rattle.demands.proofs.Places.{Place, treeOf, treeWith, olds}
-use Rattle.demands.proofs.Reader.{leaves-in}
 use Rattle.demands.proofs.Frees.{next, taken}
 
 -- the tree of these sections and free blocks
@@ -45,23 +44,23 @@ indexes-append (x ∷ xs) ys = ap (λ (z : List ℕ). x .block ∷ z) (indexes-a
 -- the detail blocks of sections that hold these leaves, and the other leaves of the tree
 module _ (b : ℕ) where
   abbrev others : Place → ℕ
-  others a = times b (leafBlocks (leavesOf (a .before) ++ a .low)) + times b (leafBlocks (a .high ++ leavesOf (a .behind)))
+  others a = times b (leafBlocks (leavesIn (a .before) ++ a .low)) + times b (leafBlocks (a .high ++ leavesIn (a .behind)))
 
-  details-in : (ss : List Section) (a : Place) (ls : List Leaf) → leavesOf ss ≡ (leavesOf (a .before) ++ a .low) ++ (ls ++ (a .high ++ leavesOf (a .behind)))
+  details-in : (ss : List Section) (a : Place) (ls : List Leaf) → leavesIn ss ≡ (leavesIn (a .before) ++ a .low) ++ (ls ++ (a .high ++ leavesIn (a .behind)))
       → times b (leafBlocks (lay.leavesIn ss)) ≡ times b (leafBlocks ls) + others a
-  details-in ss a ls e = ap (λ (z : List Leaf). times b (leafBlocks z)) (leaves-in ss ∙ e) ∙ simp (blocks-append, times-append) (omega arith)
+  details-in ss a ls e = ap (λ (z : List Leaf). times b (leafBlocks z)) e ∙ simp (blocks-append, times-append) (omega arith)
 
   details-with : (a : Place) (ls : List Leaf) → times b (leafBlocks (lay.leavesIn (treeWith a ls))) ≡ times b (leafBlocks ls) + others a
-  details-with a ls = details-in (treeWith a ls) a ls (simp (leaves-append, append-assoc))
+  details-with a ls = details-in (treeWith a ls) a ls (simp (leavesIn-append, append-assoc))
 
   section-times : (bs : List Section) (i : ℕ) (ls : List Leaf) (cs : List Section)
       → times b (leafBlocks (lay.leavesIn (bs ++ (sec i ls ∷ cs))))
-      ≡ times b (leafBlocks (leavesOf bs)) + (times b (leafBlocks ls) + times b (leafBlocks (leavesOf cs)))
+      ≡ times b (leafBlocks (leavesIn bs)) + (times b (leafBlocks ls) + times b (leafBlocks (leavesIn cs)))
   section-times bs i ls cs =
-      ap (λ (z : List Leaf). times b (leafBlocks z)) (leaves-in (bs ++ (sec i ls ∷ cs)) ∙ leaves-append bs (sec i ls ∷ cs)) ∙ simp (blocks-append, times-append)
+      ap (λ (z : List Leaf). times b (leafBlocks z)) (leavesIn-append bs (sec i ls ∷ cs)) ∙ simp (blocks-append, times-append)
 
-  no-section : (bs cs : List Section) → times b (leafBlocks (lay.leavesIn (bs ++ cs))) ≡ times b (leafBlocks (leavesOf bs)) + times b (leafBlocks (leavesOf cs))
-  no-section bs cs = ap (λ (z : List Leaf). times b (leafBlocks z)) (leaves-in (bs ++ cs) ∙ leaves-append bs cs) ∙ simp (blocks-append, times-append)
+  no-section : (bs cs : List Section) → times b (leafBlocks (lay.leavesIn (bs ++ cs))) ≡ times b (leafBlocks (leavesIn bs)) + times b (leafBlocks (leavesIn cs))
+  no-section bs cs = ap (λ (z : List Leaf). times b (leafBlocks z)) (leavesIn-append bs cs) ∙ simp (blocks-append, times-append)
 
   index-times : (xs ys : List Section) → times b (indexesIn (xs ++ ys)) ≡ times b (indexesIn xs) + times b (indexesIn ys)
   index-times xs ys = ap (times b) (indexes-append xs ys) ∙ times-append b (indexesIn xs) (indexesIn ys)
@@ -102,7 +101,7 @@ two-taken f = go (f .chain)
 
 -- ---- the changes that calls make
 
-pub kept : (t : Tree) → Keeps t t
+pub kept : (t : Tree) → KeepsBlocks t t
 unfolding times
 kept t = record { details = λ b. omega arith; indexes = λ b. omega arith; chain = refl; lowest = refl }
 
@@ -124,7 +123,7 @@ module _ (a : Place) (f : Free) where
     same-indexes : (b : ℕ) → times b (indexesIn (treeWith a (m ∷ []))) ≡ times b (indexesIn (treeOf a))
     same-indexes b = same-index (a .low ++ (m ∷ a .high)) b
 
-    pub kept-block : Keeps (treeIn (treeOf a) f) (treeIn (treeWith a (m ∷ [])) f)
+    pub kept-block : KeepsBlocks (treeIn (treeOf a) f) (treeIn (treeWith a (m ∷ [])) f)
     unfolding times
     kept-block = record { details = λ b. omega (arith, same-details b); indexes = λ b. omega (arith, same-indexes b); chain = refl; lowest = refl }
 
@@ -134,7 +133,7 @@ module _ (a : Place) (f : Free) where
 
   -- a block becomes two, the second the next free one; and so does its index block
   module _ (m n : Leaf) (e : m .block ≡ a .leaf .block) (new : n .block ≡ next f) where
-    more-details : (ss : List Section) → leavesOf ss ≡ (leavesOf (a .before) ++ a .low) ++ ((m ∷ (n ∷ [])) ++ (a .high ++ leavesOf (a .behind)))
+    more-details : (ss : List Section) → leavesIn ss ≡ (leavesIn (a .before) ++ a .low) ++ ((m ∷ (n ∷ [])) ++ (a .high ++ leavesIn (a .behind)))
         → (b : ℕ) → times b (leafBlocks (lay.leavesIn ss)) ≡ times b (newBlocks 1 (f .chain) (f .lowest)) + times b (leafBlocks (lay.leavesIn (treeOf a)))
     unfolding leafBlocks times
     more-details ss is b =
@@ -144,7 +143,7 @@ module _ (a : Place) (f : Free) where
     pub one-new : Takes 1 0 (treeIn (treeOf a) f) (treeIn (treeWith a (m ∷ (n ∷ []))) (taken f))
     unfolding times
     one-new = record {
-      details = more-details (treeWith a (m ∷ (n ∷ []))) (simp (leaves-append, append-assoc));
+      details = more-details (treeWith a (m ∷ (n ∷ []))) (simp (leavesIn-append, append-assoc));
       indexes = λ b. omega (arith, same-index (a .low ++ (m ∷ (n ∷ a .high))) b, ap (λ (z : List ℕ). times b (drop 1 z)) (one-taken f .0));
       chain = one-taken f .1;
       lowest = one-taken f .2;
@@ -155,12 +154,12 @@ module _ (a : Place) (f : Free) where
     unfolding times indexesIn
     two-new us zs joined =
         let new : List Section = sec (a .index) us ∷ (sec (next (taken f)) zs ∷ a .behind) in
-        let behind : List Leaf = leavesOf (a .behind) in
+        let behind : List Leaf = leavesIn (a .behind) in
         let here : us ++ (zs ++ behind) ≡ a .low ++ ((m ∷ (n ∷ [])) ++ (a .high ++ behind))
         = sym (append-assoc us zs behind) ∙ ap (λ (z : List Leaf). z ++ behind) joined ∙ append-assoc (a .low) (m ∷ (n ∷ a .high)) behind in
         record {
           details = more-details (a .before ++ new)
-              (leaves-append (a .before) new ∙ ap (λ (z : List Leaf). leavesOf (a .before) ++ z) here ∙ sym (append-assoc (leavesOf (a .before)) (a .low) _));
+              (leavesIn-append (a .before) new ∙ ap (λ (z : List Leaf). leavesIn (a .before) ++ z) here ∙ sym (append-assoc (leavesIn (a .before)) (a .low) _));
           indexes = λ b. omega (
             arith,
             index-times b (a .before) new,

@@ -1,81 +1,56 @@
 -- NSERT into a full block: what it will do, and that it will stop where no room is left.
 use Prim.Native.Nat.{ℕ, _-_, _≤_, _<_}
-use mathlib.Core.Bool.{Bool, true, cond}
+use mathlib.Core.Bool.{true, cond}
 use mathlib.Core.Path.{_≡_, _∙_}
 use mathlib.Core.List.{List, []}
 use native.Mathlib.Omega.{arith}
 use lib.Dec.{ltb}
 use lib.ListN.{length}
-use borrow.Author.Tests.{lt-ltb, le-ltb, ne-eqb, le-leb, lt-leb}
+use borrow.Author.Tests.{lt-ltb, le-ltb}
 use Rattle.numbers.specs.Numbers.{noRoom}
 use Rattle.numbers.specs.Checked.{passed}
 use Rattle.words.specs.Keys.{val}
-use Rattle.table.specs.Splits.{lowCount}
-use Rattle.drum.specs.declared.Description.{Description}
 use Rattle.drum.specs.Params.{D, I, goodParams}
-use Rattle.drum.specs.Blocks.{Texts, textOf, chainHead, lowestUnused, sections}
+use Rattle.drum.specs.Blocks.{textOf}
 use Rattle.rules.specs.declared.Way.the-variants.{By}
 use Rattle.rules.specs.declared.Look.the-variants.{Missing}
 use Rattle.rules.specs.declared.Insert.the-variants.{Stop, Split, Both}
 use Rattle.rules.specs.State.{State, desc, texts, keyIn}
 use Rattle.rules.specs.Lookup.{look}
-use Rattle.rules.specs.Nsert.{halfCount, splitWith, splitDeed, bothStored, bothWith, bothAfter, bothDeed, insertAt, insertDeed}
+use Rattle.rules.specs.Nsert.{halfCount, splitDeed, bothDeed, insertAt, insertDeed}
+use Rattle.demands.proofs.Scene.{Scene, scene}
 use Rattle.demands.proofs.Order.{hit}
 use Rattle.layout.specs.Tree.{Section}
-use Rattle.demands.proofs.Trees.{leavesOf, contents, key, table}
-use Rattle.demands.proofs.Holds.{Free, Holds, headOr}
+use Rattle.demands.proofs.Trees.{key, table}
+use Rattle.demands.proofs.Holds.{Free}
 use Rattle.demands.proofs.Places.{Place, olds, leaf-text, index-text}
 use Rattle.demands.proofs.Texts.{count-table}
-use Rattle.demands.proofs.Blocks.{masterOf}
-use Rattle.demands.proofs.Entries.{head-is, lowest-is, sections-is, count-index}
+use Rattle.demands.proofs.Entries.{count-index}
 use Rattle.demands.proofs.Paths.{pathOf}
 use Rattle.demands.proofs.Sound.{Key}
 use Rattle.demands.proofs.Answers.{Ready}
 use Rattle.demands.proofs.Reach.{At}
 use Rattle.demands.proofs.Lookup.{Covers}
-use Rattle.demands.proofs.Frees.{next, freeCount, taken, takenOf, storedWith, FreeOk, free-taken, taken-count, stored-number, grant-none, grant-some, next-outside, second-outside, second-other, next-in, second-in, new-pass}
+use Rattle.demands.proofs.Frees.{next, freeCount, taken, takenOf, storedWith, FreeOk, free-taken, taken-count, stored-number}
+use Rattle.demands.proofs.Takes.{next-is, one-none, one-some, two-none, two-few, two-full, two-some}
 use Rattle.demands.proofs.Nsert.{deed-at, place, held, free₀}
 
 module _ (st : State) (ss : List Section) (f : Free) (r : Ready (desc st .wpr) st ss f) (kw : Key (desc st) (keyIn (desc st) (st .work))) (a : Place)
     (A : At (texts st) (st .session .flag) ss f a (By (pathOf a))) (C : Covers (texts st) (keyIn (desc st) (st .work)) a)
-    (none : hit (key (desc st .k)) (val (keyIn (desc st) (st .work))) (a .leaf .records) ≡ []) (l : look (texts st) (st .session .flag) (keyIn (desc st) (st .work)) ≡ passed (Missing (pathOf a)))
+    (none : hit (key (desc st .k)) (val (keyIn (desc st) (st .work))) (a .leaf .records) ≡ [])
+    (l : look (texts st) (st .session .flag) (keyIn (desc st) (st .work)) ≡ passed (Missing (pathOf a)))
     (full : length (a .leaf .records) ≡ D (desc st)) where
-  abbrev p : Description
-  p = desc st
+  open Scene (scene st ss) using (p, v, flag, K, rows)
 
-  abbrev v : Texts
-  v = texts st
-
-  abbrev flag : Bool
-  flag = st .session .flag
-
-  abbrev K : List ℕ → ℕ
-  K = key (desc st .k)
-
-  abbrev rows : List (List ℕ)
-  rows = contents (leavesOf ss)
-
-  -- where the record goes, and whether that is in the lower half
+  -- where the record goes
   abbrev i : ℕ
   i = place st ss f r kw a A C none l
-
-  abbrev pub inLow : Bool
-  inLow = ltb (place st ss f r kw a A C none l) (lowCount (D (desc st)))
 
   good : goodParams p ≡ true
   good = r .sound .kept .good
 
-  hd : Holds p (masterOf p (st .file)) (textOf v) ss f
-  hd = r .sound .kept .holds
-
   fr : FreeOk v f
   fr = free₀ st ss f r kw a A C none l
-
-  heads : chainHead (st .file) ≡ headOr (f .chain) 0
-  heads = head-is p (st .file) ss f (hd .master-is) (hd .sized)
-
-  lows : lowestUnused (st .file) ≡ f .lowest
-  lows = lowest-is p (st .file) ss f (hd .master-is) (hd .sized)
 
   text : textOf v (a .leaf .block) ≡ table (p .wpb) (a .leaf .records)
   text = leaf-text p a f _ _ (A .held)
@@ -85,7 +60,13 @@ module _ (st : State) (ss : List Section) (f : Free) (r : Ready (desc st .wpr) s
   not-room : insertAt v flag (pathOf a) i ≡ cond (ltb (length (olds a)) (I p)) (splitDeed v flag (pathOf a) i) (bothDeed v flag (pathOf a) i)
   unfolding insertAt
   not-room =
-      simp (text, count-table (p .wpb) (a .leaf .records), le-ltb (length (a .leaf .records)) (D p) (omega (arith, full)), index-text p a f _ _ (A .held), count-index p (olds a))
+      simp (
+        text,
+        count-table (p .wpb) (a .leaf .records),
+        le-ltb (length (a .leaf .records)) (D p) (omega (arith, full)),
+        index-text p a f _ _ (A .held),
+        count-index p (olds a),
+      )
 
   -- the index block has room
   module _ (less : length (olds a) < I p) where
@@ -93,18 +74,16 @@ module _ (st : State) (ss : List Section) (f : Free) (r : Ready (desc st .wpr) s
     to-split = deed-at st ss f r kw a A C none l ∙ not-room ∙ simp (lt-ltb (length (olds a)) (I p) less)
 
     pub none-deed : freeCount f ≡ 0 → insertDeed v flag (keyIn p (st .work)) ≡ passed (Stop (By (pathOf a)) noRoom)
-    unfolding splitDeed splitWith
-    none-deed z = to-split ∙ simp (heads, lows, grant-none v f fr z)
+    unfolding splitDeed
+    none-deed z = to-split ∙ simp (one-none v flag ss f (r .sound .kept) a (A .is) z)
 
-    pub split-deed : 1 ≤ freeCount f → insertDeed v flag (keyIn p (st .work)) ≡ passed (Split (pathOf a) i (takenOf f) (storedWith p (halfCount (D p) i) (taken f)))
-    unfolding splitDeed splitWith
+    pub split-deed : 1 ≤ freeCount f
+        → insertDeed v flag (keyIn p (st .work)) ≡ passed (Split (pathOf a) i (takenOf f) (storedWith p (halfCount (D p) i) (taken f)))
+    unfolding splitDeed
     split-deed some =
         to-split ∙ simp (
-          heads,
-          lows,
-          grant-some v f fr some,
-          ne-eqb (next f) 0 (λ e. omega (arith, e, next-in p _ _ ss f hd some)),
-          new-pass v flag ss f (r .sound .kept) a (A .is) (next f) (next-outside p _ _ ss f hd some),
+          one-some v flag ss f (r .sound .kept) a (A .is) some,
+          next-is v flag ss f (r .sound .kept) a (A .is) some,
           stored-number v (halfCount (D p) i) (taken f) (free-taken v f fr some),
         )
 
@@ -113,58 +92,26 @@ module _ (st : State) (ss : List Section) (f : Free) (r : Ready (desc st .wpr) s
     to-both : insertDeed v flag (keyIn p (st .work)) ≡ bothDeed v flag (pathOf a) i
     to-both = deed-at st ss f r kw a A C none l ∙ not-room ∙ simp (le-ltb (length (olds a)) (I p) (omega (arith, most)))
 
-    secs : sections (st .file) ≡ length ss
-    secs = sections-is p (st .file) ss f (hd .master-is) (hd .sized)
-
     pub none-both-deed : freeCount f ≡ 0 → insertDeed v flag (keyIn p (st .work)) ≡ passed (Stop (By (pathOf a)) noRoom)
-    unfolding bothDeed bothAfter bothWith
-    none-both-deed z = to-both ∙ simp (heads, lows, grant-none v f fr z)
+    unfolding bothDeed
+    none-both-deed z = to-both ∙ simp (two-none v flag ss f (r .sound .kept) a (A .is) z)
 
     pub few-deed : freeCount f ≡ 1 → insertDeed v flag (keyIn p (st .work)) ≡ passed (Stop (By (pathOf a)) noRoom)
-    unfolding bothDeed bothAfter bothWith
-    few-deed z =
-        let some : 1 ≤ freeCount f = omega arith in
-        to-both ∙ simp (
-          heads,
-          lows,
-          grant-some v f fr some,
-          grant-none v (taken f) (free-taken v f fr some) (omega (arith, z, taken-count f some)),
-          ne-eqb (next f) 0 (λ e. omega (arith, e, next-in p _ _ ss f hd some)),
-        )
+    unfolding bothDeed
+    few-deed z = to-both ∙ simp (two-few v flag ss f (r .sound .kept) a (A .is) z)
 
     pub sections-deed : 2 ≤ freeCount f → p .control ≤ length ss → insertDeed v flag (keyIn p (st .work)) ≡ passed (Stop (By (pathOf a)) noRoom)
-    unfolding bothDeed bothAfter bothWith
-    sections-deed two c =
-        let some : 1 ≤ freeCount f = omega arith in
-        let some₂ : 1 ≤ freeCount (taken f) = omega (arith, taken-count f some) in
-        to-both ∙ simp (
-          heads,
-          lows,
-          grant-some v f fr some,
-          grant-some v (taken f) (free-taken v f fr some) some₂,
-          ne-eqb (next f) 0 (λ e. omega (arith, e, next-in p _ _ ss f hd some)),
-          ne-eqb (next (taken f)) 0 (λ e. omega (arith, e, second-in p _ _ ss f hd some some₂)),
-          secs,
-          le-leb (p .control) (length ss) c,
-        )
+    unfolding bothDeed
+    sections-deed two c = to-both ∙ simp (two-full v flag ss f (r .sound .kept) a (A .is) two c)
 
     pub both-deed : 2 ≤ freeCount f → length ss < p .control
         → insertDeed v flag (keyIn p (st .work)) ≡ passed (Both (pathOf a) i (next f) (takenOf (taken f)) (storedWith p (halfCount (D p) i) (taken (taken f))))
-    unfolding bothDeed bothAfter bothWith bothStored
+    unfolding bothDeed
     both-deed two c =
         let some : 1 ≤ freeCount f = omega arith in
         let some₂ : 1 ≤ freeCount (taken f) = omega (arith, taken-count f some) in
         to-both ∙ simp (
-          heads,
-          lows,
-          grant-some v f fr some,
-          grant-some v (taken f) (free-taken v f fr some) some₂,
-          ne-eqb (next f) 0 (λ e. omega (arith, e, next-in p _ _ ss f hd some)),
-          ne-eqb (next (taken f)) 0 (λ e. omega (arith, e, second-in p _ _ ss f hd some some₂)),
-          secs,
-          lt-leb (p .control) (length ss) c,
-          new-pass v flag ss f (r .sound .kept) a (A .is) (next f) (next-outside p _ _ ss f hd some),
-          new-pass v flag ss f (r .sound .kept) a (A .is) (next (taken f)) (second-outside p _ _ ss f hd some some₂),
-          ne-eqb (next (taken f)) (next f) (second-other p _ _ ss f hd some some₂),
+          two-some v flag ss f (r .sound .kept) a (A .is) two c,
+          next-is v flag ss f (r .sound .kept) a (A .is) some,
           stored-number v (halfCount (D p) i) (taken (taken f)) (free-taken v (taken f) (free-taken v f fr some) some₂),
         )

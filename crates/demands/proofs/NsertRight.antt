@@ -11,7 +11,6 @@ use Rattle.numbers.specs.Numbers.{notFound, noRoom}
 use Rattle.numbers.specs.Checked.{passed}
 use Rattle.words.specs.Keys.{val}
 use Rattle.table.specs.Splits.{lowCount}
-use Rattle.drum.specs.declared.Description.{Description}
 use Rattle.drum.specs.Params.{D, I}
 use Rattle.drum.proofs.Good.{good-facts}
 use Rattle.rules.specs.declared.Way.the-variants.{By}
@@ -23,9 +22,10 @@ use Rattle.rules.specs.declared.Insert.the-variants.{Stop}
 use Rattle.rules.specs.Nsert.{halfCount, insertDeed}
 use Rattle.rules.specs.NsertDone.{nsert}
 use Rattle.demands.specs.Counted.{detailSplits, indexSplits}
+use Rattle.demands.proofs.Scene.{Scene, scene}
 use Rattle.demands.proofs.Order.{below, hit, ins}
 use Rattle.layout.specs.Tree.{Leaf, Section}
-use Rattle.demands.proofs.Trees.{leavesOf, contents, key}
+use Rattle.demands.proofs.Trees.{leavesIn, recordsIn, key}
 use Rattle.demands.proofs.Holds.{Free}
 use Rattle.demands.proofs.Steps.{lower, upper, sec, withRows}
 use Rattle.demands.proofs.Places.{Place, treeOf, olds, leaf-ok, sec-ok, treeWith}
@@ -70,17 +70,26 @@ twoSections st f a =
 
 -- what NSERT comes to, with the number it answers, and the tree then
 pub data Nserted (st : State) (ss : List Section) (f : Free) : Type 0 where
-  duplicate : (x : List ℕ) → hit (key (desc st .k)) (val (keyIn (desc st) (st .work))) (contents (leavesOf ss)) ≡ x ∷ [] → Gives st ss (nsert st) notFound 3 (contents (leavesOf ss)) nothing ss f → Nserted st ss f
-  room : hit (key (desc st .k)) (val (keyIn (desc st) (st .work))) (contents (leavesOf ss)) ≡ [] → (a : Place) → Belongs st ss a → length (a .leaf .records) < D (desc st)
-      → Gives st ss (nsert st) (storedWith (desc st) (length (a .leaf .records) + 1) f) 3 (ins (key (desc st .k)) (st .work) (contents (leavesOf ss))) aRecord (treeWith a (withRows (desc st) (a .leaf) (rowsWith st a) ∷ [])) f → Nserted st ss f
-  split : hit (key (desc st .k)) (val (keyIn (desc st) (st .work))) (contents (leavesOf ss)) ≡ [] → (a : Place) → Belongs st ss a → length (a .leaf .records) ≡ D (desc st) → length (olds a) < I (desc st)
-      → 1 ≤ freeCount f → (i : ℕ) → i ≡ before st a → Gives st ss (nsert st) (storedWith (desc st) (halfCount (D (desc st)) i) (taken f)) 7 (ins (key (desc st .k)) (st .work) (contents (leavesOf ss))) aSplit (treeWith a (halves st f a)) (taken f) → Nserted st ss f
-  both : hit (key (desc st .k)) (val (keyIn (desc st) (st .work))) (contents (leavesOf ss)) ≡ [] → (a : Place) → Belongs st ss a → length (a .leaf .records) ≡ D (desc st) → length (olds a) ≡ I (desc st)
+  duplicate : (x : List ℕ) → hit (key (desc st .k)) (val (keyIn (desc st) (st .work))) (recordsIn (leavesIn ss)) ≡ x ∷ []
+      → Gives st ss (nsert st) notFound 3 (recordsIn (leavesIn ss)) nothing ss f → Nserted st ss f
+  room : hit (key (desc st .k)) (val (keyIn (desc st) (st .work))) (recordsIn (leavesIn ss)) ≡ [] → (a : Place) → Belongs st ss a
+      → length (a .leaf .records) < D (desc st)
+      → Gives st ss (nsert st) (storedWith (desc st) (length (a .leaf .records) + 1) f) 3
+      (ins (key (desc st .k)) (st .work) (recordsIn (leavesIn ss))) aRecord
+      (treeWith a (withRows (desc st) (a .leaf) (rowsWith st a) ∷ [])) f → Nserted st ss f
+  split : hit (key (desc st .k)) (val (keyIn (desc st) (st .work))) (recordsIn (leavesIn ss)) ≡ [] → (a : Place) → Belongs st ss a
+      → length (a .leaf .records) ≡ D (desc st) → length (olds a) < I (desc st)
+      → 1 ≤ freeCount f → (i : ℕ) → i ≡ before st a → Gives st ss (nsert st) (storedWith (desc st) (halfCount (D (desc st)) i) (taken f)) 7
+      (ins (key (desc st .k)) (st .work) (recordsIn (leavesIn ss))) aSplit (treeWith a (halves st f a)) (taken f) → Nserted st ss f
+  both : hit (key (desc st .k)) (val (keyIn (desc st) (st .work))) (recordsIn (leavesIn ss)) ≡ [] → (a : Place) → Belongs st ss a
+      → length (a .leaf .records) ≡ D (desc st) → length (olds a) ≡ I (desc st)
       → 2 ≤ freeCount f → length ss < desc st .control → (i : ℕ) → i ≡ before st a
-      → Gives st ss (nsert st) (storedWith (desc st) (halfCount (D (desc st)) i) (taken (taken f))) 8 (ins (key (desc st .k)) (st .work) (contents (leavesOf ss))) bothSplit (twoSections st f a) (taken (taken f)) → Nserted st ss f
-  no-room : hit (key (desc st .k)) (val (keyIn (desc st) (st .work))) (contents (leavesOf ss)) ≡ [] → (a : Place) → Belongs st ss a → length (a .leaf .records) ≡ D (desc st)
+      → Gives st ss (nsert st) (storedWith (desc st) (halfCount (D (desc st)) i) (taken (taken f))) 8
+      (ins (key (desc st .k)) (st .work) (recordsIn (leavesIn ss))) bothSplit (twoSections st f a) (taken (taken f)) → Nserted st ss f
+  no-room : hit (key (desc st .k)) (val (keyIn (desc st) (st .work))) (recordsIn (leavesIn ss)) ≡ [] → (a : Place) → Belongs st ss a
+      → length (a .leaf .records) ≡ D (desc st)
       → (freeCount f ≡ 0) ⊎ ((length (olds a) ≡ I (desc st)) × ((freeCount f ≡ 1) ⊎ (desc st .control ≤ length ss)))
-      → Gives st ss (nsert st) noRoom 3 (contents (leavesOf ss)) nothing ss f → Nserted st ss f
+      → Gives st ss (nsert st) noRoom 3 (recordsIn (leavesIn ss)) nothing ss f → Nserted st ss f
 
 module _ {st : State} {ss : List Section} {f : Free} where
   -- what each way brings
@@ -92,7 +101,7 @@ module _ {st : State} {ss : List Section} {f : Free} where
   broughtBy (no-room e a b l w g) = nothing
 
 -- what it comes to, with the plan: it splits as many blocks as that says
-pub record Came (st : State) (ss : List Section) (f : Free) : Type 0 where
+pub record NsertCame (st : State) (ss : List Section) (f : Free) : Type 0 where
   pub way : Nserted st ss f
   pub plan : Insert
   pub plan-is : insertDeed (texts st) (st .session .flag) (keyIn (desc st) (st .work)) ≡ passed plan
@@ -101,17 +110,14 @@ pub record Came (st : State) (ss : List Section) (f : Free) : Type 0 where
 
 came : {st : State} {ss : List Section} {f : Free} {plan : Insert} (way : Nserted st ss f)
     → insertDeed (texts st) (st .session .flag) (keyIn (desc st) (st .work)) ≡ passed plan
-    → broughtBy way .splits ≡ detailSplits plan → broughtBy way .index-splits ≡ indexSplits plan → Came st ss f
+    → broughtBy way .splits ≡ detailSplits plan → broughtBy way .index-splits ≡ indexSplits plan → NsertCame st ss f
 came {st} {ss} {f} {plan} way e a b = record { way = way; plan = plan; plan-is = e; splits = a; index-splits = b }
 
 module _ (st : State) (ss : List Section) (f : Free) (r : Ready (desc st .wpr) st ss f) (kw : Key (desc st) (keyIn (desc st) (st .work))) where
-  abbrev p : Description
-  p = desc st
+  open Scene (scene st ss) using (p, w)
 
-  abbrev w : List ℕ
-  w = keyIn (desc st) (st .work)
-
-  module _ (e : hit (key (desc st .k)) (val (keyIn (desc st) (st .work))) (contents (leavesOf ss)) ≡ []) (a : Place) (A : At (texts st) (st .session .flag) ss f a (By (pathOf a)))
+  module _ (e : hit (key (desc st .k)) (val (keyIn (desc st) (st .work))) (recordsIn (leavesIn ss)) ≡ []) (a : Place)
+      (A : At (texts st) (st .session .flag) ss f a (By (pathOf a)))
       (C : Covers (texts st) (keyIn (desc st) (st .work)) a) (none : hit (key (desc st .k)) (val (keyIn (desc st) (st .work))) (a .leaf .records) ≡ [])
       (l : look (texts st) (st .session .flag) (keyIn (desc st) (st .work)) ≡ passed (Missing (pathOf a))) where
     here : Belongs st ss a
@@ -127,12 +133,12 @@ module _ (st : State) (ss : List Section) (f : Free) (r : Ready (desc st .wpr) s
     i2 = good-facts p (r .sound .kept .good) .two-entries
 
     stops : length (a .leaf .records) ≡ D p → (freeCount f ≡ 0) ⊎ ((length (olds a) ≡ I p) × ((freeCount f ≡ 1) ⊎ (p .control ≤ length ss)))
-        → insertDeed (texts st) (st .session .flag) w ≡ passed (Stop (By (pathOf a)) noRoom) → Came st ss f
+        → insertDeed (texts st) (st .session .flag) w ≡ passed (Stop (By (pathOf a)) noRoom) → NsertCame st ss f
     unfolding detailSplits indexSplits
     stops full why deed = came (no-room e a here full why (stop-nsert st ss f r a (By (pathOf a)) A noRoom deed)) deed refl refl
 
     -- the block is full
-    full-ways : length (a .leaf .records) ≡ D p → Came st ss f
+    full-ways : length (a .leaf .records) ≡ D p → NsertCame st ss f
     unfolding detailSplits indexSplits
     full-ways full = go (decLt (length (olds a)) (I p)) (ℕ-discrete (freeCount f) 0) (ℕ-discrete (freeCount f) 1) (decLt (length ss) (p .control))
       where
@@ -151,7 +157,7 @@ module _ (st : State) (ss : List Section) (f : Free) (r : Ready (desc st .wpr) s
         lx : suc (length (take j rs)) ≡ lowCount (D p)
         lx = ap suc (length-take-le j rs (omega (arith, jl .0))) ∙ jl .1
 
-        go : Dec (length (olds a) < I p) → Dec (freeCount f ≡ 0) → Dec (freeCount f ≡ 1) → Dec (length ss < p .control) → Came st ss f
+        go : Dec (length (olds a) < I p) → Dec (freeCount f ≡ 0) → Dec (freeCount f ≡ 1) → Dec (length ss < p .control) → NsertCame st ss f
         go (yes less) (yes z) d₁ d₂ = stops full (inl z) (none-deed st ss f r kw a A C none l full less z)
         go (yes less) (no z) d₁ d₂ =
             let some : 1 ≤ freeCount f = omega arith in
@@ -183,27 +189,33 @@ module _ (st : State) (ss : List Section) (f : Free) (r : Ready (desc st .wpr) s
             i = lowCount (I p) - 1
 
             il : i < length ns
-            il = omega (arith, news-length (texts st) a f (A .held) (r .sound .kept .good) (st .work) (work-ok st ss f r) full (take j rs) (getD rs j []) (drop (suc j) rs) cut lx (next f), half (I p) i2, sec-room)
+            il = omega (
+              arith,
+              news-length (texts st) a f (A .held) (r .sound .kept .good) (st .work) (work-ok st ss f r) full (take j rs) (getD rs j [])
+                  (drop (suc j) rs) cut lx (next f),
+              half (I p) i2,
+              sec-room,
+            )
 
             li : suc (length (take i ns)) ≡ lowCount (I p)
             li = ap suc (length-take-le i ns (omega (arith, il))) ∙ omega (arith, half (I p) i2)
 
-    new-key : Came st ss f
+    new-key : NsertCame st ss f
     unfolding detailSplits indexSplits
     new-key = go (decLt (length (a .leaf .records)) (D p))
       where
-        go : Dec (length (a .leaf .records) < D p) → Came st ss f
+        go : Dec (length (a .leaf .records) < D p) → NsertCame st ss f
         go (yes less) = came (room e a here less (nsert-room st ss f r kw a A C none l less)) (room-deed st ss f r kw a A C none l less) refl refl
         go (no n) = full-ways (omega (arith, leaf-ok p a f _ _ (A .held) .room))
 
-  at : Looked (texts st) (st .session .flag) (keyIn (desc st) (st .work)) ss f → Came st ss f
+  at : Looked (texts st) (st .session .flag) (keyIn (desc st) (st .work)) ss f → NsertCame st ss f
   unfolding detailSplits indexSplits
   at (there a way A C bs x cs q k one l) =
       let deed = duplicate-deed st ss f r way (length bs) l in
       came (duplicate x one (stop-nsert st ss f r a way A notFound deed)) deed refl refl
   at (absent a A C e none l) = new-key e a A C none l
 
-pub nsert-came : (st : State) (ss : List Section) (f : Free) → Ready (desc st .wpr) st ss f → Came st ss f
+pub nsert-came : (st : State) (ss : List Section) (f : Free) → Ready (desc st .wpr) st ss f → NsertCame st ss f
 nsert-came st ss f r =
     let kw : Key (desc st) (keyIn (desc st) (st .work)) = key-of (desc st .wpr) st ss f r (good-facts (desc st) (r .sound .kept .good) .key) (omega arith) in
     at st ss f r kw (looks (texts st) (st .session .flag) ss f (r .sound .kept) (keyIn (desc st) (st .work)) kw)

@@ -16,7 +16,7 @@ use Rattle.demands.proofs.Order.{below, from, below-from, ins}
 use Rattle.demands.proofs.Rows.{Each}
 use Rattle.layout.specs.Tree.{Leaf}
 use Rattle.demands.proofs.Trees.{key, table, entry, indexText}
-use Rattle.demands.proofs.Holds.{Free, Holds, LeafOk, SectionOk, RowOk, masterEntry}
+use Rattle.demands.proofs.Holds.{Free, HoldsCells, LeafFits, SectionOk, RowOk, masterEntry}
 use Rattle.demands.proofs.Steps.{sec, ix, lower, upper}
 use Rattle.demands.proofs.Places.{Place, treeOf, olds, index-text, leaf-text, sec-ok, leaf-ok, lastBound-append}
 use Rattle.demands.proofs.Texts.{half, low-table, high-table, bound-table}
@@ -27,8 +27,10 @@ use Rattle.demands.proofs.Records.{key-long, length-ins, all-ins}
 use Rattle.demands.proofs.Masters.{index-entered, index-renamed}
 use Rattle.demands.proofs.Sound.{rows-long}
 
-module _ (v : Texts) (a : Place) (f : Free) (hd : Holds (v .desc) (masterOf (v .desc) (v .file)) (textOf v) (treeOf a) f) (g : goodParams (v .desc) ≡ true) (r : List ℕ) (rok : RowOk (v .desc) r)
-    (full : length (a .leaf .records) ≡ D (v .desc)) (xs : List (List ℕ)) (y : List ℕ) (ys : List (List ℕ)) (cut : ins (key (v .desc .k)) r (a .leaf .records) ≡ xs ++ y ∷ ys)
+module _ (v : Texts) (a : Place) (f : Free) (hd : HoldsCells (v .desc) (masterOf (v .desc) (v .file)) (textOf v) (treeOf a) f)
+    (g : goodParams (v .desc) ≡ true) (r : List ℕ) (rok : RowOk (v .desc) r)
+    (full : length (a .leaf .records) ≡ D (v .desc)) (xs : List (List ℕ)) (y : List ℕ) (ys : List (List ℕ))
+    (cut : ins (key (v .desc .k)) r (a .leaf .records) ≡ xs ++ y ∷ ys)
     (lx : suc (length xs) ≡ lowCount (D (v .desc))) (nb : ℕ) where
   abbrev p : Description
   p = v .desc
@@ -49,7 +51,7 @@ module _ (v : Texts) (a : Place) (f : Free) (hd : Holds (v .desc) (masterOf (v .
   abbrev pub news : List Leaf
   news = a .low ++ (l₁ ∷ (l₂ ∷ a .high))
 
-  lk : LeafOk p (a .leaf)
+  lk : LeafFits p (a .leaf)
   lk = leaf-ok p a f _ _ hd
 
   pub oks : All (RowOk p) (xs ++ y ∷ ys)
@@ -61,7 +63,7 @@ module _ (v : Texts) (a : Place) (f : Free) (hd : Holds (v .desc) (masterOf (v .
   halves : (2 ≤ lowCount (D p)) × (lowCount (D p) ≤ D p)
   halves = half (D p) (good-facts p g .two-records)
 
-  pub low-ok : LeafOk p l₁
+  pub low-ok : LeafFits p l₁
   low-ok = record {
     some = rw (length-append xs) (omega arith);
     room = rw (length-append xs) (omega (arith, lx, halves));
@@ -70,8 +72,15 @@ module _ (v : Texts) (a : Place) (f : Free) (hd : Holds (v .desc) (masterOf (v .
     wide = key-long p (good-facts p g .key) y (all-right (RowOk p) xs _ oks .0) .1;
   }
 
-  pub high-ok : LeafOk p l₂
-  high-ok = record { some = omega (arith, size, lx, halves); room = omega (arith, size, lx, halves); rows = all-right (RowOk p) xs _ oks .1; bound = lk .bound; wide = lk .wide }
+  pub high-ok : LeafFits p l₂
+  high-ok = record {
+    some = omega (arith, size, lx, halves);
+    room = omega (arith, size, lx, halves);
+    rows = all-right
+        (RowOk p) xs _ oks .1;
+    bound = lk .bound;
+    wide = lk .wide;
+  }
 
   -- ---- the detail blocks
 
@@ -116,7 +125,11 @@ module _ (v : Texts) (a : Place) (f : Free) (hd : Holds (v .desc) (masterOf (v .
   pub entry-is : detailEntry v (pathOf a) place r ≡ entry l₁
   unfolding detailEntry entry detailShape
   entry-is =
-      rw (low-is, bound-table (p .wpb) (detailShape p) refl (good-facts p g .key) (D p) xs y (rows-long p xs (all-left (RowOk p) xs _ oks)) (all-right (RowOk p) xs _ oks .0 .0) lx)
+      rw (
+        low-is,
+        bound-table (p .wpb) (detailShape p) refl (good-facts p g .key) (D p) xs y (rows-long p xs (all-left (RowOk p) xs _ oks))
+            (all-right (RowOk p) xs _ oks .0 .0) lx,
+      )
 
   -- ---- the index block
 
@@ -127,21 +140,24 @@ module _ (v : Texts) (a : Place) (f : Free) (hd : Holds (v .desc) (masterOf (v .
   unfolding indexEntered
   index-is room = rw (entry-is, index-text p a f _ _ hd) (index-entered p g (a .low) (a .leaf) (a .high) (old-ok .leaves) l₁ l₂ low-ok refl room)
 
-  pub news-ok : All (LeafOk p) news
-  news-ok = all-append (LeafOk p) (a .low) _ (all-left (LeafOk p) (a .low) _ (old-ok .leaves)) (low-ok, (high-ok, all-right (LeafOk p) (a .low) _ (old-ok .leaves) .1))
+  pub news-ok : All (LeafFits p) news
+  news-ok =
+      all-append (LeafFits p) (a .low) _ (all-left (LeafFits p) (a .low) _ (old-ok .leaves))
+      (low-ok, (high-ok, all-right (LeafFits p) (a .low) _ (old-ok .leaves) .1))
 
   pub news-length : length news ≡ suc (length (olds a))
   news-length = rw (length-append (a .low) (l₁ ∷ (l₂ ∷ a .high)), length-append (a .low) (a .leaf ∷ a .high)) (omega arith)
 
-  module _ (most : length (olds a) ≡ I p) (qs : List Leaf) (q : Leaf) (zs : List Leaf) (cut₂ : news ≡ qs ++ q ∷ zs) (lq : suc (length qs) ≡ lowCount (I p)) where
+  module _ (most : length (olds a) ≡ I p) (qs : List Leaf) (q : Leaf) (zs : List Leaf) (cut₂ : news ≡ qs ++ q ∷ zs)
+      (lq : suc (length qs) ≡ lowCount (I p)) where
     halves₂ : (2 ≤ lowCount (I p)) × (lowCount (I p) ≤ I p)
     halves₂ = half (I p) (good-facts p g .two-entries)
 
-    cut-oks : All (LeafOk p) (qs ++ q ∷ zs)
-    cut-oks = subst (All (LeafOk p)) cut₂ news-ok
+    cut-oks : All (LeafFits p) (qs ++ q ∷ zs)
+    cut-oks = subst (All (LeafFits p)) cut₂ news-ok
 
-    qs-ok : All (LeafOk p) (qs ++ (q ∷ []))
-    qs-ok = all-append (LeafOk p) qs (q ∷ []) (all-left (LeafOk p) qs _ cut-oks) (all-right (LeafOk p) qs _ cut-oks .0, tt)
+    qs-ok : All (LeafFits p) (qs ++ (q ∷ []))
+    qs-ok = all-append (LeafFits p) qs (q ∷ []) (all-left (LeafFits p) qs _ cut-oks) (all-right (LeafFits p) qs _ cut-oks .0, tt)
 
     pub size₂ : length qs + suc (length zs) ≡ suc (I p)
     size₂ = sym (length-append qs (q ∷ zs)) ∙ ap length (sym cut₂) ∙ news-length ∙ ap suc most
@@ -152,21 +168,27 @@ module _ (v : Texts) (a : Place) (f : Free) (hd : Holds (v .desc) (masterOf (v .
 
     renamed-is : renamed (indexShape p) (length (a .low)) nb (textOf v (a .index)) ≡ table (p .wpb) (map entry (a .low) ++ map entry (l₀ ∷ a .high))
     unfolding indexText
-    renamed-is = rw (index-text p a f _ _ hd) (index-renamed p g (a .low) (a .leaf) (a .high) (old-ok .leaves) nb ∙ ap (table (p .wpb)) (map-append entry (a .low) (l₀ ∷ a .high)))
+    renamed-is =
+        rw (index-text p a f _ _ hd)
+        (index-renamed p g (a .low) (a .leaf) (a .high) (old-ok .leaves) nb ∙ ap (table (p .wpb)) (map-append entry (a .low) (l₀ ∷ a .high)))
 
     before : Each (p .k + 1) (map entry (a .low))
-    before = index-rows p (a .low) (all-left (LeafOk p) (a .low) _ (old-ok .leaves))
+    before = index-rows p (a .low) (all-left (LeafFits p) (a .low) _ (old-ok .leaves))
 
     after : Each (p .k + 1) (map entry (l₀ ∷ a .high))
     unfolding entry
-    after = (rw (length-append (a .leaf .bound) (nb ∷ []), lk .bound), index-rows p (a .high) (all-right (LeafOk p) (a .low) _ (old-ok .leaves) .1))
+    after = (rw (length-append (a .leaf .bound) (nb ∷ []), lk .bound), index-rows p (a .high) (all-right (LeafFits p) (a .low) _ (old-ok .leaves) .1))
 
     cut-rows : map entry (a .low) ++ entry l₁ ∷ map entry (l₀ ∷ a .high) ≡ map entry (qs ++ (q ∷ [])) ++ map entry zs
     unfolding entry
-    cut-rows = sym (map-append entry (a .low) (l₁ ∷ (l₂ ∷ a .high))) ∙ ap (map entry) (cut₂ ∙ sym (append-assoc qs (q ∷ []) zs)) ∙ map-append entry (qs ++ (q ∷ [])) zs
+    cut-rows =
+        sym (map-append entry (a .low) (l₁ ∷ (l₂ ∷ a .high))) ∙ ap (map entry) (cut₂ ∙ sym (append-assoc qs (q ∷ []) zs))
+        ∙ map-append entry (qs ++ (q ∷ [])) zs
 
     count-is : length (map entry (a .low) ++ map entry (l₀ ∷ a .high)) ≡ I p
-    count-is = ap length (sym (map-append entry (a .low) (l₀ ∷ a .high))) ∙ length-map (a .low ++ (l₀ ∷ a .high)) entry ∙ rw (length-append (a .low) (l₀ ∷ a .high)) (sym (length-append (a .low) (a .leaf ∷ a .high)) ∙ most)
+    count-is =
+        ap length (sym (map-append entry (a .low) (l₀ ∷ a .high))) ∙ length-map (a .low ++ (l₀ ∷ a .high)) entry
+        ∙ rw (length-append (a .low) (l₀ ∷ a .high)) (sym (length-append (a .low) (a .leaf ∷ a .high)) ∙ most)
 
     low-length : length (map entry (qs ++ (q ∷ []))) ≡ lowCount (I p)
     low-length = length-map (qs ++ (q ∷ [])) entry ∙ rw (length-append qs) (omega (arith, lq))
@@ -179,13 +201,15 @@ module _ (v : Texts) (a : Place) (f : Free) (hd : Holds (v .desc) (masterOf (v .
     unfolding indexLow indexText indexShape
     index-low =
         rw (entry-is, renamed-is, ← length-map (a .low) entry)
-        (low-table (indexShape p) refl (p .wpb) (map entry (a .low)) (map entry (l₀ ∷ a .high)) before after (entry l₁) l₁-long (I p) count-is (map entry (qs ++ (q ∷ []))) (map entry zs) cut-rows low-length)
+        (low-table (indexShape p) refl (p .wpb) (map entry (a .low)) (map entry (l₀ ∷ a .high)) before after (entry l₁) l₁-long (I p) count-is
+        (map entry (qs ++ (q ∷ []))) (map entry zs) cut-rows low-length)
 
     pub index-high : indexHigh v (pathOf a) place r nb ≡ ix p zs
     unfolding indexHigh indexText indexShape
     index-high =
         rw (entry-is, renamed-is, ← length-map (a .low) entry)
-        (high-table (indexShape p) refl (p .wpb) (map entry (a .low)) (map entry (l₀ ∷ a .high)) before after (entry l₁) l₁-long (I p) count-is (map entry (qs ++ (q ∷ []))) (map entry zs) cut-rows low-length)
+        (high-table (indexShape p) refl (p .wpb) (map entry (a .low)) (map entry (l₀ ∷ a .high)) before after (entry l₁) l₁-long (I p) count-is
+        (map entry (qs ++ (q ∷ []))) (map entry zs) cut-rows low-length)
 
     bound-is : lowBound (indexShape p) (I p) (ix p (qs ++ (q ∷ []))) ≡ q .bound
     unfolding lowBound

@@ -22,15 +22,15 @@ use Rattle.rules.specs.Checks.{sizesOk}
 use Rattle.rules.specs.Lookup.{flushMoves}
 use Rattle.rules.specs.Open.{Opened, openChecks, openLayout, openDone, openFile}
 use Rattle.rules.specs.Requests.{Request, opening, closing, seeking, advancing, inserting, deleting, updating, extending, answer}
-use Rattle.demands.proofs.Holds.{Free, Holds}
+use Rattle.demands.proofs.Holds.{Free}
 use Rattle.demands.proofs.Places.{holds-ext}
-use Rattle.demands.proofs.Blocks.{writes}
-use Rattle.demands.proofs.Sound.{Alone, Kept, Sound, no-true-false, text-other}
+use Rattle.demands.proofs.Blocks.{cellsWritten}
+use Rattle.demands.proofs.Sound.{Alone, KeptTree, Sound, no-true-false, text-other}
 use Rattle.demands.proofs.Reach.{bring}
 use Rattle.demands.proofs.Answers.{sizes-pass}
 use Rattle.demands.proofs.Reader.{freeOf}
 use Rattle.demands.proofs.Joined.{cells-held, contents-ended}
-use Rattle.demands.proofs.Told.{tree, told}
+use Rattle.demands.proofs.Told.{tree, told-holds}
 use Rattle.demands.proofs.Step.{open-step, closed-fine}
 
 -- an OPEN that answers 0: a tree stands in the file, and the state it leaves is sound with that tree
@@ -68,7 +68,10 @@ module _ (st : State) (marks : List ℕ) (g : goodParams (desc st) ≡ true) (lf
             current = λ l. absurd (omega arith);
             flagged = λ x. no-true-false x refl;
             clean = λ x l. absurd (omega arith);
-            holds = holds-ext p _ _ _ (t .sections) (freeOf p t) (λ b l u. text-other (record { desc = p; current = 0; file = st .file; buffer = st .buffer }) b (λ x. omega arith)) (cells-held p g (st .file) t h);
+            holds =
+                holds-ext p _ _ _ (t .sections) (freeOf p t)
+                (λ b l u. text-other (record { desc = p; current = 0; file = st .file; buffer = st .buffer }) b (λ x. omega arith))
+                (cells-held p g (st .file) t h);
             ended = contents-ended p g (st .file) t h;
             alone = record { sections = t .sections; free = freeOf p t; holds = cells-held p g (st .file) t h; ended = contents-ended p g (st .file) t h };
           };
@@ -111,23 +114,26 @@ module _ (st : State) (marks : List ℕ) (g : goodParams (desc st) ≡ true) (lf
 
 module _ (st : State) (ss : List Section) (f : Free) (h : Sound st ss f) where
   -- with the buffer put back: "write the buffer if flagged"
-  pub flushed-stands : lay.Holds (desc st) (written (desc st) (flushMoves (texts st) (st .session .flag)) (st .file)) (record { sections = ss; chain = f .chain; lowest = f .lowest })
-  unfolding writes
+  pub flushed-stands : lay.Holds (desc st) (written (desc st) (flushMoves (texts st) (st .session .flag)) (st .file))
+      (record { sections = ss; chain = f .chain; lowest = f .lowest })
+  unfolding cellsWritten
   flushed-stands =
       let p : Description = desc st in
       let ms = flushMoves (texts st) (st .session .flag) in
-      let k : Kept (record { desc = p; current = 0; file = written p (ms ++ []) (st .file); buffer = st .buffer }) false ss f
+      let k : KeptTree (record { desc = p; current = 0; file = written p (ms ++ []) (st .file); buffer = st .buffer }) false ss f
       = bring (texts st) (st .session .flag) ss f (h .kept) [] refl 0 (st .buffer) (inl (refl, h .kept .buffer-length)) in
-      subst (λ (x : List ℕ). lay.Holds p x (record { sections = ss; chain = f .chain; lowest = f .lowest })) (ap (λ (m : List _). written p m (st .file)) (append-nil ms))
-      (told p (k .good) (written p (ms ++ []) (st .file)) (k .file-length) ss f
-      (holds-ext p _ _ _ ss f (λ b l u. sym (text-other (record { desc = p; current = 0; file = written p (ms ++ []) (st .file); buffer = st .buffer }) b (λ x. omega arith))) (k .holds)) (k .ended))
+      subst (λ (x : List ℕ). lay.Holds p x (record { sections = ss; chain = f .chain; lowest = f .lowest }))
+      (ap (λ (m : List _). written p m (st .file)) (append-nil ms))
+      (told-holds p (k .good) (written p (ms ++ []) (st .file)) (k .file-length) ss f
+      (holds-ext p _ _ _ ss f (λ b l u. sym (text-other (record { desc = p; current = 0; file = written p (ms ++ []) (st .file); buffer = st .buffer }) b
+      (λ x. omega arith))) (k .holds)) (k .ended))
 
   -- D2.9: the file alone, whatever is in the buffer
   pub file-alone : lay.WellFormed (desc st) (st .file)
   unfolding lay.WellFormed
   file-alone =
       let a : Alone (desc st) (st .file) = h .kept .alone in
-      (_, told (desc st) (h .kept .good) (st .file) (h .kept .file-length) (a .sections) (a .free) (a .holds) (a .ended))
+      (_, told-holds (desc st) (h .kept .good) (st .file) (h .kept .file-length) (a .sections) (a .free) (a .holds) (a .ended))
 
   -- so it opens
   pub file-opens : (ms : List ℕ) × (layoutMarks (desc st) (st .file) ≡ passed ms)
@@ -135,7 +141,8 @@ module _ (st : State) (ss : List Section) (f : Free) (h : Sound st ss f) where
       let a : Alone (desc st) (st .file) = h .kept .alone in
       let t : Tree = record { sections = a .sections; chain = a .free .chain; lowest = a .free .lowest } in (
         marksOf t (desc st .n),
-        open-exact (desc st) (st .file) (h .kept .good) (h .kept .file-length) .1 t (told (desc st) (h .kept .good) (st .file) (h .kept .file-length) (a .sections) (a .free) (a .holds) (a .ended)),
+        open-exact (desc st) (st .file) (h .kept .good) (h .kept .file-length) .1 t
+            (told-holds (desc st) (h .kept .good) (st .file) (h .kept .file-length) (a .sections) (a .free) (a .holds) (a .ended)),
       )
 
 -- no call on a sound state answers 070003: of an open session none does, and OPEN of a closed one passes its test

@@ -100,7 +100,8 @@ module _ {A : Type 0} (key : A → ℕ) where
       go (yes p) r = rw (lt-ltb (key x) k p) r
       go (no n) r = rw (le-ltb (key x) k (omega arith)) (omega arith, h .1)
 
-  pub below-front : (lo : ℕ) (xs : List A) (mid : ℕ) (ys : List A) (hi k : ℕ) → Asc lo xs mid → Asc mid ys hi → lo ≤ k → k ≤ mid → below k (xs ++ ys) ≡ below k xs
+  pub below-front : (lo : ℕ) (xs : List A) (mid : ℕ) (ys : List A) (hi k : ℕ) → Asc lo xs mid → Asc mid ys hi → lo ≤ k → k ≤ mid
+      → below k (xs ++ ys) ≡ below k xs
   below-front lo xs mid ys hi k p q l h =
       ap (λ (z : List A). below k (z ++ ys)) (sym (below-from k xs)) ∙ ap (below k) (append-assoc (below k xs) (from k xs) ys)
       ∙ below-at lo (below k xs) k (from k xs ++ ys) hi (asc-below lo k xs mid p l) (asc-append k (from k xs) mid ys hi (asc-from lo k xs mid p h) q)
@@ -131,11 +132,15 @@ module _ {A : Type 0} (key : A → ℕ) where
 
   pub asc-del : (lo k : ℕ) (xs : List A) (hi : ℕ) → Asc lo xs hi → lo ≤ k → k < hi → Asc lo (del k xs) hi
   unfolding del
-  asc-del lo k xs hi h l u = asc-append lo (below k xs) (suc k) (from (suc k) xs) hi (asc-wide lo lo (below k xs) k (suc k) (asc-below lo k xs hi h l) (omega arith) (omega arith)) (asc-from lo (suc k) xs hi h u)
+  asc-del lo k xs hi h l u =
+      asc-append lo (below k xs) (suc k) (from (suc k) xs) hi (asc-wide lo lo (below k xs) k (suc k) (asc-below lo k xs hi h l) (omega arith) (omega arith))
+      (asc-from lo (suc k) xs hi h u)
 
   pub asc-upd : (lo : ℕ) (r : A) (xs : List A) (hi : ℕ) → Asc lo xs hi → lo ≤ key r → key r < hi → Asc lo (upd r xs) hi
   unfolding upd
-  asc-upd lo r xs hi h l u = asc-append lo (below (key r) xs) (key r) (r ∷ from (suc (key r)) xs) hi (asc-below lo (key r) xs hi h l) (omega arith, asc-from lo (suc (key r)) xs hi h u)
+  asc-upd lo r xs hi h l u =
+      asc-append lo (below (key r) xs) (key r) (r ∷ from (suc (key r)) xs) hi (asc-below lo (key r) xs hi h l)
+      (omega arith, asc-from lo (suc (key r)) xs hi h u)
 
   -- a part of the list that covers a key decides what is done at that key
   module _ (cp rows cq : List A) (lo hi top : ℕ) (hp : Asc 0 cp lo) (hr : Asc lo rows hi) (hq : Asc hi cq top) where
@@ -169,4 +174,5 @@ module _ {A : Type 0} (key : A → ℕ) where
 
     pub hit-local : (k : ℕ) → lo ≤ k → k < hi → hit k (cp ++ (rows ++ cq)) ≡ hit k rows
     unfolding hit
-    hit-local k l h = rw (from-local k l (omega arith)) (below-front k (from k rows) hi cq top (suc k) (asc-from lo k rows hi hr (omega arith)) hq (omega arith) h)
+    hit-local k l h =
+        rw (from-local k l (omega arith)) (below-front k (from k rows) hi cq top (suc k) (asc-from lo k rows hi hr (omega arith)) hq (omega arith) h)

@@ -31,14 +31,17 @@ module _ (p : Description) (kr : p .k ≤ p .wpr) (w : List ℕ) (kw : Key p w) 
       go true = refl
       go false = rw o
 
-  pub none-from : (lo : ℕ) (xs : List (List ℕ)) (e : List ℕ) → Asc (key (p .k)) lo xs (val w) → All (RowOk p) xs → isOnes (keyIn p e) ≡ true → ordinary p (recordsFrom p w (xs ++ e ∷ [])) ≡ []
+  pub none-from : (lo : ℕ) (xs : List (List ℕ)) (e : List ℕ) → Asc (key (p .k)) lo xs (val w) → All (RowOk p) xs → isOnes (keyIn p e) ≡ true
+      → ordinary p (recordsFrom p w (xs ++ e ∷ [])) ≡ []
   unfolding recordsFrom
   none-from lo [] e h ok o = end-only e o
   none-from lo (x ∷ xs) e h ok o =
-      rw (row-under p kr w kw x (ok .0), lt-ltb (key (p .k) x) (val w) (asc-le (key (p .k)) (suc (key (p .k) x)) xs (val w) (h .1))) (none-from (suc (key (p .k) x)) xs e (h .1) (ok .1) o)
+      rw (row-under p kr w kw x (ok .0), lt-ltb (key (p .k) x) (val w) (asc-le (key (p .k)) (suc (key (p .k) x)) xs (val w) (h .1)))
+      (none-from (suc (key (p .k) x)) xs e (h .1) (ok .1) o)
 
   -- an ordinary record not below the key is among those
-  pub some-from : (xs : List (List ℕ)) (y : List ℕ) (ys : List (List ℕ)) → keyLt (keyIn p y) w ≡ false → isOnes (keyIn p y) ≡ false → ordinary p (recordsFrom p w (xs ++ y ∷ ys)) ≡ [] → ⊥
+  pub some-from : (xs : List (List ℕ)) (y : List ℕ) (ys : List (List ℕ)) → keyLt (keyIn p y) w ≡ false → isOnes (keyIn p y) ≡ false
+      → ordinary p (recordsFrom p w (xs ++ y ∷ ys)) ≡ [] → ⊥
   unfolding ordinary recordsFrom
   some-from [] y ys l o e = no-cons y (ordinary p (recordsFrom p w ys)) (sym (rw (l, o)) ∙ e)
   some-from (x ∷ xs) y ys l o e = go (keyLt (keyIn p x) w) (some-from xs y ys l o) e
@@ -47,7 +50,8 @@ module _ (p : Description) (kr : p .k ≤ p .wpr) (w : List ℕ) (kw : Key p w) 
       by true zs h q = h q
       by false zs h q = no-cons x zs q
 
-      go : (t : Bool) → (ordinary p (recordsFrom p w (xs ++ y ∷ ys)) ≡ [] → ⊥) → ordinary p (cond t (recordsFrom p w (xs ++ y ∷ ys)) (x ∷ recordsFrom p w (xs ++ y ∷ ys))) ≡ [] → ⊥
+      go : (t : Bool) → (ordinary p (recordsFrom p w (xs ++ y ∷ ys)) ≡ [] → ⊥)
+          → ordinary p (cond t (recordsFrom p w (xs ++ y ∷ ys)) (x ∷ recordsFrom p w (xs ++ y ∷ ys))) ≡ [] → ⊥
       go true h q = h q
       go false h q = by (isOnes (keyIn p x)) (ordinary p (recordsFrom p w (xs ++ y ∷ ys))) h q
 

@@ -21,7 +21,7 @@ use Rattle.rules.specs.declared.Path.{Path}
 use Rattle.rules.specs.Paths.{chosen, entryOf, pathAt, pathUnder, pathBy, pathTo}
 use Rattle.demands.proofs.Rows.{firstIn}
 use Rattle.demands.proofs.Trees.{bd, indexText}
-use Rattle.demands.proofs.Holds.{Free, Holds, LeafOk, SectionOk}
+use Rattle.demands.proofs.Holds.{Free, HoldsCells, LeafFits, SectionOk}
 use Rattle.demands.proofs.Steps.{sec}
 use Rattle.demands.proofs.Locate.{secBd}
 use Rattle.demands.proofs.Places.{Place, treeOf, olds, lo, hi, index-text, leaf-text, index-in, leaf-in, index-not-leaf, sec-ok, leaf-ok}
@@ -43,25 +43,28 @@ pub entry-pass : (p : Description) (h : Shape) (most : ℕ) (which : Which) (key
 unfolding entryOf
 entry-pass p h most which key t m i b em l u ei li eb lb ub = simp (em, le-leb 1 m l, le-leb m most u, ei, lt-ltb i m li, eb, le-leb 1 b lb, le-leb b (p .n) ub)
 
-module _ (v : Texts) (a : Place) (f : Free) (h : Holds (v .desc) (masterOf (v .desc) (v .file)) (textOf v) (treeOf a) f) where
+module _ (v : Texts) (a : Place) (f : Free) (h : HoldsCells (v .desc) (masterOf (v .desc) (v .file)) (textOf v) (treeOf a) f) where
   abbrev p : Description
   p = v .desc
 
-  pub path-by : (top which : Which) (key : List ℕ) → chosen top (masterShape p) key (v .file) ≡ length (a .before) → chosen which (indexShape p) key (indexText (p .wpb) (olds a)) ≡ length (a .low)
+  pub path-by : (top which : Which) (key : List ℕ) → chosen top (masterShape p) key (v .file) ≡ length (a .before)
+      → chosen which (indexShape p) key (indexText (p .wpb) (olds a)) ≡ length (a .low)
       → pathBy v top which key ≡ passed (pathOf a)
   unfolding pathBy pathUnder pathAt
   path-by top which key et ew =
       let ok : SectionOk p (sec (a .index) (olds a)) = sec-ok p a f _ (textOf v) h in
-      let lk : LeafOk p (a .leaf) = leaf-ok p a f _ (textOf v) h in
+      let lk : LeafFits p (a .leaf) = leaf-ok p a f _ (textOf v) h in
       let i : (1 ≤ a .index) × (a .index ≤ p .n) = index-in p a f _ (textOf v) h in
       let l : (1 ≤ a .leaf .block) × (a .leaf .block ≤ p .n) = leaf-in p a f _ (textOf v) h in
       simp (
         entry-pass p (masterShape p) (p .control) top key (v .file) (length (treeOf a)) (length (a .before)) (a .index)
-            (sections-is p (v .file) (treeOf a) f (h .master-is) (h .sized)) (rw (length-append (a .before)) (omega arith)) (h .sections) et (rw (length-append (a .before)) (omega arith))
+            (sections-is p (v .file) (treeOf a) f (h .master-is) (h .sized)) (rw (length-append (a .before)) (omega arith)) (h .sections) et
+            (rw (length-append (a .before)) (omega arith))
             (master-at p (v .file) (a .before) (sec (a .index) (olds a)) (a .behind) f (h .master-is) (h .sized)) (i .0) (i .1),
         index-text p a f _ (textOf v) h,
         entry-pass p (indexShape p) (I p) which key (indexText (p .wpb) (olds a)) (length (olds a)) (length (a .low)) (a .leaf .block)
-            (count-index p (olds a)) (ok .some) (ok .room) ew (rw (length-append (a .low)) (omega arith)) (index-at p (a .low) (a .leaf) (a .high) (ok .leaves)) (l .0) (l .1),
+            (count-index p (olds a)) (ok .some) (ok .room) ew (rw (length-append (a .low)) (omega arith))
+            (index-at p (a .low) (a .leaf) (a .high) (ok .leaves)) (l .0) (l .1),
         ne-eqb (a .index) (a .leaf .block) (λ e. index-not-leaf p a f _ (textOf v) h (sym e)),
         leaf-text p a f _ (textOf v) h,
         count-table (p .wpb) (a .leaf .records),
@@ -70,7 +73,8 @@ module _ (v : Texts) (a : Place) (f : Free) (h : Holds (v .desc) (masterOf (v .d
       )
 
   module _ (w : List ℕ) (wide : allWords w ≡ true) (long : length w ≡ p .k) where
-    pub path-to : firstIn (λ s. leb (val w) (secBd (p .k) s)) (treeOf a) ≡ length (a .before) → firstIn (λ m. leb (val w) (bd (p .k) m)) (olds a) ≡ length (a .low)
+    pub path-to : firstIn (λ s. leb (val w) (secBd (p .k) s)) (treeOf a) ≡ length (a .before)
+        → firstIn (λ m. leb (val w) (bd (p .k) m)) (olds a) ≡ length (a .low)
         → pathTo v w ≡ passed (pathOf a)
     path-to e g =
         path-by which.Covering which.Covering w (master-from p (v .file) (treeOf a) f (h .master-is) (h .sized) w wide long ∙ e)

@@ -11,10 +11,11 @@ use borrow.Author.Tests.{leb-true}
 use Rattle.drum.specs.declared.Description.{Description}
 use Rattle.demands.proofs.Lists.{map-append}
 use Rattle.demands.proofs.Order.{Asc, from, hit, ins, upd, del, asc-ins}
-use Rattle.demands.proofs.Cells.{Cell, bit, is, is-self, weigh, weigh-append, weigh-cons, weigh-nil, times, Agree, agree-same}
+use Rattle.demands.proofs.Cells.{Cell, bit, is, is-self, weigh, weigh-append, weigh-cons, weigh-nil, cellTimes, Agree, agree-same}
 use Rattle.layout.specs.Tree.{Leaf, Section}
-use Rattle.demands.proofs.Trees.{leavesOf, leaves-append, contents, key, bd, reach, Ranged, reach-append, table, leafCell, indexText, cellsOf, cells-append}
-use Rattle.demands.proofs.Holds.{Free, Holds, LeafOk, SectionOk, inside, inside-le, freeCells, masterEntry, masterText, lastBound}
+use Rattle.demands.proofs.Trees.{leavesIn, leavesIn-append, recordsIn, key, bd, reach, Ranged, reach-append, table, leafCell, indexText, cellsOf}
+use Rattle.demands.proofs.Trees.{cells-append}
+use Rattle.demands.proofs.Holds.{Free, HoldsCells, LeafFits, SectionOk, inside, inside-le, freeCells, masterEntry, masterFor, lastBound}
 use Rattle.demands.proofs.Steps.{sec, section-ok, leaves-ranged, leaves-ok}
 use Rattle.demands.proofs.Locate.{hit-part, from-part, ins-part, upd-part, del-part}
 
@@ -39,7 +40,7 @@ olds a = a .low ++ (a .leaf ∷ a .high)
 
 -- where the leaf's keys start, and where they end
 abbrev pub lo : Description → Place → ℕ
-lo p a = reach (p .k) (reach (p .k) 0 (leavesOf (a .before))) (a .low)
+lo p a = reach (p .k) (reach (p .k) 0 (leavesIn (a .before))) (a .low)
 
 abbrev pub hi : Description → Place → ℕ
 hi p a = suc (bd (p .k) (a .leaf))
@@ -59,17 +60,19 @@ inside-low n b h = go (leb 1 b) (leb b n) refl refl h
     go true false e g l = absurd (omega arith)
     go false u e g l = absurd (omega arith)
 
-agree-ext : (text text′ : ℕ → List ℕ) (cs : List Cell) → ((b : ℕ) → 1 ≤ times b cs → text′ b ≡ text b) → Agree text cs → Agree text′ cs
-unfolding times weigh
+agree-ext : (text text′ : ℕ → List ℕ) (cs : List Cell) → ((b : ℕ) → 1 ≤ cellTimes b cs → text′ b ≡ text b) → Agree text cs → Agree text′ cs
+unfolding cellTimes weigh
 agree-ext text text′ [] e h = tt
 agree-ext text text′ (c ∷ cs) e h = (e (c .0) (omega (arith, is-self (c .0))) ∙ h .0, agree-ext text text′ cs (λ b l. e b (omega arith)) (h .1))
 
 -- a held tree depends on the texts of the blocks 1..N, and on nothing else
 pub holds-ext : (p : Description) (master : List ℕ) (text text′ : ℕ → List ℕ) (ss : List Section) (f : Free) → ((b : ℕ) → 1 ≤ b → b ≤ p .n → text′ b ≡ text b)
-    → Holds p master text ss f → Holds p master text′ ss f
+    → HoldsCells p master text ss f → HoldsCells p master text′ ss f
 holds-ext p master text text′ ss f e h = record {
   master-is = h .master-is;
-  agree = agree-ext text text′ (cellsOf (p .wpb) ss ++ freeCells p f) (λ b l. let i = inside-low (p .n) b (omega (arith, h .once b)) in e b (i .0) (i .1)) (h .agree);
+  agree =
+      agree-ext text text′ (cellsOf (p .wpb) ss ++ freeCells p f) (λ b l. let i = inside-low (p .n) b (omega (arith, h .once b)) in e b (i .0) (i .1))
+      (h .agree);
   once = h .once;
   ranged = h .ranged;
   top = h .top;
@@ -86,8 +89,8 @@ unfolding cellsOf
 one-section wpb w ib ls ss = simp (weigh-append, weigh-cons) (omega arith)
 
 -- both blocks of a place are in the tree
-pub cells-in : (wpb : ℕ) (a : Place) (b : ℕ) → is (a .index) b + is (a .leaf .block) b ≤ times b (cellsOf wpb (treeOf a))
-unfolding times
+pub cells-in : (wpb : ℕ) (a : Place) (b : ℕ) → is (a .index) b + is (a .leaf .block) b ≤ cellTimes b (cellsOf wpb (treeOf a))
+unfolding cellTimes
 cells-in wpb a b =
     simp (cells-append, one-section, map-append, weigh-append, weigh-cons) (omega (arith, leaf))
   where
@@ -96,18 +99,21 @@ cells-in wpb a b =
 
 module _ (p : Description) (a : Place) (f : Free) where
   rest : List Cell
-  rest = cellsOf (p .wpb) (a .before) ++ (map (leafCell (p .wpb)) (a .low) ++ (map (leafCell (p .wpb)) (a .high) ++ (cellsOf (p .wpb) (a .behind) ++ freeCells p f)))
+  rest =
+      cellsOf (p .wpb) (a .before) ++
+      (map (leafCell (p .wpb)) (a .low) ++ (map (leafCell (p .wpb)) (a .high) ++ (cellsOf (p .wpb) (a .behind) ++ freeCells p f)))
 
-  cells-here : (w : Cell → ℕ) → weigh w (cellsOf (p .wpb) (treeOf a) ++ freeCells p f) ≡ weigh w ((a .index, indexText (p .wpb) (olds a)) ∷ (leafCell (p .wpb) (a .leaf) ∷ rest))
+  cells-here : (w : Cell → ℕ)
+      → weigh w (cellsOf (p .wpb) (treeOf a) ++ freeCells p f) ≡ weigh w ((a .index, indexText (p .wpb) (olds a)) ∷ (leafCell (p .wpb) (a .leaf) ∷ rest))
   unfolding rest
   cells-here w = simp (cells-append, one-section, map-append, weigh-append, weigh-cons, weigh-nil) (omega arith)
 
-  module _ (master : List ℕ) (text : ℕ → List ℕ) (h : Holds p master text (treeOf a) f) where
+  module _ (master : List ℕ) (text : ℕ → List ℕ) (h : HoldsCells p master text (treeOf a) f) where
     here-agree : Agree text ((a .index, indexText (p .wpb) (olds a)) ∷ (leafCell (p .wpb) (a .leaf) ∷ rest))
     here-agree = agree-same text _ _ cells-here (h .agree)
 
-    here-once : (b : ℕ) → is (a .index) b + (is (a .leaf .block) b + times b rest) ≡ inside (p .n) b
-    unfolding times weigh leafCell
+    here-once : (b : ℕ) → is (a .index) b + (is (a .leaf .block) b + cellTimes b rest) ≡ inside (p .n) b
+    unfolding cellTimes weigh leafCell
     here-once b = sym (cells-here (λ c. is (c .0) b)) ∙ h .once b
 
     pub index-text : text (a .index) ≡ indexText (p .wpb) (olds a)
@@ -125,61 +131,72 @@ module _ (p : Description) (a : Place) (f : Free) where
 
     pub index-not-leaf : a .leaf .block ≢ a .index
     index-not-leaf e =
-        omega (arith, here-once (a .index), is-self (a .index), subst (λ (b : ℕ). is b (a .index) ≡ 1) (sym e) (is-self (a .index)), inside-le (p .n) (a .index))
+        omega
+        (arith, here-once (a .index), is-self (a .index), subst (λ (b : ℕ). is b (a .index) ≡ 1) (sym e) (is-self (a .index)), inside-le (p .n) (a .index))
 
     -- ---- sizes and order
 
     pub sec-ok : SectionOk p (sec (a .index) (olds a))
     sec-ok = section-ok p (a .before) (a .index) (a .low) (a .leaf ∷ []) (a .high) (a .behind) f master text h
 
-    pub leaf-ok : LeafOk p (a .leaf)
+    pub leaf-ok : LeafFits p (a .leaf)
     leaf-ok = leaves-ok p (a .before) (a .index) (a .low) (a .leaf ∷ []) (a .high) (a .behind) f master text h .0
 
     pub asc-leaf : Asc (key (p .k)) (lo p a) (a .leaf .records) (hi p a)
     asc-leaf = leaves-ranged p (a .before) (a .index) (a .low) (a .leaf ∷ []) (a .high) (a .behind) f master text h .0
 
     -- the contents from a key on that the leaf covers
-    pub from-here : (x : ℕ) → lo p a ≤ x → x ≤ hi p a → from (key (p .k)) x (contents (leavesOf (treeOf a))) ≡ from (key (p .k)) x (a .leaf .records) ++ contents (a .high ++ leavesOf (a .behind))
+    pub from-here : (x : ℕ) → lo p a ≤ x → x ≤ hi p a
+        → from (key (p .k)) x (recordsIn (leavesIn (treeOf a))) ≡ from (key (p .k)) x (a .leaf .records) ++ recordsIn (a .high ++ leavesIn (a .behind))
     from-here x l u =
-        let flat : leavesOf (treeOf a) ≡ (leavesOf (a .before) ++ a .low) ++ ((a .leaf ∷ []) ++ (a .high ++ leavesOf (a .behind))) = simp (leaves-append, append-assoc) in
-        ap (λ (s : List Leaf). from (key (p .k)) x (contents s)) flat
-        ∙ from-part (p .k) (leavesOf (a .before) ++ a .low) (a .leaf ∷ []) (a .high ++ leavesOf (a .behind)) (rw flat at (h .ranged)) x (rw (reach-append (p .k) 0 (leavesOf (a .before)) (a .low)) l) u
-        ∙ ap (λ (s : List (List ℕ)). from (key (p .k)) x s ++ contents (a .high ++ leavesOf (a .behind))) (append-nil (a .leaf .records))
+        let flat : leavesIn (treeOf a) ≡ (leavesIn (a .before) ++ a .low) ++ ((a .leaf ∷ []) ++ (a .high ++ leavesIn (a .behind)))
+        = simp (leavesIn-append, append-assoc) in
+        ap (λ (s : List Leaf). from (key (p .k)) x (recordsIn s)) flat
+        ∙ from-part (p .k) (leavesIn (a .before) ++ a .low) (a .leaf ∷ []) (a .high ++ leavesIn (a .behind)) (rw flat at (h .ranged)) x
+        (rw (reach-append (p .k) 0 (leavesIn (a .before)) (a .low)) l) u
+        ∙ ap (λ (s : List (List ℕ)). from (key (p .k)) x s ++ recordsIn (a .high ++ leavesIn (a .behind))) (append-nil (a .leaf .records))
 
     -- ---- what is done at a leaf that covers the key x is done to the contents
 
     module _ (x : ℕ) (above : lo p a ≤ x) (within : x < hi p a) where
-      start : reach (p .k) 0 (leavesOf (a .before) ++ a .low) ≤ x
-      start = rw (reach-append (p .k) 0 (leavesOf (a .before)) (a .low)) above
+      start : reach (p .k) 0 (leavesIn (a .before) ++ a .low) ≤ x
+      start = rw (reach-append (p .k) 0 (leavesIn (a .before)) (a .low)) above
 
-      leaves-at : (ls : List Leaf) → leavesOf (treeWith a ls) ≡ (leavesOf (a .before) ++ a .low) ++ (ls ++ (a .high ++ leavesOf (a .behind)))
-      leaves-at ls = simp (leaves-append, append-assoc)
+      leaves-at : (ls : List Leaf) → leavesIn (treeWith a ls) ≡ (leavesIn (a .before) ++ a .low) ++ (ls ++ (a .high ++ leavesIn (a .behind)))
+      leaves-at ls = simp (leavesIn-append, append-assoc)
 
-      flat : Ranged (p .k) 0 ((leavesOf (a .before) ++ a .low) ++ ((a .leaf ∷ []) ++ (a .high ++ leavesOf (a .behind))))
+      flat : Ranged (p .k) 0 ((leavesIn (a .before) ++ a .low) ++ ((a .leaf ∷ []) ++ (a .high ++ leavesIn (a .behind))))
       flat = rw (leaves-at (a .leaf ∷ [])) at (h .ranged)
 
-      pub hit-here : hit (key (p .k)) x (contents (leavesOf (treeOf a))) ≡ hit (key (p .k)) x (a .leaf .records)
+      pub hit-here : hit (key (p .k)) x (recordsIn (leavesIn (treeOf a))) ≡ hit (key (p .k)) x (a .leaf .records)
       hit-here =
-          rw (leaves-at (a .leaf ∷ [])) (hit-part (p .k) (leavesOf (a .before) ++ a .low) (a .leaf ∷ []) (a .high ++ leavesOf (a .behind)) flat x start within
+          rw (leaves-at (a .leaf ∷ [])) (hit-part (p .k) (leavesIn (a .before) ++ a .low) (a .leaf ∷ []) (a .high ++ leavesIn (a .behind)) flat x start within
           ∙ ap (hit (key (p .k)) x) (append-nil (a .leaf .records)))
 
       module _ (ls : List Leaf) where
-        pub ins-here : (r : List ℕ) → key (p .k) r ≡ x → contents ls ≡ ins (key (p .k)) r (a .leaf .records) → contents (leavesOf (treeWith a ls)) ≡ ins (key (p .k)) r (contents (leavesOf (treeOf a)))
+        pub ins-here : (r : List ℕ) → key (p .k) r ≡ x → recordsIn ls ≡ ins (key (p .k)) r (a .leaf .records)
+            → recordsIn (leavesIn (treeWith a ls)) ≡ ins (key (p .k)) r (recordsIn (leavesIn (treeOf a)))
         ins-here r e c =
             rw (leaves-at ls, leaves-at (a .leaf ∷ []))
-            (ins-part (p .k) (leavesOf (a .before) ++ a .low) (a .leaf ∷ []) (a .high ++ leavesOf (a .behind)) flat ls r (rw e start) (rw e within) (c ∙ ap (ins (key (p .k)) r) (sym (append-nil (a .leaf .records)))))
+            (ins-part (p .k) (leavesIn (a .before) ++ a .low) (a .leaf ∷ []) (a .high ++ leavesIn (a .behind)) flat ls r (rw e start) (rw e within)
+            (c ∙ ap (ins (key (p .k)) r) (sym (append-nil (a .leaf .records)))))
 
-        pub upd-here : (r : List ℕ) → key (p .k) r ≡ x → contents ls ≡ upd (key (p .k)) r (a .leaf .records) → contents (leavesOf (treeWith a ls)) ≡ upd (key (p .k)) r (contents (leavesOf (treeOf a)))
+        pub upd-here : (r : List ℕ) → key (p .k) r ≡ x → recordsIn ls ≡ upd (key (p .k)) r (a .leaf .records)
+            → recordsIn (leavesIn (treeWith a ls)) ≡ upd (key (p .k)) r (recordsIn (leavesIn (treeOf a)))
         upd-here r e c =
             rw (leaves-at ls, leaves-at (a .leaf ∷ []))
-            (upd-part (p .k) (leavesOf (a .before) ++ a .low) (a .leaf ∷ []) (a .high ++ leavesOf (a .behind)) flat ls r (rw e start) (rw e within) (c ∙ ap (upd (key (p .k)) r) (sym (append-nil (a .leaf .records)))))
+            (upd-part (p .k) (leavesIn (a .before) ++ a .low) (a .leaf ∷ []) (a .high ++ leavesIn (a .behind)) flat ls r (rw e start) (rw e within)
+            (c ∙ ap (upd (key (p .k)) r) (sym (append-nil (a .leaf .records)))))
 
-        pub del-here : contents ls ≡ del (key (p .k)) x (a .leaf .records) → contents (leavesOf (treeWith a ls)) ≡ del (key (p .k)) x (contents (leavesOf (treeOf a)))
+        pub del-here : recordsIn ls ≡ del (key (p .k)) x (a .leaf .records)
+            → recordsIn (leavesIn (treeWith a ls)) ≡ del (key (p .k)) x (recordsIn (leavesIn (treeOf a)))
         del-here c =
             rw (leaves-at ls, leaves-at (a .leaf ∷ []))
-            (del-part (p .k) (leavesOf (a .before) ++ a .low) (a .leaf ∷ []) (a .high ++ leavesOf (a .behind)) flat ls x start within (c ∙ ap (del (key (p .k)) x) (sym (append-nil (a .leaf .records)))))
+            (del-part (p .k) (leavesIn (a .before) ++ a .low) (a .leaf ∷ []) (a .high ++ leavesIn (a .behind)) flat ls x start within
+            (c ∙ ap (del (key (p .k)) x) (sym (append-nil (a .leaf .records)))))
 
-      pub asc-new : (r : List ℕ) → key (p .k) r ≡ x → hit (key (p .k)) x (a .leaf .records) ≡ [] → Asc (key (p .k)) (lo p a) (ins (key (p .k)) r (a .leaf .records)) (hi p a)
+      pub asc-new : (r : List ℕ) → key (p .k) r ≡ x → hit (key (p .k)) x (a .leaf .records) ≡ []
+          → Asc (key (p .k)) (lo p a) (ins (key (p .k)) r (a .leaf .records)) (hi p a)
       asc-new r e none = asc-ins (key (p .k)) _ r (a .leaf .records) _ asc-leaf (rw e above) (rw e within) (rw e none)
 
 -- ---- the last bound of a section, and its master entry
@@ -193,17 +210,20 @@ lastBound-any d e [] h = absurd (omega arith)
 lastBound-any d e (l ∷ ls) h = refl
 
 -- other leaves that end in the same bound leave the master's words
-pub master-same : (p : Description) (a : Place) (f : Free) (ls : List Leaf) → ((d : List ℕ) → lastBound d ls ≡ a .leaf .bound) → masterText p (treeWith a ls) f ≡ masterText p (treeOf a) f
-unfolding masterText masterEntry
+pub master-same : (p : Description) (a : Place) (f : Free) (ls : List Leaf) → ((d : List ℕ) → lastBound d ls ≡ a .leaf .bound)
+    → masterFor p (treeWith a ls) f ≡ masterFor p (treeOf a) f
+unfolding masterFor masterEntry
 master-same p a f ls e = simp (map-append, lastBound-append, e)
 
 -- ---- spots
 
-pub spot-in : (p : Description) (master : List ℕ) (text : ℕ → List ℕ) (ss : List Section) (f : Free) (b : ℕ) → Holds p master text ss f → Spot ss b → (1 ≤ b) × (b ≤ p .n)
+pub spot-in : (p : Description) (master : List ℕ) (text : ℕ → List ℕ) (ss : List Section) (f : Free) (b : ℕ) → HoldsCells p master text ss f → Spot ss b
+    → (1 ≤ b) × (b ≤ p .n)
 spot-in p master text ss f b h s = subst (λ (c : ℕ). (1 ≤ c) × (c ≤ p .n)) (s .block) (leaf-in p (s .place) f master text (rw (s .is) at h))
 
-pub spot-cell : (p : Description) (ss : List Section) (b : ℕ) → Spot ss b → 1 ≤ times b (cellsOf (p .wpb) ss)
+pub spot-cell : (p : Description) (ss : List Section) (b : ℕ) → Spot ss b → 1 ≤ cellTimes b (cellsOf (p .wpb) ss)
 spot-cell p ss b s = rw (s .is) (omega (arith, cells-in (p .wpb) (s .place) b, subst (λ (c : ℕ). is c b ≡ 1) (sym (s .block)) (is-self b)))
 
-pub spot-text : (p : Description) (master : List ℕ) (text : ℕ → List ℕ) (ss : List Section) (f : Free) (b : ℕ) → Holds p master text ss f → (s : Spot ss b) → text b ≡ table (p .wpb) (s .place .leaf .records)
+pub spot-text : (p : Description) (master : List ℕ) (text : ℕ → List ℕ) (ss : List Section) (f : Free) (b : ℕ) → HoldsCells p master text ss f
+    → (s : Spot ss b) → text b ≡ table (p .wpb) (s .place .leaf .records)
 spot-text p master text ss f b h s = ap text (sym (s .block)) ∙ leaf-text p (s .place) f _ _ (rw (s .is) at h)

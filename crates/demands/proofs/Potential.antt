@@ -54,7 +54,8 @@ pub record Paid (cap fill : ℕ) (counts : List ℕ) (adds splits starts : ℕ) 
   pub first : 1 ≤ splits → cap / 2 ≤ idle
   pub fills : fill * starts + lastOr 1 counts ≤ suc adds
 
-pub paid-same : (cap fill : ℕ) (counts counts′ : List ℕ) (adds adds′ splits splits′ starts starts′ : ℕ) → counts ≡ counts′ → adds ≡ adds′ → splits ≡ splits′ → starts ≡ starts′
+pub paid-same : (cap fill : ℕ) (counts counts′ : List ℕ) (adds adds′ splits splits′ starts starts′ : ℕ) → counts ≡ counts′ → adds ≡ adds′ → splits ≡ splits′
+    → starts ≡ starts′
     → Paid cap fill counts adds splits starts → Paid cap fill counts′ adds′ splits′ starts′
 paid-same cap fill counts counts′ adds adds′ splits splits′ starts starts′ e a s t h =
     subst (λ (z : List ℕ). Paid cap fill z adds′ splits′ starts′) e (subst (λ (z : ℕ). Paid cap fill counts z splits′ starts′) a
@@ -107,7 +108,9 @@ module _ (cap fill : ℕ) (big : 2 ≤ cap) (adds splits starts : ℕ) (xs : Lis
     halves = rw (excess-append cap xs (lowCount cap ∷ ((cap + 1 - lowCount cap) ∷ ys))) (omega (arith, was));
     filled = filled-with _ (omega arith) (lowCount cap ∷ ((cap + 1 - lowCount cap) ∷ [])) (omega (arith, was-here), (omega (arith, was-here), tt));
     first = λ s. omega (arith, was-here);
-    fills = rw (lastOr-append 1 xs (lowCount cap ∷ ((cap + 1 - lowCount cap) ∷ ys))) (omega (arith, was-last, lastOr-le (cap + 1 - lowCount cap) c ys (omega arith)));
+    fills =
+        rw (lastOr-append 1 xs (lowCount cap ∷ ((cap + 1 - lowCount cap) ∷ ys)))
+        (omega (arith, was-last, lastOr-le (cap + 1 - lowCount cap) c ys (omega arith)));
   }
 
   -- a row comes in, and starts a block behind the last one
@@ -145,5 +148,6 @@ pub paid-first : (cap fill : ℕ) (counts : List ℕ) (adds splits starts : ℕ)
     → 1 ≤ splits → (cap + 1) / 2 * splits + cap / 2 ≤ adds
 paid-first cap fill counts adds splits starts h s = omega (arith, h .halves, h .first s)
 
-pub paid-fills : (cap fill : ℕ) (counts : List ℕ) (adds splits starts : ℕ) → Paid cap fill counts adds splits starts → 1 ≤ lastOr 1 counts → fill * starts ≤ adds
+pub paid-fills : (cap fill : ℕ) (counts : List ℕ) (adds splits starts : ℕ) → Paid cap fill counts adds splits starts → 1 ≤ lastOr 1 counts
+    → fill * starts ≤ adds
 paid-fills cap fill counts adds splits starts h l = omega (arith, h .fills)

@@ -25,13 +25,15 @@ use Rattle.rules.specs.Seek.{seek, seekSteps}
 use Rattle.rules.specs.Adv.{adv}
 use Rattle.rules.specs.Open.{openFile}
 use Rattle.rules.specs.Requests.{opening, closing, seeking, advancing, inserting, deleting, updating, extending, given, lending, answer}
-use Rattle.rules.proofs.Lengths.{only-written-changes}
+use Rattle.demands.proofs.Scene.{Scene, scene}
+use Rattle.demands.proofs.Refused.{impossible}
+use Rattle.demands.proofs.Lengths.{only-written-changes}
 use Rattle.demands.specs.Promises.{AfterOpen, putBack, EachBlockOnce, NoBadFile, Small, WordsSmall, OnlyWritten}
 use Rattle.demands.proofs.Lists.{All, all-right}
 use Rattle.demands.proofs.Order.{below, from, below-from, hit}
-use Rattle.demands.proofs.Trees.{leavesOf, contents, key}
+use Rattle.demands.proofs.Trees.{leavesIn}
 use Rattle.demands.proofs.Cells.{wrote-same}
-use Rattle.demands.proofs.Blocks.{writes, written-text}
+use Rattle.demands.proofs.Blocks.{cellsWritten, written-text}
 use Rattle.demands.proofs.Holds.{Free, RowOk}
 use Rattle.demands.proofs.Sound.{Sound, current-in}
 use Rattle.demands.proofs.Answers.{sizes-pass}
@@ -52,15 +54,14 @@ after-open P h st marks o qs =
 
 pub each-block-once : EachBlockOnce
 unfolding lay.WellFormed
-each-block-once = after-open (λ (st : State). lay.WellFormed (desc st) (putBack st) × lay.WellFormed (desc st) (st .file)) λ st ss f h. ((_, flushed-stands st ss f h), file-alone st ss f h)
+each-block-once =
+    after-open (λ (st : State). lay.WellFormed (desc st) (putBack st) × lay.WellFormed (desc st) (st .file)) λ st ss f h.
+    ((_, flushed-stands st ss f h), file-alone st ss f h)
 
 pub no-bad-file : NoBadFile
 no-bad-file = after-open _ never-070003
 
 -- ---- words
-
-clash : {A : Type 0} → _≡_ {A = Bool} false true → A
-clash e = absurd (let z : _≡_ {A = ℕ} 0 1 = cc in omega arith)
 
 module _ (st : State) (ss : List Section) (f : Free) (h : Sound st ss f) where
   abbrev p : Description
@@ -78,7 +79,7 @@ module _ (st : State) (ss : List Section) (f : Free) (h : Sound st ss f) where
   flushes e = ap (λ (t : Bool). written p (cond t (Write (st .session .current) (st .buffer) ∷ []) []) (st .file)) e
 
   small-buffer : 1 ≤ st .session .current → allWords (st .buffer) ≡ true
-  unfolding writes
+  unfolding cellsWritten
   small-buffer l = go (st .session .flag) refl (flushed-stands st ss f h .words)
     where
       c : ℕ
@@ -91,23 +92,20 @@ module _ (st : State) (ss : List Section) (f : Free) (h : Sound st ss f) where
           let ms : List drum.Transfer = Write c (st .buffer) ∷ [] in
           let is : putBack st ≡ written p ms (st .file) = flushes e in
           let at : blockAt p (putBack st) c ≡ st .buffer
-          = ap (λ (x : List ℕ). blockAt p x c) is ∙ written-text p ms (st .file) (h .kept .file-length) ((l, u, h .kept .buffer-length), tt) c l u ∙ wrote-same (blockAt p (st .file)) c (st .buffer) in
+          = ap (λ (x : List ℕ). blockAt p x c) is ∙ written-text p ms (st .file) (h .kept .file-length) ((l, u, h .kept .buffer-length), tt) c l u
+          ∙ wrote-same (blockAt p (st .file)) c (st .buffer) in
           subst (λ (x : List ℕ). allWords x ≡ true) at (block-small c (putBack st) w)
 
   -- what SEEK and ADV hand out is a record of the file
-  abbrev K : List ℕ → ℕ
-  K = key (desc st .k)
-
-  abbrev rows : List (List ℕ)
-  rows = contents (leavesOf ss)
+  open Scene (scene st ss) using (K, rows)
 
   row-small : (fr : List (List ℕ)) (y : List ℕ) (cs : List (List ℕ)) → rows ≡ fr ++ y ∷ cs → allWords y ≡ true
-  row-small fr y cs e = all-right (RowOk p) fr _ (subst (All (RowOk p)) e (rows-of p (leavesOf ss) (rows-ok p ss (h .kept .holds .sized)))) .0 .1
+  row-small fr y cs e = all-right (RowOk p) fr _ (subst (All (RowOk p)) e (rows-of p (leavesIn ss) (rows-ok p ss (h .kept .holds .sized)))) .0 .1
 
   seek-small : Gate st ss f h (p .k) → seek st .number ≡ done → allWords (seek st .after .work) ≡ true
   unfolding seek hit
   seek-small (stopped n ne ac nf e) d =
-      clash (sym ac ∙ ap accepted (ap (λ (o : Outcome). o .number) (sym (e (seekSteps (texts st) (st .session .flag) (st .work)))) ∙ d))
+      impossible (sym (ap accepted d) ∙ ap accepted (ap (λ (o : Outcome). o .number) (e (seekSteps (texts st) (st .session .flag) (st .work)))) ∙ ac)
   seek-small (ready r) d = go (seek-right st ss f r)
     where
       x : ℕ
@@ -119,7 +117,8 @@ module _ (st : State) (ss : List Section) (f : Free) (h : Sound st ss f) where
           subst (λ (t : List ℕ). allWords t ≡ true) (sym z)
           (row-small (below K x rows) y (from K (suc x) (from K x rows))
           (sym (below-from K x rows)
-          ∙ ap (λ (t : List (List ℕ)). below K x rows ++ t) (sym (below-from K (suc x) (from K x rows)) ∙ ap (λ (t : List (List ℕ)). t ++ from K (suc x) (from K x rows)) e)))
+          ∙ ap (λ (t : List (List ℕ)). below K x rows ++ t)
+          (sym (below-from K (suc x) (from K x rows)) ∙ ap (λ (t : List (List ℕ)). t ++ from K (suc x) (from K x rows)) e)))
 
   neither : (n : ℕ) → (n ≡ done → ⊥) → (n ≡ atEnd → ⊥) → adv st ≡ unchanged st n → (adv st .number ≡ done) ⊎ (adv st .number ≡ atEnd)
       → allWords (adv st .after .work) ≡ true

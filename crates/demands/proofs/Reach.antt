@@ -1,11 +1,11 @@
 -- How a leaf of the tree comes to the buffer: it is there, or it is brought after a flagged buffer was written.
-use Prim.Native.Nat.{ℕ, suc, _+_, _≤_}
+use Prim.Native.Nat.{ℕ, _+_, _≤_}
 use mathlib.Core.Bool.{Bool, true, false, not, _||_}
 use mathlib.Core.Logic.{_⊎_, inl, inr}
 use mathlib.Core.Path.{_≡_, refl, sym, ap, _∙_, subst}
 use mathlib.Core.List.{List, [], _∷_, _++_, append-nil}
 use native.Mathlib.Omega.{arith}
-use lib.ListN.{length, length-append}
+use lib.ListN.{length}
 use borrow.Author.Tests.{le-leb, ne-eqb, eq-eqb}
 use Rattle.numbers.specs.Checked.{passed, between}
 use Rattle.drum.specs.declared.Description.{Description}
@@ -18,13 +18,13 @@ use Rattle.demands.proofs.Lists.{All}
 use Rattle.demands.proofs.Cells.{wrotes}
 use Rattle.layout.specs.Tree.{Section}
 use Rattle.demands.proofs.Trees.{table}
-use Rattle.demands.proofs.Holds.{Free, Holds, LeafOk, SectionOk, masterText}
+use Rattle.demands.proofs.Holds.{Free, HoldsCells, LeafFits, SectionOk, masterFor}
 use Rattle.demands.proofs.Places.{Place, treeOf, Spot, spot-in, leaf-text, leaf-ok}
 use Rattle.demands.proofs.Texts.{count-table}
-use Rattle.demands.proofs.Blocks.{masterOf, behind, writes, written-master, written-text}
+use Rattle.demands.proofs.Blocks.{masterOf, behind, cellsWritten, written-master, written-text}
 use Rattle.demands.proofs.Entries.{file-is, master-long}
 use Rattle.demands.proofs.Paths.{pathOf}
-use Rattle.demands.proofs.Sound.{Kept, leftBy, isHere, current-in, buffer-leaf, brought-fits, brought-covers, acted, no-true-false}
+use Rattle.demands.proofs.Sound.{KeptTree, textsLeft, isHere, current-in, buffer-leaf, brought-fits, brought-covers, acted, no-true-false}
 
 pub some-leaves : (p : Description) (ss : List Section) → All (SectionOk p) ss → All (λ s. 1 ≤ length (s .leaves)) ss
 some-leaves p [] h = tt
@@ -38,25 +38,10 @@ pub record At (v : Texts) (flag : Bool) (ss : List Section) (f : Free) (a : Plac
   pub current-is : reached v flag way .current ≡ a .leaf .block
   pub buffer-is : reached v flag way .buffer ≡ table (v .desc .wpb) (a .leaf .records)
   pub text-is : textAt v way ≡ table (v .desc .wpb) (a .leaf .records)
-  pub kept : Kept (leftBy v (reached v flag way)) (reached v flag way .flag) (treeOf a) f
-  pub held : Holds (v .desc) (masterOf (v .desc) (v .file)) (textOf v) (treeOf a) f
+  pub kept : KeptTree (textsLeft v (reached v flag way)) (reached v flag way .flag) (treeOf a) f
+  pub held : HoldsCells (v .desc) (masterOf (v .desc) (v .file)) (textOf v) (treeOf a) f
 
--- how many transfers that takes at most
-pub flush-cost : (v : Texts) (flag : Bool) → length (flushMoves v flag) ≤ 1
-unfolding flushMoves
-flush-cost v true = omega arith
-flush-cost v false = omega arith
-
-pub bring-cost : (v : Texts) (flag : Bool) (d : ℕ) (reads : List Transfer) → length (bringing v flag d reads .moves) ≤ suc (length reads)
-unfolding bringing
-bring-cost v flag d reads = rw (length-append (flushMoves v flag) reads) (omega (arith, flush-cost v flag))
-
-pub way-cost : (v : Texts) (flag : Bool) (way : Way) → length (reached v flag way .moves) ≤ 3
-unfolding reached
-way-cost v flag Here = omega arith
-way-cost v flag (By w) = bring-cost v flag (w .detail) (Read (w .index) ∷ Read (w .detail) ∷ [])
-
-module _ (v : Texts) (flag : Bool) (ss : List Section) (f : Free) (h : Kept v flag ss f) where
+module _ (v : Texts) (flag : Bool) (ss : List Section) (f : Free) (h : KeptTree v flag ss f) where
   abbrev p : Description
   p = v .desc
 
@@ -70,7 +55,8 @@ module _ (v : Texts) (flag : Bool) (ss : List Section) (f : Free) (h : Kept v fl
   unfolding onBuffer
   buffer-some s test =
       let i : (1 ≤ v .current) × (v .current ≤ p .n) = spot-in p _ (textOf v) ss f (v .current) (h .holds) s in
-      let ok : LeafOk p (s .place .leaf) = leaf-ok p (s .place) f _ (textOf v) (subst (λ (z : List Section). Holds p (masterOf p (v .file)) (textOf v) z f) (s .is) (h .holds)) in
+      let ok : LeafFits p (s .place .leaf)
+      = leaf-ok p (s .place) f _ (textOf v) (subst (λ (z : List Section). HoldsCells p (masterOf p (v .file)) (textOf v) z f) (s .is) (h .holds)) in
       simp (
         ne-eqb (v .current) 0 (λ e. omega (arith, i .0)),
         buffer-leaf v flag ss f h s,
@@ -90,29 +76,33 @@ module _ (v : Texts) (flag : Bool) (ss : List Section) (f : Free) (h : Kept v fl
 
   -- ---- the buffer is written if flagged, some blocks are read, and one is brought
 
-  module _ (reads : List Transfer) (quiet : writes reads ≡ []) where
+  module _ (reads : List Transfer) (quiet : cellsWritten reads ≡ []) where
     abbrev moves : List Transfer
     moves = flushMoves v flag ++ reads
 
-    fits : All (λ c. (1 ≤ c .0) × (c .0 ≤ p .n) × (length (c .1) ≡ p .wpb)) (writes moves)
-    fits = subst (λ (m : List Transfer). All (λ c. (1 ≤ c .0) × (c .0 ≤ p .n) × (length (c .1) ≡ p .wpb)) (writes m)) (append-nil moves)
-        (brought-fits v flag ss f h reads [] quiet (unfold writes in tt))
+    fits : All (λ c. (1 ≤ c .0) × (c .0 ≤ p .n) × (length (c .1) ≡ p .wpb)) (cellsWritten moves)
+    fits = subst (λ (m : List Transfer). All (λ c. (1 ≤ c .0) × (c .0 ≤ p .n) × (length (c .1) ≡ p .wpb)) (cellsWritten m)) (append-nil moves)
+        (brought-fits v flag ss f h reads [] quiet (unfold cellsWritten in tt))
 
-    covers : (c : ℕ) → 1 ≤ c → wrotes (blockAt p (v .file)) (writes moves) c ≡ textOf v c
-    covers c l = ap (λ (m : List Transfer). wrotes (blockAt p (v .file)) (writes m) c) (sym (append-nil moves)) ∙ unfold writes in brought-covers v flag ss f h reads [] quiet c l
+    covers : (c : ℕ) → 1 ≤ c → wrotes (blockAt p (v .file)) (cellsWritten moves) c ≡ textOf v c
+    covers c l =
+        ap (λ (m : List Transfer). wrotes (blockAt p (v .file)) (cellsWritten m) c) (sym (append-nil moves))
+        ∙ unfold cellsWritten in brought-covers v flag ss f h reads [] quiet c l
 
-    brought-file : written p moves (v .file) ≡ masterText p ss f ++ behind p (written p moves (v .file))
+    brought-file : written p moves (v .file) ≡ masterFor p ss f ++ behind p (written p moves (v .file))
     brought-file = file-is p (written p moves (v .file)) ss f (written-master p moves (v .file) (h .file-length) fits ∙ h .holds .master-is) (h .holds .sized)
 
     -- the buffer then is b, of block d or of none
     pub bring : (d : ℕ) (b : List ℕ) → ((d ≡ 0) × (length b ≡ p .wpb)) ⊎ (Spot ss d × (b ≡ textOf v d))
-        → Kept (record { desc = p; current = d; file = written p moves (v .file); buffer = b }) false ss f
+        → KeptTree (record { desc = p; current = d; file = written p moves (v .file); buffer = b }) false ss f
     bring d b s =
-        let lm : length (masterText p ss f) ≡ _ = master-long p (h .good) ss f (h .holds .sized) (h .holds .sections) in
-        acted v flag ss f h moves [] (v .file) (masterText p ss f) (file-is p (v .file) ss f (h .holds .master-is) (h .holds .sized)) lm fits covers
-        ss f (written p moves (v .file)) brought-file lm (subst (λ (m : List ℕ). Holds p m (textOf v) ss f) (h .holds .master-is) (h .holds)) (h .ended) d b (go s)
+        let lm : length (masterFor p ss f) ≡ _ = master-long p (h .good) ss f (h .holds .sized) (h .holds .sections) in
+        acted v flag ss f h moves [] (v .file) (masterFor p ss f) (file-is p (v .file) ss f (h .holds .master-is) (h .holds .sized)) lm fits covers
+        ss f (written p moves (v .file)) brought-file lm (subst (λ (m : List ℕ). HoldsCells p m (textOf v) ss f) (h .holds .master-is) (h .holds))
+        (h .ended) d b (go s)
       where
-        go : ((d ≡ 0) × (length b ≡ p .wpb)) ⊎ (Spot ss d × (b ≡ textOf v d)) → ((d ≡ 0) × (length b ≡ p .wpb)) ⊎ (Spot ss d × (b ≡ blockAt p (written p moves (v .file)) d))
+        go : ((d ≡ 0) × (length b ≡ p .wpb)) ⊎ (Spot ss d × (b ≡ textOf v d))
+            → ((d ≡ 0) × (length b ≡ p .wpb)) ⊎ (Spot ss d × (b ≡ blockAt p (written p moves (v .file)) d))
         go (inl e) = inl e
         go (inr e) =
             let i : (1 ≤ d) × (d ≤ p .n) = spot-in p _ (textOf v) ss f d (h .holds) (e .0) in
@@ -130,14 +120,15 @@ module _ (v : Texts) (flag : Bool) (ss : List Section) (f : Free) (h : Kept v fl
         current-is = sym (s .block);
         buffer-is = t;
         text-is = t;
-        kept = subst (λ (z : List Section). Kept v flag z f) (s .is) h;
-        held = subst (λ (z : List Section). Holds p (masterOf p (v .file)) (textOf v) z f) (s .is) (h .holds);
+        kept = subst (λ (z : List Section). KeptTree v flag z f) (s .is) h;
+        held = subst (λ (z : List Section). HoldsCells p (masterOf p (v .file)) (textOf v) z f) (s .is) (h .holds);
       }
 
   pub at-by : (a : Place) → ss ≡ treeOf a → At v flag ss f a (By (pathOf a))
-  unfolding reached bringing writes
+  unfolding reached bringing cellsWritten
   at-by a e =
-      let hz : Holds p (masterOf p (v .file)) (textOf v) (treeOf a) f = subst (λ (z : List Section). Holds p (masterOf p (v .file)) (textOf v) z f) e (h .holds) in
+      let hz : HoldsCells p (masterOf p (v .file)) (textOf v) (treeOf a) f
+      = subst (λ (z : List Section). HoldsCells p (masterOf p (v .file)) (textOf v) z f) e (h .holds) in
       let t : textOf v (a .leaf .block) ≡ table (p .wpb) (a .leaf .records) = leaf-text p a f _ (textOf v) hz in
       record {
         is = e;
@@ -146,7 +137,8 @@ module _ (v : Texts) (flag : Bool) (ss : List Section) (f : Free) (h : Kept v fl
         current-is = refl;
         buffer-is = t;
         text-is = t;
-        kept = subst (λ (z : List Section). Kept (leftBy v (reached v flag (By (pathOf a)))) false z f) e
-            (bring (Read (a .index) ∷ Read (a .leaf .block) ∷ []) refl (a .leaf .block) (textOf v (a .leaf .block)) (inr (record { place = a; is = e; block = refl }, refl)));
+        kept = subst (λ (z : List Section). KeptTree (textsLeft v (reached v flag (By (pathOf a)))) false z f) e
+            (bring (Read (a .index) ∷ Read (a .leaf .block) ∷ []) refl (a .leaf .block) (textOf v (a .leaf .block))
+            (inr (record { place = a; is = e; block = refl }, refl)));
         held = hz;
       }

@@ -12,11 +12,11 @@ use Rattle.words.specs.Words.{zeros}
 use Rattle.table.specs.Tables.{laid}
 use Rattle.drum.specs.declared.Description.{Description}
 use Rattle.drum.specs.Params.{masterSize}
-use Rattle.layout.specs.Tree.{Leaf, Section, Tree, boundOf, leavesIn, recordsIn, leafBlocks, blocksIn, headOf, times}
+use Rattle.layout.specs.Tree.{Leaf, Section, Tree, boundOf, leafBlocks, blocksIn, headOf, times}
 use Rattle.layout.specs.Holds.{indexEntries, masterEntries, masterText}
 use Rattle.demands.proofs.Rows.{cat, tab}
 use Rattle.demands.proofs.Cells as cells
-use Rattle.demands.proofs.Trees.{leavesOf, contents, table, entry, leafCell, indexText, cellsOf}
+use Rattle.demands.proofs.Trees.{table, entry, leafCell, indexText, cellsOf}
 use Rattle.demands.proofs.Holds as held
 
 -- the free blocks of a tree
@@ -47,17 +47,8 @@ pub masters-flat : (p : Description) (ss : List Section) → masterEntries ss �
 unfolding masterEntries cat held.masterEntry
 masters-flat p [] = refl
 masters-flat p (s ∷ ss) =
-    ap₂ (λ (b z : List ℕ). b ++ (s .block ∷ z)) (bound-last (s .leaves)) (masters-flat p ss) ∙ sym (append-assoc (held.lastBound [] (s .leaves)) (s .block ∷ []) (cat (map (held.masterEntry p) ss)))
-
-pub leaves-in : (ss : List Section) → leavesIn ss ≡ leavesOf ss
-unfolding leavesIn
-leaves-in [] = refl
-leaves-in (s ∷ ss) = ap (λ (z : List Leaf). s .leaves ++ z) (leaves-in ss)
-
-pub records-in : (ls : List Leaf) → recordsIn ls ≡ contents ls
-unfolding recordsIn
-records-in [] = refl
-records-in (l ∷ ls) = ap (λ (z : List (List ℕ)). l .records ++ z) (records-in ls)
+    ap₂ (λ (b z : List ℕ). b ++ (s .block ∷ z)) (bound-last (s .leaves)) (masters-flat p ss)
+    ∙ sym (append-assoc (held.lastBound [] (s .leaves)) (s .block ∷ []) (cat (map (held.masterEntry p) ss)))
 
 pub head-same : (cs : List ℕ) → headOf cs ≡ held.headOr cs 0
 unfolding headOf
@@ -74,14 +65,16 @@ pub detail-same : (p : Description) (rows : List (List ℕ)) → laid (p .wpb) (
 unfolding table
 detail-same p rows = rw (cat-flat rows)
 
-pub master-same : (p : Description) (t : Tree) → length (cat (map (held.masterEntry p) (t .sections))) ≡ length (map (held.masterEntry p) (t .sections)) * (p .k + 1)
-    → masterText p t ≡ held.masterText p (t .sections) (freeOf p t)
-unfolding masterText held.masterText held.masterWords tab
+pub master-same : (p : Description) (t : Tree)
+    → length (cat (map (held.masterEntry p) (t .sections))) ≡ length (map (held.masterEntry p) (t .sections)) * (p .k + 1)
+    → masterText p t ≡ held.masterFor p (t .sections) (freeOf p t)
+unfolding masterText held.masterFor held.masterWords tab
 master-same p t e =
     let rows : List (List ℕ) = map (held.masterEntry p) (t .sections) in
     let n : masterSize p - 3 - length (cat rows) ≡ masterSize p - (3 + length rows * (p .k + 1)) = rw e (omega arith) in
     rw (masters-flat p (t .sections), head-same (t .chain), n, append-nil (zeros (masterSize p - (3 + length rows * (p .k + 1)))))
-    (ap (λ (m : ℕ). m ∷ (held.headOr (t .chain) 0 ∷ (t .lowest ∷ (cat rows ++ zeros (masterSize p - (3 + length rows * (p .k + 1))))))) (sym (length-map (t .sections) (held.masterEntry p))))
+    (ap (λ (m : ℕ). m ∷ (held.headOr (t .chain) 0 ∷ (t .lowest ∷ (cat rows ++ zeros (masterSize p - (3 + length rows * (p .k + 1)))))))
+    (sym (length-map (t .sections) (held.masterEntry p))))
 
 -- ---- how often a block stands there
 
@@ -98,30 +91,32 @@ unfolding times
 times-append b [] ys = omega arith
 times-append b (x ∷ xs) ys = rw (times-append b xs ys) (omega arith)
 
-leaf-times : (b wpb : ℕ) (ls : List Leaf) → times b (leafBlocks ls) ≡ cells.times b (map (leafCell wpb) ls)
-unfolding times leafBlocks cells.times cells.weigh leafCell
+leaf-times : (b wpb : ℕ) (ls : List Leaf) → times b (leafBlocks ls) ≡ cells.cellTimes b (map (leafCell wpb) ls)
+unfolding times leafBlocks cells.cellTimes cells.weigh leafCell
 leaf-times b wpb [] = refl
 leaf-times b wpb (l ∷ ls) = ap₂ (λ (x y : ℕ). x + y) (one-same b (l .block)) (leaf-times b wpb ls)
 
-pub tree-times : (b wpb : ℕ) (ss : List Section) → times b (blocksIn ss) ≡ cells.times b (cellsOf wpb ss)
+pub tree-times : (b wpb : ℕ) (ss : List Section) → times b (blocksIn ss) ≡ cells.cellTimes b (cellsOf wpb ss)
 unfolding times blocksIn cellsOf
-tree-times b wpb [] = unfold cells.times cells.weigh in refl
+tree-times b wpb [] = unfold cells.cellTimes cells.weigh in refl
 tree-times b wpb (s ∷ ss) =
     rw (times-append b (leafBlocks (s .leaves)) (blocksIn ss), one-same b (s .block), leaf-times b wpb (s .leaves), tree-times b wpb ss)
     (sym (cell-times b (s .block, indexText wpb (s .leaves)) (map (leafCell wpb) (s .leaves)) (cellsOf wpb ss)))
   where
-    cell-times : (b : ℕ) (c : cells.Cell) (xs ys : List cells.Cell) → cells.times b ((c ∷ xs) ++ ys) ≡ cells.is (c .0) b + (cells.times b xs + cells.times b ys)
-    cell-times b c xs ys = unfold cells.times in
-        (cells.weigh-append (λ x. cells.is (x .0) b) (c ∷ xs) ys ∙ ap (λ (n : ℕ). n + cells.weigh (λ x. cells.is (x .0) b) ys) (cells.weigh-cons (λ x. cells.is (x .0) b) c xs) ∙ omega arith)
+    cell-times : (b : ℕ) (c : cells.Cell) (xs ys : List cells.Cell)
+        → cells.cellTimes b ((c ∷ xs) ++ ys) ≡ cells.is (c .0) b + (cells.cellTimes b xs + cells.cellTimes b ys)
+    cell-times b c xs ys = unfold cells.cellTimes in
+        (cells.weigh-append (λ x. cells.is (x .0) b) (c ∷ xs) ys ∙ ap (λ (n : ℕ). n + cells.weigh (λ x. cells.is (x .0) b) ys)
+        (cells.weigh-cons (λ x. cells.is (x .0) b) c xs) ∙ omega arith)
 
-pub chain-times : (b : ℕ) (p : Description) (cs : List ℕ) → times b cs ≡ cells.times b (held.chainCells p cs)
-unfolding times cells.times cells.weigh
+pub chain-times : (b : ℕ) (p : Description) (cs : List ℕ) → times b cs ≡ cells.cellTimes b (held.chainCells p cs)
+unfolding times cells.cellTimes cells.weigh
 chain-times b p [] = refl
 chain-times b p (c ∷ cs) = ap₂ (λ (x y : ℕ). x + y) (one-same b c) (chain-times b p cs)
 
 -- the blocks never used: from u on, s of them
-pub fresh-times : (b : ℕ) (p : Description) (u s : ℕ) → cells.times b (held.freshCells p u s) ≡ cond (leb u b && leb (suc b) (u + s)) 1 0
-unfolding cells.times cells.weigh
+pub fresh-times : (b : ℕ) (p : Description) (u s : ℕ) → cells.cellTimes b (held.freshCells p u s) ≡ cond (leb u b && leb (suc b) (u + s)) 1 0
+unfolding cells.cellTimes cells.weigh
 fresh-times b p u zero = go (decLe u b)
   where
     go : Dec (u ≤ b) → _≡_ {A = ℕ} 0 (cond (leb u b && leb (suc b) (u + 0)) 1 0)
@@ -129,8 +124,12 @@ fresh-times b p u zero = go (decLe u b)
     go (no n) = rw (lt-leb u b (omega arith))
 fresh-times b p u (suc s) = rw (fresh-times b p (u + 1) s) (go (ℕ-discrete u b) (decLe (u + 1) b) (decLe (suc b) (u + suc s)))
   where
-    go : Dec (u ≡ b) → Dec (u + 1 ≤ b) → Dec (suc b ≤ u + suc s) → cells.is u b + cond (leb (u + 1) b && leb (suc b) (u + 1 + s)) 1 0 ≡ cond (leb u b && leb (suc b) (u + suc s)) 1 0
+    go : Dec (u ≡ b) → Dec (u + 1 ≤ b) → Dec (suc b ≤ u + suc s)
+        → cells.is u b + cond (leb (u + 1) b && leb (suc b) (u + 1 + s)) 1 0 ≡ cond (leb u b && leb (suc b) (u + suc s)) 1 0
     go (yes e) d d₂ = rw (cells.is-same u b e, lt-leb (u + 1) b (omega arith), le-leb u b (omega arith), le-leb (suc b) (u + suc s) (omega arith))
-    go (no n) (yes l) (yes m) = rw (cells.is-not u b n, le-leb (u + 1) b l, le-leb u b (omega arith), le-leb (suc b) (u + 1 + s) (omega arith), le-leb (suc b) (u + suc s) m)
-    go (no n) (yes l) (no m) = rw (cells.is-not u b n, le-leb (u + 1) b l, le-leb u b (omega arith), lt-leb (suc b) (u + 1 + s) (omega arith), lt-leb (suc b) (u + suc s) (omega arith))
+    go (no n) (yes l) (yes m) =
+        rw (cells.is-not u b n, le-leb (u + 1) b l, le-leb u b (omega arith), le-leb (suc b) (u + 1 + s) (omega arith), le-leb (suc b) (u + suc s) m)
+    go (no n) (yes l) (no m) =
+        rw
+        (cells.is-not u b n, le-leb (u + 1) b l, le-leb u b (omega arith), lt-leb (suc b) (u + 1 + s) (omega arith), lt-leb (suc b) (u + suc s) (omega arith))
     go (no n) (no l) d₂ = rw (cells.is-not u b n, lt-leb (u + 1) b (omega arith), lt-leb u b (omega arith))

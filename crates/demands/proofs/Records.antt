@@ -18,7 +18,8 @@ use Rattle.drum.specs.Params.{detailShape}
 use Rattle.layout.specs.Create.{endRecord}
 use Rattle.demands.proofs.Lists.{All, all-left, all-right, all-append}
 use Rattle.demands.proofs.Rows.{firstIn, None, Found, nowhere, at, found}
-use Rattle.demands.proofs.Order.{Asc, after, asc-wide, asc-left, asc-right, asc-append, below, from, below-from, below-at, from-at, below-above, ins, upd, del, hit, ins-local, upd-local, del-local}
+use Rattle.demands.proofs.Order.{Asc, after, asc-wide, asc-left, asc-right, asc-append, below, from, below-from, below-at, from-at, below-above, ins}
+use Rattle.demands.proofs.Order.{upd, del, hit, ins-local, upd-local, del-local}
 use Rattle.demands.proofs.Trees.{key, table}
 use Rattle.demands.proofs.Holds.{RowOk}
 use Rattle.demands.proofs.Texts.{table-row, table-key, table-insert, table-remove, table-replace}
@@ -110,8 +111,12 @@ pub data AtKey (k : ℕ) (x : ℕ) (rows : List (List ℕ)) (i : ℕ) : Type 0 w
   missing : i ≡ length rows → hit (key k) x rows ≡ [] → AtKey k x rows i
   present : (bs : List (List ℕ)) (r : List ℕ) (cs : List (List ℕ)) → rows ≡ bs ++ r ∷ cs → i ≡ length bs → key k r ≡ x → AtKey k x rows i
 
+-- words that can be a key: K of them, none above 262143
+abbrev pub WideKey : Description → List ℕ → Type 0
+WideKey p w = (length w ≡ p .k) × (allWords w ≡ true)
+
 module _ (p : Description) (kr : p .k ≤ p .wpr) where
-  pub key-long : (r : List ℕ) → RowOk p r → (length (take (p .k) r) ≡ p .k) × (allWords (take (p .k) r) ≡ true)
+  pub key-long : (r : List ℕ) → RowOk p r → WideKey p (take (p .k) r)
   key-long r h = (length-take-le (p .k) r (rw (h .0) kr), allWords-take (p .k) r (h .1))
 
   key-rows : (w : List ℕ) (q : allWords w ≡ true) → length w ≡ p .k → (rows : List (List ℕ)) → All (RowOk p) rows → All (KeyRow w q (p .k)) rows
@@ -125,7 +130,8 @@ module _ (p : Description) (kr : p .k ≤ p .wpr) where
         rw (table-with-is (detailShape p) kr rows (rows-long p rows ok) w q (key-rows w q e rows ok) refl (p .wpb))
         (go (found (λ r. eqb (key (p .k) r) (val w)) rows))
       where
-        go : Found (λ r. eqb (key (p .k) r) (val w)) rows (firstIn (λ r. eqb (key (p .k) r) (val w)) rows) → AtKey (p .k) (val w) rows (firstIn (λ r. eqb (key (p .k) r) (val w)) rows)
+        go : Found (λ r. eqb (key (p .k) r) (val w)) rows (firstIn (λ r. eqb (key (p .k) r) (val w)) rows)
+            → AtKey (p .k) (val w) rows (firstIn (λ r. eqb (key (p .k) r) (val w)) rows)
         go (nowhere n h) = missing n (none-hit (key (p .k)) (val w) rows h)
         go (at bs r cs l n h t) = present bs r cs l n (eqb-true (key (p .k) r) (val w) t)
 
@@ -139,31 +145,42 @@ module _ (p : Description) (kr : p .k ≤ p .wpr) where
     pub new-at : hit (key (p .k)) (val w) rows ≡ [] → rowAbove (detailShape p) w (table (p .wpb) rows) ≡ length (below (key (p .k)) (val w) rows)
     new-at none = above-at ∙ place-new (key (p .k)) (val w) rows none
 
-  pub row-here : (bs : List (List ℕ)) (r : List ℕ) (cs : List (List ℕ)) → All (RowOk p) (bs ++ r ∷ cs) → row (detailShape p) (table (p .wpb) (bs ++ r ∷ cs)) (length bs) ≡ r
+  pub row-here : (bs : List (List ℕ)) (r : List ℕ) (cs : List (List ℕ)) → All (RowOk p) (bs ++ r ∷ cs)
+      → row (detailShape p) (table (p .wpb) (bs ++ r ∷ cs)) (length bs) ≡ r
   unfolding detailShape
   row-here bs r cs ok =
-      table-row (p .wpb) (detailShape p) refl bs cs (rows-long p bs (all-left (RowOk p) bs _ ok)) (rows-long p cs (all-right (RowOk p) bs _ ok .1)) r (all-right (RowOk p) bs _ ok .0 .0)
+      table-row (p .wpb) (detailShape p) refl bs cs (rows-long p bs (all-left (RowOk p) bs _ ok)) (rows-long p cs (all-right (RowOk p) bs _ ok .1)) r
+      (all-right (RowOk p) bs _ ok .0 .0)
 
-  pub key-here : (bs : List (List ℕ)) (r : List ℕ) (cs : List (List ℕ)) → All (RowOk p) (bs ++ r ∷ cs) → keyAt (detailShape p) (table (p .wpb) (bs ++ r ∷ cs)) (length bs) ≡ take (p .k) r
+  pub key-here : (bs : List (List ℕ)) (r : List ℕ) (cs : List (List ℕ)) → All (RowOk p) (bs ++ r ∷ cs)
+      → keyAt (detailShape p) (table (p .wpb) (bs ++ r ∷ cs)) (length bs) ≡ take (p .k) r
   unfolding detailShape
   key-here bs r cs ok =
-      table-key (p .wpb) (detailShape p) refl bs cs (rows-long p bs (all-left (RowOk p) bs _ ok)) (rows-long p cs (all-right (RowOk p) bs _ ok .1)) r (all-right (RowOk p) bs _ ok .0 .0) kr
+      table-key (p .wpb) (detailShape p) refl bs cs (rows-long p bs (all-left (RowOk p) bs _ ok)) (rows-long p cs (all-right (RowOk p) bs _ ok .1)) r
+      (all-right (RowOk p) bs _ ok .0 .0) kr
 
   -- what is done to the words of the block
   module _ (bs : List (List ℕ)) (x : List ℕ) (cs : List (List ℕ)) where
-    pub record-replace : All (RowOk p) (bs ++ x ∷ cs) → (r : List ℕ) → length r ≡ p .wpr → replaced (detailShape p) (length bs) r (table (p .wpb) (bs ++ x ∷ cs)) ≡ table (p .wpb) (bs ++ r ∷ cs)
+    pub record-replace : All (RowOk p) (bs ++ x ∷ cs) → (r : List ℕ) → length r ≡ p .wpr
+        → replaced (detailShape p) (length bs) r (table (p .wpb) (bs ++ x ∷ cs)) ≡ table (p .wpb) (bs ++ r ∷ cs)
     unfolding detailShape
     record-replace ok r lr =
-        table-replace (p .wpb) (detailShape p) refl bs cs (rows-long p bs (all-left (RowOk p) bs _ ok)) (rows-long p cs (all-right (RowOk p) bs _ ok .1)) x r (all-right (RowOk p) bs _ ok .0 .0) lr
+        table-replace (p .wpb) (detailShape p) refl bs cs (rows-long p bs (all-left (RowOk p) bs _ ok)) (rows-long p cs (all-right (RowOk p) bs _ ok .1)) x r
+        (all-right (RowOk p) bs _ ok .0 .0) lr
 
-    pub record-remove : All (RowOk p) (bs ++ x ∷ cs) → 1 + length (bs ++ x ∷ cs) * p .wpr ≤ p .wpb → removed (detailShape p) (length bs) (table (p .wpb) (bs ++ x ∷ cs)) ≡ table (p .wpb) (bs ++ cs)
+    pub record-remove : All (RowOk p) (bs ++ x ∷ cs) → 1 + length (bs ++ x ∷ cs) * p .wpr ≤ p .wpb
+        → removed (detailShape p) (length bs) (table (p .wpb) (bs ++ x ∷ cs)) ≡ table (p .wpb) (bs ++ cs)
     unfolding detailShape
     record-remove ok fits =
-        table-remove (p .wpb) (detailShape p) refl bs cs (rows-long p bs (all-left (RowOk p) bs _ ok)) (rows-long p cs (all-right (RowOk p) bs _ ok .1)) x (all-right (RowOk p) bs _ ok .0 .0) fits
+        table-remove (p .wpb) (detailShape p) refl bs cs (rows-long p bs (all-left (RowOk p) bs _ ok)) (rows-long p cs (all-right (RowOk p) bs _ ok .1)) x
+        (all-right (RowOk p) bs _ ok .0 .0) fits
 
-    pub record-insert : All (RowOk p) (bs ++ cs) → length x ≡ p .wpr → 1 + length (bs ++ x ∷ cs) * p .wpr ≤ p .wpb → inserted (detailShape p) (length bs) x (table (p .wpb) (bs ++ cs)) ≡ table (p .wpb) (bs ++ x ∷ cs)
+    pub record-insert : All (RowOk p) (bs ++ cs) → length x ≡ p .wpr → 1 + length (bs ++ x ∷ cs) * p .wpr ≤ p .wpb
+        → inserted (detailShape p) (length bs) x (table (p .wpb) (bs ++ cs)) ≡ table (p .wpb) (bs ++ x ∷ cs)
     unfolding detailShape
-    record-insert ok lx fits = table-insert (p .wpb) (detailShape p) refl bs cs (rows-long p bs (all-left (RowOk p) bs _ ok)) (rows-long p cs (all-right (RowOk p) bs _ ok)) x lx fits
+    record-insert ok lx fits =
+        table-insert (p .wpb) (detailShape p) refl bs cs (rows-long p bs (all-left (RowOk p) bs _ ok))
+        (rows-long p cs (all-right (RowOk p) bs _ ok)) x lx fits
 
   -- a record put in where its key goes
   pub record-ins : (rs : List (List ℕ)) (r : List ℕ) → All (RowOk p) rs → length r ≡ p .wpr → 1 + suc (length rs) * p .wpr ≤ p .wpb
@@ -176,7 +193,8 @@ module _ (p : Description) (kr : p .k ≤ p .wpr) where
       let n : length (ins (key (p .k)) r rs) ≡ suc (length rs) = length-ins (key (p .k)) r rs in
       ap (λ (z : List (List ℕ)). inserted (detailShape p) (length bs) r (table (p .wpb) z)) (sym e) ∙ put-in bs cs (subst (All (RowOk p)) (sym e) ok) n
     where
-      put-in : (bs cs : List (List ℕ)) → All (RowOk p) (bs ++ cs) → length (bs ++ r ∷ cs) ≡ suc (length rs) → inserted (detailShape p) (length bs) r (table (p .wpb) (bs ++ cs)) ≡ table (p .wpb) (bs ++ r ∷ cs)
+      put-in : (bs cs : List (List ℕ)) → All (RowOk p) (bs ++ cs) → length (bs ++ r ∷ cs) ≡ suc (length rs)
+          → inserted (detailShape p) (length bs) r (table (p .wpb) (bs ++ cs)) ≡ table (p .wpb) (bs ++ r ∷ cs)
       put-in bs cs ok n = record-insert bs r cs ok lr (rw n fits)
 
   -- ---- the end record stays the last

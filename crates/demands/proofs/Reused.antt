@@ -11,7 +11,7 @@ use Rattle.rules.specs.State.{State}
 use Rattle.rules.specs.Open.{create}
 use Rattle.rules.specs.Run.{begun, createdOutcome}
 use Rattle.rules.specs.Requests.{Request, opening, closing, seeking, inserting, deleting, updating, extending, answer, left}
-use Rattle.rules.specs.Computing.{computing}
+use Rattle.rules.proofs.Computing.{computing}
 use Rattle.demands.specs.Formula.{detailsUnder, detailBlocks, indexBlocks, acceptedBy}
 use Rattle.demands.specs.Filled.{disturbs, OnlyXtends}
 use Rattle.demands.specs.Reuse.{larger, peak}

@@ -16,7 +16,7 @@ use Rattle.words.specs.Words.{part}
 use Rattle.words.specs.Keys.{ones, isOnes, val}
 use Rattle.words.proofs.All.{isOnes-true}
 use Rattle.layout.specs.Create.{endRecord}
-use Rattle.layout.specs.Tree.{Leaf, Section, Tree, lastOf}
+use Rattle.layout.specs.Tree.{Leaf, Section, Tree, lastIn}
 use Rattle.layout.specs.Tree as lay
 use Rattle.layout.specs.Holds as laid
 use Rattle.layout.proofs.Lists.{last-right}
@@ -28,10 +28,11 @@ use Rattle.demands.specs.Promises.{putBack}
 use Rattle.demands.specs.Answers.{ordinary, recordsFrom}
 use Rattle.demands.specs.Filled.{ButLast, Full, Most, FullIndex, MostIndex, Tight, Any, Filled}
 use Rattle.demands.specs.Room.{hasRoom, StoredIf, RoomIn, RoomEnough}
+use Rattle.demands.proofs.Scene.{Scene, scene}
 use Rattle.demands.proofs.Lists.{All, all-left, all-right, from-end}
 use Rattle.demands.proofs.Order.{Asc, asc-right, asc-le}
-use Rattle.demands.proofs.Trees.{leavesOf, leaves-append, contents, contents-append, key, bd, reach, reach-append}
-use Rattle.demands.proofs.Holds.{Free, RowOk, LeafOk}
+use Rattle.demands.proofs.Trees.{leavesIn, leavesIn-append, recordsIn, records-append, key, bd, reach, reach-append}
+use Rattle.demands.proofs.Holds.{Free, RowOk, LeafFits}
 use Rattle.demands.proofs.Steps.{sec}
 use Rattle.demands.proofs.Places.{lo}
 use Rattle.demands.proofs.Records.{key-long}
@@ -41,9 +42,8 @@ use Rattle.demands.proofs.Stores.{asc-rows}
 use Rattle.demands.proofs.Frees.{freeCount, taken}
 use Rattle.demands.proofs.Last.{ending, Last}
 use Rattle.demands.proofs.XtendRight.{Xtended, too-low, too-low-alone, room, started, both, no-room, xtend-right}
-use Rattle.demands.proofs.Reader.{leaves-in}
 use Rattle.demands.proofs.Standing.{rows-of, rows-ok}
-use Rattle.demands.proofs.Contents.{row-under, read-in}
+use Rattle.demands.proofs.Contents.{row-under}
 use Rattle.demands.proofs.Ordinary.{some-from}
 use Rattle.demands.proofs.Opens.{flushed-stands}
 use Rattle.demands.proofs.Answered.{readied}
@@ -56,10 +56,10 @@ use Rattle.demands.proofs.Promised.{after-open}
 
 -- tight leaves end where their last record does
 abbrev Ends : Description → ℕ → List Leaf → Type 0
-Ends p n ls = (rs : List (List ℕ)) × (r : List ℕ) × (contents ls ≡ rs ++ r ∷ []) × (reach (p .k) n ls ≡ suc (key (p .k) r))
+Ends p n ls = (rs : List (List ℕ)) × (r : List ℕ) × (recordsIn ls ≡ rs ++ r ∷ []) × (reach (p .k) n ls ≡ suc (key (p .k) r))
 
-tight-end : (p : Description) (n : ℕ) (ls : List Leaf) → All (Tight p) ls → All (LeafOk p) ls → (reach (p .k) n ls ≡ n) ⊎ Ends p n ls
-unfolding key part bd lastOf
+tight-end : (p : Description) (n : ℕ) (ls : List Leaf) → All (Tight p) ls → All (LeafFits p) ls → (reach (p .k) n ls ≡ n) ⊎ Ends p n ls
+unfolding key part bd lastIn
 tight-end p n ls t ok = go (from-end ls)
   where
     go : (ls ≡ []) ⊎ ((xs : List Leaf) × (y : Leaf) × (ls ≡ xs ++ y ∷ [])) → (reach (p .k) n ls ≡ n) ⊎ Ends p n ls
@@ -67,34 +67,27 @@ tight-end p n ls t ok = go (from-end ls)
     go (inr (xs, y, e)) = inr (by (from-end (y .records)))
       where
         some : 1 ≤ length (y .records)
-        some = all-right (LeafOk p) xs (y ∷ []) (subst (All (LeafOk p)) e ok) .0 .some
+        some = all-right (LeafFits p) xs (y ∷ []) (subst (All (LeafFits p)) e ok) .0 .some
 
         by : (y .records ≡ []) ⊎ ((rs : List (List ℕ)) × (r : List ℕ) × (y .records ≡ rs ++ r ∷ [])) → Ends p n ls
         by (inl z) = absurd (omega (arith, some, ap length z))
         by (inr (rs, r, z)) =
-            let last : lastOf (y .records) ≡ r = ap lastOf z ∙ last-right rs (r ∷ []) (omega arith) in
+            let last : lastIn (y .records) ≡ r = ap lastIn z ∙ last-right rs (r ∷ []) (omega arith) in
             let tight : y .bound ≡ keyIn p r = all-right (Tight p) xs (y ∷ []) (subst (All (Tight p)) e t) .0 ∙ ap (keyIn p) last in (
-              contents xs ++ rs,
+              recordsIn xs ++ rs,
               r,
-              ap contents e ∙ contents-append xs (y ∷ []) ∙ ap (λ (u : List (List ℕ)). contents xs ++ u) (append-nil (y .records) ∙ z) ∙ sym
-                  (append-assoc (contents xs) rs (r ∷ [])),
+              ap recordsIn e ∙ records-append xs (y ∷ []) ∙ ap (λ (u : List (List ℕ)). recordsIn xs ++ u) (append-nil (y .records) ∙ z) ∙ sym
+                  (append-assoc (recordsIn xs) rs (r ∷ [])),
               ap (reach (p .k) n) e ∙ reach-append (p .k) n xs (y ∷ []) ∙ ap (λ (u : List ℕ). suc (val u)) tight,
             )
 
 module _ (st : State) (ss : List Section) (f : Free) (r : Ready (desc st .wpr) st ss f) (F : Filled (desc st) (treeIn ss f))
-    (above : ordinary (desc st) (recordsFrom (desc st) (keyIn (desc st) (st .work)) (contents (leavesOf ss))) ≡ [])
+    (above : ordinary (desc st) (recordsFrom (desc st) (keyIn (desc st) (st .work)) (recordsIn (leavesIn ss))) ≡ [])
     (L : Last (texts st) (st .session .flag) ss f) where
-  abbrev p : Description
-  p = desc st
-
-  abbrev w : List ℕ
-  w = keyIn (desc st) (st .work)
-
-  abbrev K : List ℕ → ℕ
-  K = key (desc st .k)
+  open Scene (scene st ss) using (p, w, K)
 
   abbrev pre : List Leaf
-  pre = leavesOf (L .before) ++ L .low
+  pre = leavesIn (L .before) ++ L .low
 
   kr : p .k ≤ p .wpr
   kr = good-facts p (r .sound .kept .good) .key
@@ -102,17 +95,18 @@ module _ (st : State) (ss : List Section) (f : Free) (r : Ready (desc st .wpr) s
   kw : Key p w
   kw = key-of (p .wpr) st ss f r kr (omega arith)
 
-  flat : leavesOf ss ≡ pre ++ (L .leaf ∷ [])
-  flat = ap leavesOf (L .at .is) ∙ simp (leaves-append, append-assoc, append-nil)
+  flat : leavesIn ss ≡ pre ++ (L .leaf ∷ [])
+  flat = ap leavesIn (L .at .is) ∙ simp (leavesIn-append, append-assoc, append-nil)
 
-  rows-are : contents (leavesOf ss) ≡ contents pre ++ (L .front ++ endRecord p ∷ [])
-  rows-are = ap contents flat ∙ contents-append pre (L .leaf ∷ []) ∙ ap (λ (z : List (List ℕ)). contents pre ++ z) (append-nil (L .leaf .records) ∙ L .rows-are)
+  rows-are : recordsIn (leavesIn ss) ≡ recordsIn pre ++ (L .front ++ endRecord p ∷ [])
+  rows-are =
+      ap recordsIn flat ∙ records-append pre (L .leaf ∷ []) ∙ ap (λ (z : List (List ℕ)). recordsIn pre ++ z) (append-nil (L .leaf .records) ∙ L .rows-are)
 
-  ok : All (RowOk p) (contents (leavesOf ss))
-  ok = rows-of p (leavesOf ss) (rows-ok p ss (r .sound .kept .holds .sized))
+  ok : All (RowOk p) (recordsIn (leavesIn ss))
+  ok = rows-of p (leavesIn ss) (rows-ok p ss (r .sound .kept .holds .sized))
 
   -- no ordinary record is at or above the key
-  not-there : (xs : List (List ℕ)) (y u : List ℕ) (ys : List (List ℕ)) → contents (leavesOf ss) ≡ xs ++ y ∷ (u ∷ ys) → val w ≤ K y → ⊥
+  not-there : (xs : List (List ℕ)) (y u : List ℕ) (ys : List (List ℕ)) → recordsIn (leavesIn ss) ≡ xs ++ y ∷ (u ∷ ys) → val w ≤ K y → ⊥
   not-there xs y u ys e l =
       some-from p kr w kw xs y (u ∷ ys) (row-under p kr w kw y yok ∙ le-ltb (K y) (val w) l) (less (isOnes (keyIn p y)) refl)
       (ap (λ (z : List (List ℕ)). ordinary p (recordsFrom p w z)) (sym e) ∙ above)
@@ -120,8 +114,8 @@ module _ (st : State) (ss : List Section) (f : Free) (r : Ready (desc st .wpr) s
       yok : RowOk p y
       yok = all-right (RowOk p) xs (y ∷ (u ∷ ys)) (subst (All (RowOk p)) e ok) .0
 
-      asc : Asc K 0 (xs ++ y ∷ (u ∷ ys)) (reach (p .k) 0 (leavesOf ss))
-      asc = subst (λ (z : List (List ℕ)). Asc K 0 z (reach (p .k) 0 (leavesOf ss))) e (asc-rows p _ _ ss f (r .sound .kept .holds))
+      asc : Asc K 0 (xs ++ y ∷ (u ∷ ys)) (reach (p .k) 0 (leavesIn ss))
+      asc = subst (λ (z : List (List ℕ)). Asc K 0 z (reach (p .k) 0 (leavesIn ss))) e (asc-rows p _ _ ss f (r .sound .kept .holds))
 
       less : (t : Bool) → isOnes (keyIn p y) ≡ t → t ≡ false
       less false o = refl
@@ -133,25 +127,25 @@ module _ (st : State) (ss : List Section) (f : Free) (r : Ready (desc st .wpr) s
   -- XTEND is in sequence
   in-row : (fr : List (List ℕ)) (y : List ℕ) → L .front ≡ fr ++ y ∷ [] → val w ≤ K y → ⊥
   in-row fr y e =
-      not-there (contents pre ++ fr) y (endRecord p) [] (rows-are ∙ ap (λ (z : List (List ℕ)). contents pre ++ (z ++ endRecord p ∷ [])) e ∙ simp append-assoc)
+      not-there (recordsIn pre ++ fr) y (endRecord p) [] (rows-are ∙ ap (λ (z : List (List ℕ)). recordsIn pre ++ (z ++ endRecord p ∷ [])) e ∙ simp append-assoc)
 
   alone : L .front ≡ [] → val w < lo p (ending (L .before) (L .index) (L .low) (L .leaf)) → ⊥
   alone e l = go (tight-end p 0 pre tights oks)
     where
       tights : All (Tight p) pre
-      tights = fronts (Tight p) Any pre (L .leaf) (subst (ButLast (Tight p) Any) (leaves-in ss ∙ flat) (F .bounds))
+      tights = fronts (Tight p) Any pre (L .leaf) (subst (ButLast (Tight p) Any) flat (F .bounds))
 
-      oks : All (LeafOk p) pre
-      oks = all-left (LeafOk p) pre _ (subst (All (LeafOk p)) flat (rows-ok p ss (r .sound .kept .holds .sized)))
+      oks : All (LeafFits p) pre
+      oks = all-left (LeafFits p) pre _ (subst (All (LeafFits p)) flat (rows-ok p ss (r .sound .kept .holds .sized)))
 
       start : reach (p .k) 0 pre ≡ lo p (ending (L .before) (L .index) (L .low) (L .leaf))
-      start = reach-append (p .k) 0 (leavesOf (L .before)) (L .low)
+      start = reach-append (p .k) 0 (leavesIn (L .before)) (L .low)
 
       go : (reach (p .k) 0 pre ≡ 0) ⊎ Ends p 0 pre → ⊥
       go (inl z) = omega (arith, start, z, l)
       go (inr (rs, y, c, z)) =
           not-there rs y (endRecord p) []
-          (rows-are ∙ ap (λ (u : List (List ℕ)). contents pre ++ (u ++ endRecord p ∷ [])) e ∙ ap (λ (u : List (List ℕ)). u ++ endRecord p ∷ []) c
+          (rows-are ∙ ap (λ (u : List (List ℕ)). recordsIn pre ++ (u ++ endRecord p ∷ [])) e ∙ ap (λ (u : List (List ℕ)). u ++ endRecord p ∷ []) c
           ∙ append-assoc rs (y ∷ []) (endRecord p ∷ [])) (omega (arith, start, z, l))
 
   -- ---- the counts
@@ -166,7 +160,7 @@ module _ (st : State) (ss : List Section) (f : Free) (r : Ready (desc st .wpr) s
   total = length (ordinary (desc st) (lay.contents (treeIn ss f))) + 1
 
   fulls : ButLast (Full p) (Most p) (pre ++ (L .leaf ∷ []))
-  fulls = subst (ButLast (Full p) (Most p)) (leaves-in ss ∙ flat) (F .details)
+  fulls = subst (ButLast (Full p) (Most p)) flat (F .details)
 
   full-indexes : ButLast (FullIndex p) (MostIndex p) (L .before ++ (sec (L .index) (L .low ++ (L .leaf ∷ [])) ∷ []))
   full-indexes = subst (ButLast (FullIndex p) (MostIndex p)) (L .at .is) (F .indexes)
@@ -183,7 +177,7 @@ module _ (st : State) (ss : List Section) (f : Free) (r : Ready (desc st .wpr) s
         arith,
         total-is st ss f (r .sound) F,
         ap length rows-are,
-        length-append (contents pre) (L .front ++ endRecord p ∷ []),
+        length-append (recordsIn pre) (L .front ++ endRecord p ∷ []),
         length-append (L .front) (endRecord p ∷ []),
         ap length (L .rows-are),
         full-records p pre (fronts (Full p) (Most p) pre (L .leaf) fulls),
@@ -193,7 +187,7 @@ module _ (st : State) (ss : List Section) (f : Free) (r : Ready (desc st .wpr) s
   leaves-are =
       omega (
         arith,
-        length-append (leavesOf (L .before)) (L .low),
+        length-append (leavesIn (L .before)) (L .low),
         length-append (L .low) (L .leaf ∷ []),
         full-leaves p (L .before) (fronts (FullIndex p) (MostIndex p) (L .before) (sec (L .index) (L .low ++ (L .leaf ∷ []))) full-indexes),
       )
@@ -207,7 +201,7 @@ module _ (st : State) (ss : List Section) (f : Free) (r : Ready (desc st .wpr) s
       omega (
         arith,
         F .lowest,
-        ap length (leaves-in ss ∙ flat),
+        ap length flat,
         length-append pre (L .leaf ∷ []),
         sections-are,
         ap length (F .chain),
@@ -286,8 +280,7 @@ unfolding answer lending
 room-of st ss f h F w ask above =
     let r = readied st ss f h (desc st .wpr) w ask in
     let z = xtend-right (lending w st) ss f r in
-    let none = ap (λ (x : List (List ℕ)). ordinary (desc st) (recordsFrom (desc st) (keyIn (desc st) w) x)) (sym (read-in ss)) ∙ above in
-    room-by (lending w st) ss f r F none (z .0) (z .1)
+    room-by (lending w st) ss f r F above (z .0) (z .1)
 
 pub room-enough : RoomEnough
 room-enough =

@@ -20,17 +20,17 @@ use Rattle.rules.specs.State.{State, Outcome, desc, texts, keyIn}
 use Rattle.rules.specs.Seek.{seek, seekSteps}
 use Rattle.rules.specs.Requests.{Request, seeking, lending, answer, left}
 use Rattle.demands.specs.History.{eventOf, events, withKey, handed}
-use Rattle.demands.specs.History as told
+use Rattle.demands.specs.History as history
 use Rattle.demands.proofs.Lists.{All, all-append, map-append}
 use Rattle.demands.proofs.Order.{Asc, asc-wide, below, from, from-above, below-above, hit}
-use Rattle.demands.proofs.Trees.{leavesOf, contents, key, reach}
-use Rattle.demands.proofs.Holds.{Free, RowOk, LeafOk, SectionOk}
+use Rattle.demands.proofs.Trees.{leavesIn, recordsIn, key, reach}
+use Rattle.demands.proofs.Holds.{Free, RowOk, LeafFits, SectionOk}
 use Rattle.demands.proofs.Records.{key-long}
 use Rattle.demands.proofs.Sound.{Key, Sound}
 use Rattle.demands.proofs.Answers.{key-of, work-key}
 use Rattle.demands.proofs.Stores.{asc-rows}
 use Rattle.demands.proofs.Seek.{SeekRight, seek-right}
-use Rattle.demands.proofs.History.{Event, stored, removed, happened, happened-append, standing, Keyed, found-exactly}
+use Rattle.demands.proofs.History.{Change, happened, happened-append, lastPut, KeyedBy, found-exactly}
 use Rattle.demands.proofs.Stepped.{numbered, KeyOf, Stepped}
 use Rattle.demands.proofs.Step.{Gate, stopped, ready, gate, lent-sound}
 use Rattle.demands.proofs.Calls.{stepped}
@@ -41,7 +41,8 @@ use Rattle.demands.proofs.Calls.{stepped}
 hit-above : {A : Type 0} (K : A → ℕ) (x lo : ℕ) (ys : List A) (hi : ℕ) → Asc K lo ys hi → x < lo → hit K x ys ≡ []
 unfolding hit
 hit-above K x lo ys hi h l =
-    ap (below K (suc x)) (from-above K x ys hi (asc-wide K lo x ys hi hi h (omega arith) (omega arith))) ∙ below-above K (suc x) ys hi (asc-wide K lo (suc x) ys hi hi h l (omega arith))
+    ap (below K (suc x)) (from-above K x ys hi (asc-wide K lo x ys hi hi h (omega arith) (omega arith)))
+    ∙ below-above K (suc x) ys hi (asc-wide K lo (suc x) ys hi hi h l (omega arith))
 
 module _ (p : Description) (kr : p .k ≤ p .wpr) (w : List ℕ) (kw : Key p w) where
   abbrev K : List ℕ → ℕ
@@ -64,38 +65,42 @@ module _ (p : Description) (kr : p .k ≤ p .wpr) (w : List ℕ) (kw : Key p w) 
       go (lt l) e = rw (row-same r (ok .0), ne-eqb (K r) (val w) (λ z. omega arith), lt-ltb (K r) (val w) l) e
       go (eq q) e =
           rw (row-same r (ok .0), eq-eqb (K r) (val w) q, le-ltb (K r) (val w) (omega arith), lt-ltb (K r) (suc (val w)) (omega arith))
-          (ap (λ (z : List (List ℕ)). r ∷ z) (e ∙ hit-above K (val w) (suc (K r)) rows hi (h .1) (omega arith) ∙ sym (below-above K (suc (val w)) rows hi (asc-wide K (suc (K r)) (suc (val w)) rows hi hi (h .1) (omega arith) (omega arith)))))
+          (ap (λ (z : List (List ℕ)). r ∷ z) (e ∙ hit-above K (val w) (suc (K r)) rows hi (h .1) (omega arith) ∙ sym
+          (below-above K (suc (val w)) rows hi (asc-wide K (suc (K r)) (suc (val w)) rows hi hi (h .1) (omega arith) (omega arith)))))
       go (gt g) e =
           rw (row-same r (ok .0), ne-eqb (K r) (val w) (λ z. omega arith), le-ltb (K r) (val w) (omega arith), le-ltb (K r) (suc (val w)) g)
           (e ∙ hit-above K (val w) (suc (K r)) rows hi (h .1) (omega arith))
 
   -- ---- what stands under a key, by words and by numbers
 
-  pub standing-same : (es : List told.Event) (d : List (List ℕ)) → All (KeyOf p) es → told.standing p w es d ≡ standing K (val w) (map numbered es) d
-  unfolding told.standing standing numbered
+  pub standing-same : (es : List history.Event) (d : List (List ℕ)) → All (KeyOf p) es → history.standing p w es d ≡ lastPut K (val w) (map numbered es) d
+  unfolding history.standing lastPut numbered
   standing-same [] d h = refl
-  standing-same (told.stored r ∷ es) d h =
-      ap (λ (t : Bool). told.standing p w es (cond t (r ∷ []) d)) (same-is (keyIn p r) (h .0 .long) (h .0 .wide) ∙ ap (λ (n : ℕ). eqb n (val w)) (sym (work-key p r)))
+  standing-same (history.stored r ∷ es) d h =
+      ap (λ (t : Bool). history.standing p w es (cond t (r ∷ []) d))
+      (same-is (keyIn p r) (h .0 .long) (h .0 .wide) ∙ ap (λ (n : ℕ). eqb n (val w)) (sym (work-key p r)))
       ∙ standing-same es _ (h .1)
-  standing-same (told.removed y ∷ es) d h = ap (λ (t : Bool). told.standing p w es (cond t [] d)) (same-is y (h .0 .long) (h .0 .wide)) ∙ standing-same es _ (h .1)
+  standing-same (history.removed y ∷ es) d h =
+      ap (λ (t : Bool). history.standing p w es (cond t [] d)) (same-is y (h .0 .long) (h .0 .wide)) ∙ standing-same es _ (h .1)
 
-  pub events-keyed : (top : ℕ) → val (ones (p .k)) ≤ top → (es : List told.Event) → All (KeyOf p) es → Keyed K top (map numbered es)
+  pub events-keyed : (top : ℕ) → val (ones (p .k)) ≤ top → (es : List history.Event) → All (KeyOf p) es → KeyedBy K top (map numbered es)
   unfolding numbered
   events-keyed top l [] h = tt
-  events-keyed top l (told.stored r ∷ es) h = (omega (arith, h .0 .below, work-key p r), events-keyed top l es (h .1))
-  events-keyed top l (told.removed y ∷ es) h = (omega (arith, h .0 .below), events-keyed top l es (h .1))
+  events-keyed top l (history.stored r ∷ es) h = (omega (arith, h .0 .below, work-key p r), events-keyed top l es (h .1))
+  events-keyed top l (history.removed y ∷ es) h = (omega (arith, h .0 .below), events-keyed top l es (h .1))
 
 -- ---- the contents after a run
 
-pub record Told (p : Description) (st : State) (ss : List Section) (qs : List Request) : Type 0 where
+pub record TellsTree (p : Description) (st : State) (ss : List Section) (qs : List Request) : Type 0 where
   pub sections : List Section
   pub free : Free
   pub sound : Sound (left st qs) sections free
   pub desc-is : desc (left st qs) ≡ p
-  pub contents-is : contents (leavesOf sections) ≡ happened (key (p .k)) (map numbered (events st qs)) (contents (leavesOf ss))
+  pub contents-is : recordsIn (leavesIn sections) ≡ happened (key (p .k)) (map numbered (events st qs)) (recordsIn (leavesIn ss))
   pub keys : All (KeyOf p) (events st qs)
 
-told-more : (p : Description) (st : State) (ss : List Section) (f : Free) (q : Request) (qs : List Request) → desc st ≡ p → (z : Stepped st ss f q) → Told p (answer st q .after) (z .sections) qs → Told p st ss (q ∷ qs)
+told-more : (p : Description) (st : State) (ss : List Section) (f : Free) (q : Request) (qs : List Request) → desc st ≡ p → (z : Stepped st ss f q)
+    → TellsTree p (answer st q .after) (z .sections) qs → TellsTree p st ss (q ∷ qs)
 unfolding left events
 told-more p st ss f q qs e z r = record {
   sections = r .sections;
@@ -103,16 +108,21 @@ told-more p st ss f q qs e z r = record {
   sound = r .sound;
   desc-is = r .desc-is;
   contents-is =
-      let es : List told.Event = eventOf (desc st) q (answer st q) in
-      let gs : List told.Event = events (answer st q .after) qs in
-      let c : contents (leavesOf (z .sections)) ≡ happened (key (p .k)) (map numbered es) (contents (leavesOf ss)) = subst (λ (d : Description). contents (leavesOf (z .sections)) ≡ happened (key (d .k)) (map numbered es) (contents (leavesOf ss))) e (z .contents-is) in
-      r .contents-is ∙ ap (happened (key (p .k)) (map numbered gs)) c ∙ sym (happened-append (key (p .k)) (map numbered es) (map numbered gs) (contents (leavesOf ss)))
-      ∙ ap (λ (m : List (Event (List ℕ))). happened (key (p .k)) m (contents (leavesOf ss))) (sym (map-append numbered es gs));
-  keys = all-append (KeyOf p) (eventOf (desc st) q (answer st q)) (events (answer st q .after) qs) (subst (λ (d : Description). All (KeyOf d) (eventOf (desc st) q (answer st q))) e (z .keys)) (r .keys);
+      let es : List history.Event = eventOf (desc st) q (answer st q) in
+      let gs : List history.Event = events (answer st q .after) qs in
+      let c : recordsIn (leavesIn (z .sections)) ≡ happened (key (p .k)) (map numbered es) (recordsIn (leavesIn ss))
+      = subst (λ (d : Description). recordsIn (leavesIn (z .sections)) ≡ happened (key (d .k)) (map numbered es) (recordsIn (leavesIn ss))) e
+      (z .contents-is) in
+      r .contents-is ∙ ap (happened (key (p .k)) (map numbered gs)) c
+      ∙ sym (happened-append (key (p .k)) (map numbered es) (map numbered gs) (recordsIn (leavesIn ss)))
+      ∙ ap (λ (m : List (Change (List ℕ))). happened (key (p .k)) m (recordsIn (leavesIn ss))) (sym (map-append numbered es gs));
+  keys =
+      all-append (KeyOf p) (eventOf (desc st) q (answer st q)) (events (answer st q .after) qs)
+      (subst (λ (d : Description). All (KeyOf d) (eventOf (desc st) q (answer st q))) e (z .keys)) (r .keys);
 }
 
 -- any calls, refused or not, closing and reopening included
-pub tells : (p : Description) (qs : List Request) (st : State) (ss : List Section) (f : Free) → Sound st ss f → desc st ≡ p → Told p st ss qs
+pub tells : (p : Description) (qs : List Request) (st : State) (ss : List Section) (f : Free) → Sound st ss f → desc st ≡ p → TellsTree p st ss qs
 tells p [] st ss f h e = record {
   sections = ss;
   free = f;
@@ -127,17 +137,32 @@ tells p (q ∷ qs) st ss f h e =
 
 -- ---- SEEK
 
-pub rows-of : (p : Description) (ls : List Leaf) → All (LeafOk p) ls → All (RowOk p) (contents ls)
+pub rows-of : (p : Description) (ls : List Leaf) → All (LeafFits p) ls → All (RowOk p) (recordsIn ls)
 rows-of p [] h = tt
-rows-of p (l ∷ ls) h = all-append (RowOk p) (l .records) (contents ls) (h .0 .rows) (rows-of p ls (h .1))
+rows-of p (l ∷ ls) h = all-append (RowOk p) (l .records) (recordsIn ls) (h .0 .rows) (rows-of p ls (h .1))
 
-pub rows-ok : (p : Description) (ss : List Section) → All (SectionOk p) ss → All (LeafOk p) (leavesOf ss)
+pub rows-ok : (p : Description) (ss : List Section) → All (SectionOk p) ss → All (LeafFits p) (leavesIn ss)
 rows-ok p [] h = tt
-rows-ok p (s ∷ ss) h = all-append (LeafOk p) (s .leaves) (leavesOf ss) (h .0 .leaves) (rows-ok p ss (h .1))
+rows-ok p (s ∷ ss) h = all-append (LeafFits p) (s .leaves) (leavesIn ss) (h .0 .leaves) (rows-ok p ss (h .1))
+
+-- the records of a sound state: they ascend and are as long as they must be, and a key is no longer than a record
+pub record Ordered (st : State) (ss : List Section) : Type 0 where
+  pub kr : desc st .k ≤ desc st .wpr
+  pub asc : Asc (key (desc st .k)) 0 (recordsIn (leavesIn ss)) (reach (desc st .k) 0 (leavesIn ss))
+  pub ok : All (RowOk (desc st)) (recordsIn (leavesIn ss))
+
+pub ordered : (st : State) (ss : List Section) (f : Free) → Sound st ss f → Ordered st ss
+ordered st ss f h = record {
+  kr = good-facts (desc st) (h .kept .good) .key;
+  asc = asc-rows (desc st) _ _ ss f (h .kept .holds);
+  ok = rows-of (desc st) (leavesIn ss) (rows-ok (desc st) ss (h .kept .holds .sized));
+}
 
 -- a SEEK that is not refused hands out the record with its key, if there is one
-pub seek-hands : (st : State) (ss : List Section) (f : Free) (h : Sound st ss f) (w : List ℕ) → (answer st (seeking w) .number ≡ done) ⊎ (answer st (seeking w) .number ≡ notFound)
-    → Gate (lending w st) ss f (lent-sound w st ss f h) (desc st .k) → Key (desc st) (keyIn (desc st) w) × (handed (answer st (seeking w)) ≡ hit (key (desc st .k)) (val (keyIn (desc st) w)) (contents (leavesOf ss)))
+pub seek-hands : (st : State) (ss : List Section) (f : Free) (h : Sound st ss f) (w : List ℕ)
+    → (answer st (seeking w) .number ≡ done) ⊎ (answer st (seeking w) .number ≡ notFound)
+    → Gate (lending w st) ss f (lent-sound w st ss f h) (desc st .k)
+    → Key (desc st) (keyIn (desc st) w) × (handed (answer st (seeking w)) ≡ hit (key (desc st .k)) (val (keyIn (desc st) w)) (recordsIn (leavesIn ss)))
 unfolding answer lending seek handed
 seek-hands st ss f h w u (stopped n ne ac nf e) = absurd (refuse u)
   where
@@ -147,31 +172,38 @@ seek-hands st ss f h w u (stopped n ne ac nf e) = absurd (refuse u)
     refuse : (answer st (seeking w) .number ≡ done) ⊎ (answer st (seeking w) .number ≡ notFound) → ⊥
     refuse (inl d) = clash (sym (ap accepted (sym is ∙ d)) ∙ ac)
     refuse (inr d) = nf (sym is ∙ d)
-seek-hands st ss f h w u (ready r) = (key-of (desc st .k) (lending w st) ss f r (omega arith) (good-facts (desc st) (h .kept .good) .key), go (seek-right (lending w st) ss f r))
+seek-hands st ss f h w u (ready r) =
+    (key-of (desc st .k) (lending w st) ss f r (omega arith) (good-facts (desc st) (h .kept .good) .key), go (seek-right (lending w st) ss f r))
   where
-    go : SeekRight (lending w st) ss f → handed (answer st (seeking w)) ≡ hit (key (desc st .k)) (val (keyIn (desc st) w)) (contents (leavesOf ss))
+    go : SeekRight (lending w st) ss f → handed (answer st (seeking w)) ≡ hit (key (desc st .k)) (val (keyIn (desc st) w)) (recordsIn (leavesIn ss))
     go (inl (e, g, z)) = ap (λ (m : ℕ). cond (eqb m done) (answer st (seeking w) .after .work ∷ []) []) (g .number-is) ∙ sym e
-    go (inr (y, e, g, z)) = ap (λ (m : ℕ). cond (eqb m done) (answer st (seeking w) .after .work ∷ []) []) (g .number-is) ∙ ap (λ (m : List ℕ). m ∷ []) z ∙ sym e
+    go (inr (y, e, g, z)) =
+        ap (λ (m : ℕ). cond (eqb m done) (answer st (seeking w) .after .work ∷ []) []) (g .number-is) ∙ ap (λ (m : List ℕ). m ∷ []) z ∙ sym e
 
 -- what stood under the key, was put in, and was not taken out since
 pub found : (st : State) (ss : List Section) (f : Free) → Sound st ss f → (qs : List Request) (w : List ℕ)
     → (answer (left st qs) (seeking w) .number ≡ done) ⊎ (answer (left st qs) (seeking w) .number ≡ notFound)
-    → handed (answer (left st qs) (seeking w)) ≡ told.standing (desc st) (keyIn (desc st) w) (events st qs) (withKey (desc st) (keyIn (desc st) w) (contents (leavesOf ss)))
+    → handed (answer (left st qs) (seeking w))
+    ≡ history.standing (desc st) (keyIn (desc st) w) (events st qs) (withKey (desc st) (keyIn (desc st) w) (recordsIn (leavesIn ss)))
 found st ss f h qs w u =
     let p : Description = desc st in
     let K : List ℕ → ℕ = key (p .k) in
     let x : List ℕ = keyIn p w in
-    let rows : List (List ℕ) = contents (leavesOf ss) in
-    let top : ℕ = reach (p .k) 0 (leavesOf ss) in
+    let rows : List (List ℕ) = recordsIn (leavesIn ss) in
+    let top : ℕ = reach (p .k) 0 (leavesIn ss) in
     let kr : p .k ≤ p .wpr = good-facts p (h .kept .good) .key in
-    let t : Told p st ss qs = tells p qs st ss f h refl in
-    let s = seek-hands (left st qs) (t .sections) (t .free) (t .sound) w u (gate (lending w (left st qs)) (t .sections) (t .free) (lent-sound w (left st qs) (t .sections) (t .free) (t .sound)) (desc (left st qs) .k)) in
+    let t : TellsTree p st ss qs = tells p qs st ss f h refl in
+    let s
+    = seek-hands (left st qs) (t .sections) (t .free) (t .sound) w u
+    (gate (lending w (left st qs)) (t .sections) (t .free) (lent-sound w (left st qs) (t .sections) (t .free) (t .sound)) (desc (left st qs) .k)) in
     let kw : Key p x = subst (λ (d : Description). Key d (keyIn d w)) (t .desc-is) (s .0) in
-    let hands : handed (answer (left st qs) (seeking w)) ≡ hit K (val x) (contents (leavesOf (t .sections)))
-    = s .1 ∙ ap (λ (d : Description). hit (key (d .k)) (val (keyIn d w)) (contents (leavesOf (t .sections)))) (t .desc-is) in
+    let hands : handed (answer (left st qs) (seeking w)) ≡ hit K (val x) (recordsIn (leavesIn (t .sections)))
+    = s .1 ∙ ap (λ (d : Description). hit (key (d .k)) (val (keyIn d w)) (recordsIn (leavesIn (t .sections)))) (t .desc-is) in
     let asc : Asc K 0 rows top = asc-rows p _ _ ss f (h .kept .holds) in
     let below-top : val (ones (p .k)) ≤ top = omega (arith, h .kept .holds .top) in
     hands ∙ ap (hit K (val x)) (t .contents-is)
-    ∙ found-exactly K top (map numbered (events st qs)) rows asc (events-keyed p kr x kw top below-top (events st qs) (t .keys)) (val x) (omega (arith, kw .below))
-    ∙ ap (standing K (val x) (map numbered (events st qs))) (sym (with-hit p kr x kw 0 rows top asc (rows-of p (leavesOf ss) (rows-ok p ss (h .kept .holds .sized)))))
+    ∙ found-exactly K top (map numbered (events st qs)) rows asc (events-keyed p kr x kw top below-top (events st qs) (t .keys)) (val x)
+    (omega (arith, kw .below))
+    ∙ ap (lastPut K (val x) (map numbered (events st qs)))
+    (sym (with-hit p kr x kw 0 rows top asc (rows-of p (leavesIn ss) (rows-ok p ss (h .kept .holds .sized)))))
     ∙ sym (standing-same p kr x kw (events st qs) _ (t .keys))

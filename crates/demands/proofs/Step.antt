@@ -42,18 +42,20 @@ use Rattle.demands.proofs.XtendRight as x
 use Rattle.demands.proofs.Growth.{Growth}
 
 -- the state after is sound, of the same description
-pub record Leaves (p : Description) (o : Outcome) : Type 0 where
+pub record LeavesSound (p : Description) (o : Outcome) : Type 0 where
   pub desc-is : desc (o .after) ≡ p
   pub sections : List Section
   pub free : Free
   pub sound : Sound (o .after) sections free
 
 -- and 070003 is not answered
-abbrev pub Fine : Description → Outcome → Type 0
-Fine p o = (o .number ≡ badFile → ⊥) × Leaves p o
+abbrev pub FineStep : Description → Outcome → Type 0
+FineStep p o = (o .number ≡ badFile → ⊥) × LeavesSound p o
 
-fine : (st : State) (ss : List Section) (o : Outcome) (n most : ℕ) (rows : List (List ℕ)) (brought : Growth) {ss′ : List Section} {f′ : Free} → Gives st ss o n most rows brought ss′ f′ → (n ≡ badFile → ⊥) → Fine (desc st) o
-fine st ss o n most rows brought {ss′} {f′} g ne = (λ e. ne (sym (g .number-is) ∙ e), record { desc-is = g .desc-is; sections = ss′; free = f′; sound = g .sound })
+fine : (st : State) (ss : List Section) (o : Outcome) (n most : ℕ) (rows : List (List ℕ)) (brought : Growth) {ss′ : List Section} {f′ : Free}
+    → Gives st ss o n most rows brought ss′ f′ → (n ≡ badFile → ⊥) → FineStep (desc st) o
+fine st ss o n most rows brought {ss′} {f′} g ne =
+    (λ e. ne (sym (g .number-is) ∙ e), record { desc-is = g .desc-is; sections = ss′; free = f′; sound = g .sound })
 
 stored-fine : (q : Bool) → cond q noneFree done ≡ badFile → ⊥
 stored-fine true e = omega arith
@@ -71,57 +73,71 @@ either (inl a) f g = f a
 either (inr b) f g = g b
 
 module _ (st : State) (ss : List Section) (f : Free) (h : Sound st ss f) where
-  stays : (o : Outcome) (n : ℕ) → (n ≡ badFile → ⊥) → o ≡ unchanged st n → Fine (desc st) o
-  stays o n ne e = subst (Fine (desc st)) (sym e) (ne, record { desc-is = refl; sections = ss; free = f; sound = h })
+  stays : (o : Outcome) (n : ℕ) → (n ≡ badFile → ⊥) → o ≡ unchanged st n → FineStep (desc st) o
+  stays o n ne e = subst (FineStep (desc st)) (sym e) (ne, record { desc-is = refl; sections = ss; free = f; sound = h })
 
   -- the rows of the table before 070003, for a keyed call that reads so many words
   pub data Gate (reads : ℕ) : Type 0 where
-    stopped : (n : ℕ) → (n ≡ badFile → ⊥) → accepted n ≡ false → (n ≡ notFound → ⊥) → ((steps : Checked Effect) → settle st (sizesOk st >> (workOk st >> (isOpen st >> (keyOk reads st >> steps)))) ≡ unchanged st n) → Gate reads
+    stopped : (n : ℕ) → (n ≡ badFile → ⊥) → accepted n ≡ false → (n ≡ notFound → ⊥)
+        → ((steps : Checked Effect) → settle st (sizesOk st >> (workOk st >> (isOpen st >> (keyOk reads st >> steps)))) ≡ unchanged st n) → Gate reads
     ready : Ready reads st ss f → Gate reads
 
   pub gate : (reads : ℕ) → Gate reads
   unfolding workOk isOpen keyOk settle
-  gate reads = go (ℕ-discrete (length (st .work)) (desc st .wpr)) (st .session .opened) refl (allWords (part 0 reads (st .work)) && not (isOnes (keyIn (desc st) (st .work)))) refl
+  gate reads =
+      go (ℕ-discrete (length (st .work)) (desc st .wpr)) (st .session .opened) refl
+      (allWords (part 0 reads (st .work)) && not (isOnes (keyIn (desc st) (st .work)))) refl
     where
-      go : Dec (length (st .work) ≡ desc st .wpr) → (u : Bool) → st .session .opened ≡ u → (t : Bool) → (allWords (part 0 reads (st .work)) && not (isOnes (keyIn (desc st) (st .work)))) ≡ t → Gate reads
-      go (no n) u o t e = stopped wrongSize (λ z. omega arith) refl (λ z. omega arith) (λ steps. simp (sizes-pass st ss f h, ne-eqb (length (st .work)) (desc st .wpr) n))
-      go (yes l) false o t e = stopped isClosed (λ z. omega arith) refl (λ z. omega arith) (λ steps. simp (sizes-pass st ss f h, eq-eqb (length (st .work)) (desc st .wpr) l, o))
-      go (yes l) true o false e = stopped wrongKey (λ z. omega arith) refl (λ z. omega arith) (λ steps. simp (sizes-pass st ss f h, eq-eqb (length (st .work)) (desc st .wpr) l, o, e))
+      go : Dec (length (st .work) ≡ desc st .wpr) → (u : Bool) → st .session .opened ≡ u → (t : Bool)
+          → (allWords (part 0 reads (st .work)) && not (isOnes (keyIn (desc st) (st .work)))) ≡ t → Gate reads
+      go (no n) u o t e =
+          stopped wrongSize (λ z. omega arith) refl (λ z. omega arith) (λ steps. simp (sizes-pass st ss f h, ne-eqb (length (st .work)) (desc st .wpr) n))
+      go (yes l) false o t e =
+          stopped isClosed (λ z. omega arith) refl (λ z. omega arith) (λ steps. simp (sizes-pass st ss f h, eq-eqb (length (st .work)) (desc st .wpr) l, o))
+      go (yes l) true o false e =
+          stopped wrongKey (λ z. omega arith) refl (λ z. omega arith)
+          (λ steps. simp (sizes-pass st ss f h, eq-eqb (length (st .work)) (desc st .wpr) l, o, e))
       go (yes l) true o true e = ready (record { sound = h; opened = o; work-length = l; asked = simp e })
 
-  seek-step : Gate (desc st .k) → Fine (desc st) (seek st)
+  seek-step : Gate (desc st .k) → FineStep (desc st) (seek st)
   unfolding seek
   seek-step (stopped n ne ac nf e) = stays (seek st) n ne (e (seekSteps (texts st) (st .session .flag) (st .work)))
-  seek-step (ready r) = either (seek-right st ss f r) (λ q. fine st ss (seek st) notFound 3 _ _ (q .1) (λ z. omega arith)) (λ q. fine st ss (seek st) done 3 _ _ (q .2) (λ z. omega arith))
+  seek-step (ready r) =
+      either (seek-right st ss f r) (λ q. fine st ss (seek st) notFound 3 _ _ (q .1) (λ z. omega arith))
+      (λ q. fine st ss (seek st) done 3 _ _ (q .2) (λ z. omega arith))
 
-  updat-step : Gate (desc st .wpr) → Fine (desc st) (updat st)
+  updat-step : Gate (desc st .wpr) → FineStep (desc st) (updat st)
   unfolding updat
   updat-step (stopped n ne ac nf e) = stays (updat st) n ne (e (updatSteps (texts st) (st .session .flag) (st .work)))
-  updat-step (ready r) = either (updat-right st ss f r) (λ q. fine st ss (updat st) notFound 3 _ _ (q .1) (λ z. omega arith)) (λ q. fine st ss (updat st) done 3 _ _ (q .4) (λ z. omega arith))
+  updat-step (ready r) =
+      either (updat-right st ss f r) (λ q. fine st ss (updat st) notFound 3 _ _ (q .1) (λ z. omega arith))
+      (λ q. fine st ss (updat st) done 3 _ _ (q .4) (λ z. omega arith))
 
-  dlete-step : Gate (desc st .k) → Fine (desc st) (dlete st)
+  dlete-step : Gate (desc st .k) → FineStep (desc st) (dlete st)
   unfolding dlete
   dlete-step (stopped n ne ac nf e) = stays (dlete st) n ne (e (dleteSteps (texts st) (st .session .flag) (st .work)))
-  dlete-step (ready r) = either (dlete-right st ss f r) (λ q. fine st ss (dlete st) notFound 3 _ _ (q .1) (λ z. omega arith)) (λ q. fine st ss (dlete st) done 6 _ _ (q .4) (λ z. omega arith))
+  dlete-step (ready r) =
+      either (dlete-right st ss f r) (λ q. fine st ss (dlete st) notFound 3 _ _ (q .1) (λ z. omega arith))
+      (λ q. fine st ss (dlete st) done 6 _ _ (q .4) (λ z. omega arith))
 
-  nsert-step : Gate (desc st .wpr) → Fine (desc st) (nsert st)
+  nsert-step : Gate (desc st .wpr) → FineStep (desc st) (nsert st)
   unfolding nsert
   nsert-step (stopped n ne ac nf e) = stays (nsert st) n ne (e (nsertSteps (texts st) (st .session .flag) (st .work)))
   nsert-step (ready r) = go (nsert-right st ss f r)
     where
-      go : Nserted st ss f → Fine (desc st) (nsert st)
+      go : Nserted st ss f → FineStep (desc st) (nsert st)
       go (duplicate y e g) = fine st ss (nsert st) notFound 3 _ _ g (λ z. omega arith)
       go (room e a i l g) = fine st ss (nsert st) _ 3 _ _ g (stored-with (desc st) (length (a .leaf .records) + 1) f)
       go (split e a i l m s k q g) = fine st ss (nsert st) _ 7 _ _ g (stored-with (desc st) (halfCount (D (desc st)) k) (taken f))
       go (both e a i l m s c k q g) = fine st ss (nsert st) _ 8 _ _ g (stored-with (desc st) (halfCount (D (desc st)) k) (taken (taken f)))
       go (no-room e a i l w g) = fine st ss (nsert st) noRoom 3 _ _ g (λ z. omega arith)
 
-  xtend-step : Gate (desc st .wpr) → Fine (desc st) (xtend st)
+  xtend-step : Gate (desc st .wpr) → FineStep (desc st) (xtend st)
   unfolding xtend
   xtend-step (stopped n ne ac nf e) = stays (xtend st) n ne (e (xtendSteps (texts st) (st .session .flag) (st .work)))
   xtend-step (ready r) = let q = x.xtend-right st ss f r in go (q .0) (q .1)
     where
-      go : (L : Last (texts st) (st .session .flag) ss f) → x.Xtended st ss f L → Fine (desc st) (xtend st)
+      go : (L : Last (texts st) (st .session .flag) ss f) → x.Xtended st ss f L → FineStep (desc st) (xtend st)
       go L (x.too-low fr y e l g) = fine st ss (xtend st) outOfSequence 4 _ _ g (λ z. omega arith)
       go L (x.too-low-alone e l g) = fine st ss (xtend st) outOfSequence 4 _ _ g (λ z. omega arith)
       go L (x.room l g) = fine st ss (xtend st) _ 4 _ _ g (stored-with (desc st) (length (L .leaf .records) + 1) f)
@@ -129,27 +145,28 @@ module _ (st : State) (ss : List Section) (f : Free) (h : Sound st ss f) where
       go L (x.both l m s c g) = fine st ss (xtend st) _ 8 _ _ g (stored-with (desc st) (length (L .leaf .records)) (taken (taken f)))
       go L (x.no-room l w g) = fine st ss (xtend st) noRoom 4 _ _ g (λ z. omega arith)
 
-  adv-step : Dec (length (st .work) ≡ desc st .wpr) → (u : Bool) → st .session .opened ≡ u → Fine (desc st) (adv st)
+  adv-step : Dec (length (st .work) ≡ desc st .wpr) → (u : Bool) → st .session .opened ≡ u → FineStep (desc st) (adv st)
   unfolding adv workOk isOpen settle
   adv-step (no n) u o = stays (adv st) wrongSize (λ z. omega arith) (simp (sizes-pass st ss f h, ne-eqb (length (st .work)) (desc st .wpr) n))
   adv-step (yes l) false o = stays (adv st) isClosed (λ z. omega arith) (simp (sizes-pass st ss f h, eq-eqb (length (st .work)) (desc st .wpr) l, o))
   adv-step (yes l) true o = let q = adv-right st ss f h o l in fine st ss (adv st) _ 5 _ _ (q .3) (adv-fine (isOnes (keyIn (desc st) (q .0))))
 
-  close-step : (u : Bool) → st .session .opened ≡ u → Fine (desc st) (close st)
+  close-step : (u : Bool) → st .session .opened ≡ u → FineStep (desc st) (close st)
   unfolding close closeChecks closeDone isOpen
   close-step true o = fine st ss (close st) done 1 _ _ (close-right st ss f h o) (λ z. omega arith)
   close-step false o = stays (close st) isClosed (λ z. omega arith) (simp (sizes-pass st ss f h, o))
 
   -- OPEN of an open session is refused; of a closed one it leaves the file as it is
-  open-again : st .session .opened ≡ true → (marks : List ℕ) → Fine (desc st) (openFile st marks .outcome)
+  open-again : st .session .opened ≡ true → (marks : List ℕ) → FineStep (desc st) (openFile st marks .outcome)
   unfolding openFile openChecks openDone
   open-again o marks = go (ℕ-discrete (length marks) (desc st .n))
     where
-      go : Dec (length marks ≡ desc st .n) → Fine (desc st) (openFile st marks .outcome)
+      go : Dec (length marks ≡ desc st .n) → FineStep (desc st) (openFile st marks .outcome)
       go (yes l) = stays (openFile st marks .outcome) alreadyOpen (λ z. omega arith) (simp (sizes-pass st ss f h, eq-eqb (length marks) (desc st .n) l, o))
       go (no n) = stays (openFile st marks .outcome) wrongSize (λ z. omega arith) (simp (sizes-pass st ss f h, ne-eqb (length marks) (desc st .n) n))
 
-  pub opened-sound : st .session .opened ≡ false → Sound (record { session = atRest true (st .session); file = st .file; buffer = st .buffer; work = st .work }) ss f
+  pub opened-sound : st .session .opened ≡ false
+      → Sound (record { session = atRest true (st .session); file = st .file; buffer = st .buffer; work = st .work }) ss f
   unfolding atRest
   opened-sound o =
       let q : (st .session .current ≡ 0) × (st .session .flag ≡ false) = h .resting o in
@@ -161,7 +178,9 @@ module _ (st : State) (ss : List Section) (f : Free) (h : Sound st ss f) where
           current = λ l. absurd (omega arith);
           flagged = λ e. no-true-false e refl;
           clean = λ e l. absurd (omega arith);
-          holds = holds-ext (desc st) _ _ _ ss f (λ b l u. text-other (record { desc = desc st; current = 0; file = st .file; buffer = st .buffer }) b (λ e. omega arith)
+          holds =
+              holds-ext (desc st) _ _ _ ss f
+              (λ b l u. text-other (record { desc = desc st; current = 0; file = st .file; buffer = st .buffer }) b (λ e. omega arith)
               ∙ sym (text-other (texts st) b (λ e. omega (arith, e, q .0)))) (h .kept .holds);
           ended = h .kept .ended;
           alone = h .kept .alone;
@@ -171,18 +190,18 @@ module _ (st : State) (ss : List Section) (f : Free) (h : Sound st ss f) where
         resting = λ e. no-true-false refl e;
       }
 
-  open-leaves : st .session .opened ≡ false → (marks : List ℕ) → Leaves (desc st) (openFile st marks .outcome)
+  open-leaves : st .session .opened ≡ false → (marks : List ℕ) → LeavesSound (desc st) (openFile st marks .outcome)
   unfolding openFile openChecks openDone openLayout atRest
   open-leaves o marks = go (openChecks st marks)
     where
-      same : (n : ℕ) → Leaves (desc st) (unchanged st n)
+      same : (n : ℕ) → LeavesSound (desc st) (unchanged st n)
       same n = record { desc-is = refl; sections = ss; free = f; sound = h }
 
-      tested : (c : Checked (List ℕ)) → Leaves (desc st) (openLayout st c .outcome)
+      tested : (c : Checked (List ℕ)) → LeavesSound (desc st) (openLayout st c .outcome)
       tested (refused n) = same n
       tested (passed m) = record { desc-is = refl; sections = ss; free = f; sound = opened-sound o }
 
-      go : (c : Checked Bool) → Leaves (desc st) (openDone st marks c .outcome)
+      go : (c : Checked Bool) → LeavesSound (desc st) (openDone st marks c .outcome)
       go (refused n) = same n
       go (passed t) = tested (layoutMarks (desc st) (st .file))
 
@@ -195,7 +214,7 @@ module _ (st : State) (ss : List Section) (f : Free) (h : Sound st ss f) where
   so w = lent-sound w st ss f h
 
   -- no call on an open session answers 070003
-  pub open-step : st .session .opened ≡ true → (q : Request) → Fine (desc st) (answer st q)
+  pub open-step : st .session .opened ≡ true → (q : Request) → FineStep (desc st) (answer st q)
   unfolding answer lending
   open-step o (opening marks) = open-again st ss f h o marks
   open-step o closing = close-step st ss f h true o
@@ -217,7 +236,7 @@ module _ (st : State) (ss : List Section) (f : Free) (h : Sound st ss f) where
   NotOpen (updating w) = Unit {0}
   NotOpen (extending w) = Unit {0}
 
-  closed-all : st .session .opened ≡ false → (q : Request) → NotOpen q → Fine (desc st) (answer st q)
+  closed-all : st .session .opened ≡ false → (q : Request) → NotOpen q → FineStep (desc st) (answer st q)
   unfolding answer lending
   closed-all o (opening marks) n = absurd n
   closed-all o closing n = close-step st ss f h false o
@@ -231,7 +250,7 @@ module _ (st : State) (ss : List Section) (f : Free) (h : Sound st ss f) where
   pub closed-fine : st .session .opened ≡ false → (q : Request) → NotOpen q → answer st q .number ≡ badFile → ⊥
   closed-fine o q n = closed-all o q n .0
 
-  closed-step : st .session .opened ≡ false → (q : Request) → Leaves (desc st) (answer st q)
+  closed-step : st .session .opened ≡ false → (q : Request) → LeavesSound (desc st) (answer st q)
   closed-step o (opening marks) = unfold answer in open-leaves st ss f h o marks
   closed-step o closing = closed-all o closing tt .1
   closed-step o (seeking w) = closed-all o (seeking w) tt .1
@@ -242,10 +261,10 @@ module _ (st : State) (ss : List Section) (f : Free) (h : Sound st ss f) where
   closed-step o (advancing w) = closed-all o (advancing w) tt .1
 
   -- every call leaves a sound state, whether the session is open or closed
-  pub sound-step : (q : Request) → Leaves (desc st) (answer st q)
+  pub sound-step : (q : Request) → LeavesSound (desc st) (answer st q)
   sound-step q = go (st .session .opened) refl
     where
-      go : (t : Bool) → st .session .opened ≡ t → Leaves (desc st) (answer st q)
+      go : (t : Bool) → st .session .opened ≡ t → LeavesSound (desc st) (answer st q)
       go true o = open-step o q .1
       go false o = closed-step o q
 
@@ -253,9 +272,10 @@ module _ (st : State) (ss : List Section) (f : Free) (h : Sound st ss f) where
   no-070003 o q = open-step o q .0
 
 -- and so does every run of calls, closing and reopening included
-pub sound-run : (st : State) (ss : List Section) (f : Free) → Sound st ss f → (qs : List Request) → (ss′ : List Section) × (f′ : Free) × Sound (left st qs) ss′ f′
+pub sound-run : (st : State) (ss : List Section) (f : Free) → Sound st ss f → (qs : List Request)
+    → (ss′ : List Section) × (f′ : Free) × Sound (left st qs) ss′ f′
 unfolding left
 sound-run st ss f h [] = (ss, f, h)
 sound-run st ss f h (q ∷ qs) =
-    let g : Leaves (desc st) (answer st q) = sound-step st ss f h q in
+    let g : LeavesSound (desc st) (answer st q) = sound-step st ss f h q in
     sound-run (answer st q .after) (g .sections) (g .free) (g .sound) qs

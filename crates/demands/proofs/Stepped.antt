@@ -11,15 +11,15 @@ use Rattle.rules.specs.State.{State, Outcome, desc, keyIn}
 use Rattle.rules.specs.Requests.{Request, opening, closing, seeking, advancing, inserting, deleting, updating, extending, answer}
 use Rattle.demands.specs.Formula.{acceptedBy, share}
 use Rattle.demands.specs.History.{eventOf}
-use Rattle.demands.specs.History as told
+use Rattle.demands.specs.History as history
 use Rattle.demands.specs.Filled.{disturbs, Filled}
-use Rattle.demands.specs.Reuse.{Takes, Keeps, Deletes}
+use Rattle.demands.specs.Reuse.{Takes, KeepsBlocks, Deletes}
 use Rattle.demands.proofs.Lists.{All}
 use Rattle.layout.specs.Tree.{Section, Tree}
-use Rattle.demands.proofs.Trees.{leavesOf, contents, key}
+use Rattle.demands.proofs.Trees.{leavesIn, recordsIn, key}
 use Rattle.demands.proofs.Holds.{Free}
 use Rattle.demands.proofs.Sound.{Key, Sound}
-use Rattle.demands.proofs.History.{Event, stored, removed, happened}
+use Rattle.demands.proofs.History.{Change, puts, drops, happened}
 use Rattle.demands.proofs.Moves.{treeIn}
 use Rattle.demands.proofs.Growth.{Growth, nothing, Grows}
 
@@ -39,23 +39,23 @@ abbrev pub most : Request → Growth → ℕ
 most q g = share q + 4 * (g .splits + g .starts) + (g .index-splits + g .index-starts)
 
 -- an event by the number of its key, and that its key is one that a call may be given
-unfoldable pub numbered : told.Event → Event (List ℕ)
-numbered (told.stored r) = stored r
-numbered (told.removed x) = removed (val x)
+unfoldable pub numbered : history.Event → Change (List ℕ)
+numbered (history.stored r) = puts r
+numbered (history.removed x) = drops (val x)
 
-abbrev pub KeyOf : Description → told.Event → Type 0
-KeyOf p (told.stored r) = Key p (keyIn p r)
-KeyOf p (told.removed x) = Key p x
+abbrev pub KeyOf : Description → history.Event → Type 0
+KeyOf p (history.stored r) = Key p (keyIn p r)
+KeyOf p (history.removed x) = Key p x
 
 -- what a call makes of the blocks: NSERT and XTEND take as many as they bring, DLETE may free some, the others keep all
 abbrev pub Moved : Request → Outcome → Growth → Tree → Tree → Type 0
-Moved (opening marks) o g t t′ = Keeps t t′
-Moved closing o g t t′ = Keeps t t′
-Moved (seeking w) o g t t′ = Keeps t t′
-Moved (advancing w) o g t t′ = Keeps t t′
+Moved (opening marks) o g t t′ = KeepsBlocks t t′
+Moved closing o g t t′ = KeepsBlocks t t′
+Moved (seeking w) o g t t′ = KeepsBlocks t t′
+Moved (advancing w) o g t t′ = KeepsBlocks t t′
 Moved (inserting w) o g t t′ = Takes (g .splits + g .starts) (g .index-splits + g .index-starts) t t′
 Moved (deleting w) o g t t′ = Deletes (eqb (o .number) done) t t′
-Moved (updating w) o g t t′ = Keeps t t′
+Moved (updating w) o g t t′ = KeepsBlocks t t′
 Moved (extending w) o g t t′ = Takes (g .splits + g .starts) (g .index-splits + g .index-starts) t t′
 
 -- a call from a sound state with the tree ss: a sound state again, of the same file; the contents with what the call put in or took out; and
@@ -65,7 +65,7 @@ pub record Stepped (st : State) (ss : List Section) (f : Free) (q : Request) : T
   pub free : Free
   pub sound : Sound (answer st q .after) sections free
   pub desc-is : desc (answer st q .after) ≡ desc st
-  pub contents-is : contents (leavesOf sections) ≡ happened (key (desc st .k)) (map numbered (eventOf (desc st) q (answer st q))) (contents (leavesOf ss))
+  pub contents-is : recordsIn (leavesIn sections) ≡ happened (key (desc st .k)) (map numbered (eventOf (desc st) q (answer st q))) (recordsIn (leavesIn ss))
   pub keys : All (KeyOf (desc st)) (eventOf (desc st) q (answer st q))
   pub growth : Growth
   pub grows : Grows (desc st) ss sections growth

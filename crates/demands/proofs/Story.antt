@@ -11,7 +11,6 @@ use Rattle.numbers.specs.Numbers.{done, accepted}
 use Rattle.words.specs.Keys.{ones, sameKey, val}
 use Rattle.words.proofs.Values.{sameKey-val}
 use Rattle.drum.specs.declared.Description.{Description}
-use Rattle.drum.proofs.Good.{good-facts}
 use Rattle.layout.specs.Tree.{Section}
 use Rattle.rules.specs.State.{State, Outcome, desc, texts, keyIn}
 use Rattle.rules.specs.Open.{openFile}
@@ -19,12 +18,14 @@ use Rattle.rules.specs.Seek.{updat, updatSteps}
 use Rattle.rules.specs.NsertDone.{nsert, nsertSteps}
 use Rattle.rules.specs.XtendDone.{xtend, xtendSteps}
 use Rattle.rules.specs.Requests.{Request, opening, closing, seeking, advancing, inserting, deleting, updating, extending, lending, answer, left}
-use Rattle.demands.specs.History as told
+use Rattle.demands.specs.History as history
 use Rattle.demands.specs.History.{eventOf, events, withKey}
 use Rattle.demands.specs.Story.{Deed, added, replaced, removed, deedOf, deeds, added-to, in-place, stands, SeekTells}
+use Rattle.demands.proofs.Scene.{Scene, scene}
+use Rattle.demands.proofs.Refused.{impossible}
 use Rattle.demands.proofs.Lists.{All}
 use Rattle.demands.proofs.Order.{Asc, ins, hit}
-use Rattle.demands.proofs.Trees.{leavesOf, contents, key, reach}
+use Rattle.demands.proofs.Trees.{leavesIn, recordsIn, key, reach}
 use Rattle.demands.proofs.Holds.{Free, RowOk}
 use Rattle.demands.proofs.Sound.{Key, Sound}
 use Rattle.demands.proofs.Answers.{work-key, Gives}
@@ -39,20 +40,17 @@ use Rattle.demands.proofs.History.{found-exactly}
 use Rattle.demands.proofs.History as his
 use Rattle.demands.proofs.Stepped.{numbered, KeyOf, Stepped}
 use Rattle.demands.proofs.Calls.{ins-fresh, stepped}
-use Rattle.demands.proofs.Standing.{tells, with-hit, standing-same, events-keyed, rows-of, rows-ok, seek-hands}
+use Rattle.demands.proofs.Standing.{tells, with-hit, standing-same, events-keyed, rows-of, rows-ok, Ordered, ordered, seek-hands}
 use Rattle.demands.proofs.Opens.{Opens}
-use Rattle.demands.proofs.Contents.{read-in}
 use Rattle.demands.proofs.Demands.{opens, opened-desc, found-after-open}
 use Rattle.demands.proofs.Sought.{found-or-not}
 
-impossible : {A : Type 0} → _≡_ {A = Bool} true false → A
-impossible e = absurd (let z : _≡_ {A = ℕ} 0 1 = cc in omega arith)
-
-standing-append : (p : Description) (k : List ℕ) (es gs : List told.Event) (was : List (List ℕ)) → told.standing p k (es ++ gs) was ≡ told.standing p k gs (told.standing p k es was)
-unfolding told.standing
+standing-append : (p : Description) (k : List ℕ) (es gs : List history.Event) (was : List (List ℕ))
+    → history.standing p k (es ++ gs) was ≡ history.standing p k gs (history.standing p k es was)
+unfolding history.standing
 standing-append p k [] gs was = refl
-standing-append p k (told.stored r ∷ es) gs was = standing-append p k es gs _
-standing-append p k (told.removed y ∷ es) gs was = standing-append p k es gs _
+standing-append p k (history.stored r ∷ es) gs was = standing-append p k es gs _
+standing-append p k (history.removed y ∷ es) gs was = standing-append p k es gs _
 
 stands-append : (p : Description) (k : List ℕ) (es gs : List Deed) (was : List (List ℕ)) → stands p k (es ++ gs) was ≡ stands p k gs (stands p k es was)
 unfolding stands
@@ -62,28 +60,18 @@ stands-append p k (replaced r ∷ es) gs was = stands-append p k es gs _
 stands-append p k (removed y ∷ es) gs was = stands-append p k es gs _
 
 module _ (st : State) (ss : List Section) (f : Free) (h : Sound st ss f) where
-  abbrev p : Description
-  p = desc st
-
-  abbrev K : List ℕ → ℕ
-  K = key (desc st .k)
-
-  abbrev rows : List (List ℕ)
-  rows = contents (leavesOf ss)
-
-  kr : p .k ≤ p .wpr
-  kr = good-facts p (h .kept .good) .key
-
-  asc : Asc K 0 rows (reach (p .k) 0 (leavesOf ss))
-  asc = asc-rows p _ _ ss f (h .kept .holds)
+  open Scene (scene st ss) using (p, K, rows)
+  open Ordered (ordered st ss f h) using (kr, asc)
 
   -- a record that comes in had no other with its key
-  fresh-by : (w : List ℕ) (o : Outcome) {n m : ℕ} {b : Growth} {ss′ : List Section} {f′ : Free} → Gives (lending w st) ss o n m (ins K w rows) b ss′ f′ → hit K (val (keyIn p w)) rows ≡ []
+  fresh-by : (w : List ℕ) (o : Outcome) {n m : ℕ} {b : Growth} {ss′ : List Section} {f′ : Free} → Gives (lending w st) ss o n m (ins K w rows) b ss′ f′
+      → hit K (val (keyIn p w)) rows ≡ []
   unfolding lending
   fresh-by w o {n} {m} {b} {ss′} {f′} g =
-      let end : ℕ = reach (p .k) 0 (leavesOf ss′) in
-      let up : Asc K 0 (contents (leavesOf ss′)) end
-      = subst (λ (z : Description). Asc (key (z .k)) 0 (contents (leavesOf ss′)) (reach (z .k) 0 (leavesOf ss′))) (g .desc-is) (asc-rows (desc (o .after)) _ _ ss′ f′ (g .sound .kept .holds)) in
+      let end : ℕ = reach (p .k) 0 (leavesIn ss′) in
+      let up : Asc K 0 (recordsIn (leavesIn ss′)) end
+      = subst (λ (z : Description). Asc (key (z .k)) 0 (recordsIn (leavesIn ss′)) (reach (z .k) 0 (leavesIn ss′))) (g .desc-is)
+      (asc-rows (desc (o .after)) _ _ ss′ f′ (g .sound .kept .holds)) in
       ap (λ (n : ℕ). hit K n rows) (sym (work-key p w)) ∙ ins-fresh K 0 w rows end (subst (λ (z : List (List ℕ)). Asc K 0 z end) (g .contents-is) up)
 
   nsert-fresh : (w : List ℕ) → accepted (answer st (inserting w) .number) ≡ true → hit K (val (keyIn p w)) rows ≡ []
@@ -98,7 +86,8 @@ module _ (st : State) (ss : List Section) (f : Free) (h : Sound st ss f) where
       by (no-room e a B l m g) = e
 
       go : Gate (lending w st) ss f (lent-sound w st ss f h) (p .wpr) → hit K (val (keyIn p w)) rows ≡ []
-      go (stopped n ne ac nf e) = impossible (sym a ∙ ap (λ (o : Outcome). accepted (o .number)) (e (nsertSteps (texts (lending w st)) (st .session .flag) w)) ∙ ac)
+      go (stopped n ne ac nf e) =
+          impossible (sym a ∙ ap (λ (o : Outcome). accepted (o .number)) (e (nsertSteps (texts (lending w st)) (st .session .flag) w)) ∙ ac)
       go (ready r) = by (nsert-right (lending w st) ss f r)
 
   xtend-fresh : (w : List ℕ) → accepted (answer st (extending w) .number) ≡ true → hit K (val (keyIn p w)) rows ≡ []
@@ -114,7 +103,8 @@ module _ (st : State) (ss : List Section) (f : Free) (h : Sound st ss f) where
       by L (x.both l m s c g) = fresh-by w (answer st (extending w)) g
 
       go : Gate (lending w st) ss f (lent-sound w st ss f h) (p .wpr) → hit K (val (keyIn p w)) rows ≡ []
-      go (stopped n ne ac nf e) = impossible (sym a ∙ ap (λ (o : Outcome). accepted (o .number)) (e (xtendSteps (texts (lending w st)) (st .session .flag) w)) ∙ ac)
+      go (stopped n ne ac nf e) =
+          impossible (sym a ∙ ap (λ (o : Outcome). accepted (o .number)) (e (xtendSteps (texts (lending w st)) (st .session .flag) w)) ∙ ac)
       go (ready r) = let z = x.xtend-right (lending w st) ss f r in by (z .0) (z .1)
 
   updat-there : (w : List ℕ) → accepted (answer st (updating w) .number) ≡ true → (y : List ℕ) × (hit K (val (keyIn p w)) rows ≡ y ∷ [])
@@ -126,29 +116,33 @@ module _ (st : State) (ss : List Section) (f : Free) (h : Sound st ss f) where
       by (inr (y, e, ss′, f′, g, c, d)) = (y, e)
 
       go : Gate (lending w st) ss f (lent-sound w st ss f h) (p .wpr) → (y : List ℕ) × (hit K (val (keyIn p w)) rows ≡ y ∷ [])
-      go (stopped n ne ac nf e) = impossible (sym a ∙ ap (λ (o : Outcome). accepted (o .number)) (e (updatSteps (texts (lending w st)) (st .session .flag) w)) ∙ ac)
+      go (stopped n ne ac nf e) =
+          impossible (sym a ∙ ap (λ (o : Outcome). accepted (o .number)) (e (updatSteps (texts (lending w st)) (st .session .flag) w)) ∙ ac)
       go (ready r) = by (updat-right (lending w st) ss f r)
 
   module _ (k : List ℕ) (kk : Key (desc st) k) where
     with-is : withKey p k rows ≡ hit K (val k) rows
-    with-is = with-hit p kr k kk 0 rows _ asc (rows-of p (leavesOf ss) (rows-ok p ss (h .kept .holds .sized)))
+    with-is = with-hit p kr k kk 0 rows _ asc (rows-of p (leavesIn ss) (rows-ok p ss (h .kept .holds .sized)))
 
     -- the same key
     same-hit : (w : List ℕ) → Key p (keyIn p w) → sameKey (keyIn p w) k ≡ true → withKey p k rows ≡ hit K (val (keyIn p w)) rows
     same-hit w kw e =
-        let v : val (keyIn p w) ≡ val k = eqb-true (val (keyIn p w)) (val k) (sym (sameKey-val (keyIn p w) k (kw .wide) (kk .wide) (kw .long ∙ sym (kk .long))) ∙ e) in
+        let v : val (keyIn p w) ≡ val k
+        = eqb-true (val (keyIn p w)) (val k) (sym (sameKey-val (keyIn p w) k (kw .wide) (kk .wide) (kw .long ∙ sym (kk .long))) ∙ e) in
         with-is ∙ ap (λ (n : ℕ). hit K n rows) (sym v)
 
-    added-as : (w : List ℕ) → Key p (keyIn p w) → hit K (val (keyIn p w)) rows ≡ [] → told.standing p k (told.stored w ∷ []) (withKey p k rows) ≡ stands p k (added w ∷ []) (withKey p k rows)
-    unfolding told.standing stands added-to
+    added-as : (w : List ℕ) → Key p (keyIn p w) → hit K (val (keyIn p w)) rows ≡ []
+        → history.standing p k (history.stored w ∷ []) (withKey p k rows) ≡ stands p k (added w ∷ []) (withKey p k rows)
+    unfolding history.standing stands added-to
     added-as w kw none = go (sameKey (keyIn p w) k) refl
       where
         go : (t : Bool) → sameKey (keyIn p w) k ≡ t → cond t (w ∷ []) (withKey p k rows) ≡ cond t (added-to w (withKey p k rows)) (withKey p k rows)
         go true e = sym (ap (added-to w) (same-hit w kw e ∙ none))
         go false e = refl
 
-    replaced-as : (w : List ℕ) → Key p (keyIn p w) → (y : List ℕ) → hit K (val (keyIn p w)) rows ≡ y ∷ [] → told.standing p k (told.stored w ∷ []) (withKey p k rows) ≡ stands p k (replaced w ∷ []) (withKey p k rows)
-    unfolding told.standing stands in-place
+    replaced-as : (w : List ℕ) → Key p (keyIn p w) → (y : List ℕ) → hit K (val (keyIn p w)) rows ≡ y ∷ []
+        → history.standing p k (history.stored w ∷ []) (withKey p k rows) ≡ stands p k (replaced w ∷ []) (withKey p k rows)
+    unfolding history.standing stands in-place
     replaced-as w kw y one = go (sameKey (keyIn p w) k) refl
       where
         go : (t : Bool) → sameKey (keyIn p w) k ≡ t → cond t (w ∷ []) (withKey p k rows) ≡ cond t (in-place w (withKey p k rows)) (withKey p k rows)
@@ -156,18 +150,21 @@ module _ (st : State) (ss : List Section) (f : Free) (h : Sound st ss f) where
         go false e = refl
 
     -- one call
-    abbrev Same : List told.Event → List Deed → Type 0
-    Same es ds = told.standing (desc st) k es (withKey (desc st) k (contents (leavesOf ss))) ≡ stands (desc st) k ds (withKey (desc st) k (contents (leavesOf ss)))
+    abbrev Same : List history.Event → List Deed → Type 0
+    Same es ds =
+        history.standing (desc st) k es (withKey (desc st) k (recordsIn (leavesIn ss))) ≡ stands (desc st) k ds
+        (withKey (desc st) k (recordsIn (leavesIn ss)))
 
     none-same : Same [] []
-    unfolding told.standing stands
+    unfolding history.standing stands
     none-same = refl
 
-    removed-same : (y : List ℕ) → Same (told.removed y ∷ []) (removed y ∷ [])
-    unfolding told.standing stands
+    removed-same : (y : List ℕ) → Same (history.removed y ∷ []) (removed y ∷ [])
+    unfolding history.standing stands
     removed-same y = refl
 
-    if-same : (t : Bool) (e : told.Event) (d : Deed) → All (KeyOf p) (cond t (e ∷ []) []) → (t ≡ true → KeyOf p e → Same (e ∷ []) (d ∷ [])) → Same (cond t (e ∷ []) []) (cond t (d ∷ []) [])
+    if-same : (t : Bool) (e : history.Event) (d : Deed) → All (KeyOf p) (cond t (e ∷ []) []) → (t ≡ true → KeyOf p e → Same (e ∷ []) (d ∷ []))
+        → Same (cond t (e ∷ []) []) (cond t (d ∷ []) [])
     if-same true e d ks z = z refl (ks .0)
     if-same false e d ks z = none-same
 
@@ -177,45 +174,52 @@ module _ (st : State) (ss : List Section) (f : Free) (h : Sound st ss f) where
     call-same closing ks = none-same
     call-same (seeking w) ks = none-same
     call-same (advancing w) ks = none-same
-    call-same (inserting w) ks = if-same (accepted (answer st (inserting w) .number)) (told.stored w) (added w) ks (λ a kw. added-as w kw (nsert-fresh w a))
-    call-same (deleting w) ks = if-same (eqb (answer st (deleting w) .number) done) (told.removed (keyIn p w)) (removed (keyIn p w)) ks (λ a kw. removed-same (keyIn p w))
-    call-same (updating w) ks = if-same (accepted (answer st (updating w) .number)) (told.stored w) (replaced w) ks (λ a kw. let y = updat-there w a in replaced-as w kw (y .0) (y .1))
-    call-same (extending w) ks = if-same (accepted (answer st (extending w) .number)) (told.stored w) (added w) ks (λ a kw. added-as w kw (xtend-fresh w a))
+    call-same (inserting w) ks = if-same (accepted (answer st (inserting w) .number)) (history.stored w) (added w) ks (λ a kw. added-as w kw (nsert-fresh w a))
+    call-same (deleting w) ks =
+        if-same (eqb (answer st (deleting w) .number) done) (history.removed (keyIn p w)) (removed (keyIn p w)) ks (λ a kw. removed-same (keyIn p w))
+    call-same (updating w) ks =
+        if-same (accepted (answer st (updating w) .number)) (history.stored w) (replaced w) ks
+        (λ a kw. let y = updat-there w a in replaced-as w kw (y .0) (y .1))
+    call-same (extending w) ks = if-same (accepted (answer st (extending w) .number)) (history.stored w) (added w) ks (λ a kw. added-as w kw (xtend-fresh w a))
 
     -- the records with the key after the call
-    with-after : (q : Request) (z : Stepped st ss f q) → withKey p k (contents (leavesOf (z .sections))) ≡ told.standing p k (eventOf p q (answer st q)) (withKey p k rows)
+    with-after : (q : Request) (z : Stepped st ss f q)
+        → withKey p k (recordsIn (leavesIn (z .sections))) ≡ history.standing p k (eventOf p q (answer st q)) (withKey p k rows)
     with-after q z =
-        let es : List told.Event = eventOf p q (answer st q) in
-        let top : ℕ = reach (p .k) 0 (leavesOf ss) in
+        let es : List history.Event = eventOf p q (answer st q) in
+        let top : ℕ = reach (p .k) 0 (leavesIn ss) in
         let below-top : val (ones (p .k)) ≤ top = omega (arith, h .kept .holds .top) in
-        let z-asc : Asc K 0 (contents (leavesOf (z .sections))) (reach (p .k) 0 (leavesOf (z .sections)))
-        = subst (λ (d : Description). Asc (key (d .k)) 0 (contents (leavesOf (z .sections))) (reach (d .k) 0 (leavesOf (z .sections)))) (z .desc-is) (asc-rows (desc (answer st q .after)) _ _ (z .sections) (z .free) (z .sound .kept .holds)) in
-        let z-ok = subst (λ (d : Description). All (λ r. RowOk d r) (contents (leavesOf (z .sections)))) (z .desc-is)
-        (rows-of (desc (answer st q .after)) (leavesOf (z .sections)) (rows-ok (desc (answer st q .after)) (z .sections) (z .sound .kept .holds .sized))) in
-        with-hit p kr k kk 0 (contents (leavesOf (z .sections))) _ z-asc z-ok ∙ ap (hit K (val k)) (z .contents-is)
+        let z-asc : Asc K 0 (recordsIn (leavesIn (z .sections))) (reach (p .k) 0 (leavesIn (z .sections)))
+        = subst (λ (d : Description). Asc (key (d .k)) 0 (recordsIn (leavesIn (z .sections))) (reach (d .k) 0 (leavesIn (z .sections)))) (z .desc-is)
+        (asc-rows (desc (answer st q .after)) _ _ (z .sections) (z .free) (z .sound .kept .holds)) in
+        let z-ok = subst (λ (d : Description). All (λ r. RowOk d r) (recordsIn (leavesIn (z .sections)))) (z .desc-is)
+        (rows-of (desc (answer st q .after)) (leavesIn (z .sections)) (rows-ok (desc (answer st q .after)) (z .sections) (z .sound .kept .holds .sized))) in
+        with-hit p kr k kk 0 (recordsIn (leavesIn (z .sections))) _ z-asc z-ok ∙ ap (hit K (val k)) (z .contents-is)
         ∙ found-exactly K top (map numbered es) rows asc (events-keyed p kr k kk top below-top es (z .keys)) (val k) (omega (arith, kk .below))
         ∙ ap (h-standing es) (sym with-is) ∙ sym (standing-same p kr k kk es _ (z .keys))
       where
-        h-standing : List told.Event → List (List ℕ) → List (List ℕ)
-        h-standing es was = his.standing K (val k) (map numbered es) was
+        h-standing : List history.Event → List (List ℕ) → List (List ℕ)
+        h-standing es was = his.lastPut K (val k) (map numbered es) was
 
 -- a run of calls
 run-same : (p : Description) (k : List ℕ) → Key p k → (qs : List Request) (st : State) (ss : List Section) (f : Free) → Sound st ss f → desc st ≡ p
-    → told.standing p k (events st qs) (withKey p k (contents (leavesOf ss))) ≡ stands p k (deeds st qs) (withKey p k (contents (leavesOf ss)))
+    → history.standing p k (events st qs) (withKey p k (recordsIn (leavesIn ss))) ≡ stands p k (deeds st qs) (withKey p k (recordsIn (leavesIn ss)))
 unfolding events deeds
-run-same p k kk [] st ss f h e = unfold told.standing stands in refl
+run-same p k kk [] st ss f h e = unfold history.standing stands in refl
 run-same p k kk (q ∷ qs) st ss f h e =
     let z : Stepped st ss f q = stepped st ss f h q in
-    let es : List told.Event = eventOf (desc st) q (answer st q) in
+    let es : List history.Event = eventOf (desc st) q (answer st q) in
     let ds : List Deed = deedOf (desc st) q (answer st q) in
-    let was : List (List ℕ) = withKey p k (contents (leavesOf ss)) in
+    let was : List (List ℕ) = withKey p k (recordsIn (leavesIn ss)) in
     let kd : Key (desc st) k = subst (λ (d : Description). Key d k) (sym e) kk in
-    let now : told.standing p k es was ≡ stands p k ds was
-    = subst (λ (d : Description). told.standing d k es (withKey d k (contents (leavesOf ss))) ≡ stands d k ds (withKey d k (contents (leavesOf ss)))) e (call-same st ss f h k kd q (z .keys)) in
-    let then : withKey p k (contents (leavesOf (z .sections))) ≡ told.standing p k es was
-    = subst (λ (d : Description). withKey d k (contents (leavesOf (z .sections))) ≡ told.standing d k es (withKey d k (contents (leavesOf ss)))) e (with-after st ss f h k kd q z) in
+    let now : history.standing p k es was ≡ stands p k ds was
+    = subst (λ (d : Description). history.standing d k es (withKey d k (recordsIn (leavesIn ss))) ≡ stands d k ds (withKey d k (recordsIn (leavesIn ss)))) e
+    (call-same st ss f h k kd q (z .keys)) in
+    let then : withKey p k (recordsIn (leavesIn (z .sections))) ≡ history.standing p k es was
+    = subst (λ (d : Description). withKey d k (recordsIn (leavesIn (z .sections))) ≡ history.standing d k es (withKey d k (recordsIn (leavesIn ss)))) e
+    (with-after st ss f h k kd q z) in
     standing-append p k es (events (answer st q .after) qs) was
-    ∙ ap (told.standing p k (events (answer st q .after) qs)) (sym then)
+    ∙ ap (history.standing p k (events (answer st q .after) qs)) (sym then)
     ∙ run-same p k kk qs (answer st q .after) (z .sections) (z .free) (z .sound) (z .desc-is ∙ e)
     ∙ ap (stands p k (deeds (answer st q .after) qs)) (then ∙ now)
     ∙ sym (stands-append p k ds (deeds (answer st q .after) qs) was)
@@ -233,10 +237,10 @@ seek-tells st marks o =
           let now : State = left opened qs in
           let u = found-or-not (lending w now) (r .0) (r .1) (lent-sound w now (r .0) (r .1) (r .2)) q in
           let t = tells (desc st) qs opened (z .tree .sections) _ (z .sound) d in
-          let s = seek-hands now (t .sections) (t .free) (t .sound) w u (gate (lending w now) (t .sections) (t .free) (lent-sound w now (t .sections) (t .free) (t .sound)) (desc now .k)) in
+          let s
+          = seek-hands now (t .sections) (t .free) (t .sound) w u
+          (gate (lending w now) (t .sections) (t .free) (lent-sound w now (t .sections) (t .free) (t .sound)) (desc now .k)) in
           let kk : Key (desc st) (keyIn (desc st) w) = subst (λ (p : Description). Key p (keyIn p w)) (t .desc-is) (s .0) in
           found-after-open st marks o (z .tree) (z .stands) qs w u
-          ∙ ap (λ (rows : List (List ℕ)). told.standing (desc st) (keyIn (desc st) w) (events opened qs) (withKey (desc st) (keyIn (desc st) w) rows)) (read-in (z .tree .sections))
-          ∙ run-same (desc st) (keyIn (desc st) w) kk qs opened (z .tree .sections) _ (z .sound) d
-          ∙ ap (λ (rows : List (List ℕ)). stands (desc st) (keyIn (desc st) w) (deeds opened qs) (withKey (desc st) (keyIn (desc st) w) rows)) (sym (read-in (z .tree .sections))),
+          ∙ run-same (desc st) (keyIn (desc st) w) kk qs opened (z .tree .sections) _ (z .sound) d,
     )

@@ -15,7 +15,8 @@ use Rattle.table.proofs.RowSplits.{table-low, table-high}
 use Rattle.demands.proofs.Lists.{all-append}
 use Rattle.demands.proofs.Rows.{Each}
 pub use Rattle.table.proofs.RowSplits.{bound-table}
-pub use Rattle.table.proofs.RowTexts.{count-table, length-table, table-insert, table-remove, table-replace, table-row, table-key, table-rekey, table-rename, table-enter}
+pub use Rattle.table.proofs.RowTexts.{count-table, length-table, table-insert, table-remove, table-replace, table-row, table-key, table-rekey, table-rename}
+pub use Rattle.table.proofs.RowTexts.{table-enter}
 
 -- the lower part of c + 1 rows
 pub half : (c : ℕ) → 2 ≤ c → (2 ≤ lowCount c) × (lowCount c ≤ c)
@@ -30,12 +31,18 @@ module _ (h : Shape) (one : h .base ≡ 1) (wpb : ℕ) (bs cs : List (List ℕ))
   table-names hs k hk b =
       let rows : List (List ℕ) = bs ++ (k ++ (b ∷ [])) ∷ cs in
       let each : Each (h .stride) rows = all-append (λ r. length r ≡ h .stride) bs ((k ++ (b ∷ [])) ∷ cs) hb (rw (length-append k (b ∷ []), hk, hs), hc) in
-      ap (λ (t : List ℕ). blockIn h t (length bs)) (table-encode wpb (h .stride) rows each) ∙ entry-block h (length rows ∷ []) one hs bs hb k hk b cs (behind wpb (h .stride) rows)
+      ap (λ (t : List ℕ). blockIn h t (length bs)) (table-encode wpb (h .stride) rows each)
+      ∙ entry-block h (length rows ∷ []) one hs bs hb k hk b cs (behind wpb (h .stride) rows)
 
   -- a full table of n rows and one row more, in two
-  module _ (r : List ℕ) (hr : length r ≡ h .stride) (n : ℕ) (en : length (bs ++ cs) ≡ n) (us vs : List (List ℕ)) (cut : bs ++ r ∷ cs ≡ us ++ vs) (low : length us ≡ lowCount n) where
+  module _ (r : List ℕ) (hr : length r ≡ h .stride) (n : ℕ) (en : length (bs ++ cs) ≡ n) (us vs : List (List ℕ)) (cut : bs ++ r ∷ cs ≡ us ++ vs)
+      (low : length us ≡ lowCount n) where
     pub low-table : lowText wpb h n (length bs) r (table wpb (bs ++ cs)) ≡ table wpb us
-    low-table = ap (λ (m : ℕ). lowText wpb h m (length bs) r (table wpb (bs ++ cs))) (sym en) ∙ table-low wpb h one bs cs hb hc r hr us vs cut (low ∙ ap (λ (m : ℕ). lowCount m) (sym en))
+    low-table =
+        ap (λ (m : ℕ). lowText wpb h m (length bs) r (table wpb (bs ++ cs))) (sym en)
+        ∙ table-low wpb h one bs cs hb hc r hr us vs cut (low ∙ ap (λ (m : ℕ). lowCount m) (sym en))
 
     pub high-table : highText wpb h n (length bs) r (table wpb (bs ++ cs)) ≡ table wpb vs
-    high-table = ap (λ (m : ℕ). highText wpb h m (length bs) r (table wpb (bs ++ cs))) (sym en) ∙ table-high wpb h one bs cs hb hc r hr us vs cut (low ∙ ap (λ (m : ℕ). lowCount m) (sym en))
+    high-table =
+        ap (λ (m : ℕ). highText wpb h m (length bs) r (table wpb (bs ++ cs))) (sym en)
+        ∙ table-high wpb h one bs cs hb hc r hr us vs cut (low ∙ ap (λ (m : ℕ). lowCount m) (sym en))

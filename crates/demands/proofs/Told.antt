@@ -1,7 +1,7 @@
 -- A file that holds a tree's cells is one in which the tree stands (layout's Holds): the way back.
 use Prim.Native.Nat.{ℕ, zero, suc, _+_, _-_, _≤_, _<_}
 use mathlib.Core.Bool.{Bool, true, false, cond, _&&_}
-use mathlib.Core.Path.{_≡_, refl, sym, ap, ap₂, _∙_, subst}
+use mathlib.Core.Path.{_≡_, refl, sym, ap, ap₂, _∙_}
 use mathlib.Core.List.{List, [], _∷_, _++_, map}
 use native.Mathlib.Omega.{arith}
 use native.Mathlib.Decide.{ℕ-discrete}
@@ -17,25 +17,25 @@ use Rattle.drum.specs.Params.{I, masterSize, goodParams, fileSize}
 use Rattle.drum.specs.Blocks.{blockAt, Block}
 use Rattle.drum.proofs.Good.{good-facts}
 use Rattle.layout.specs.Create.{endRecord}
-use Rattle.layout.specs.Tree.{Leaf, Section, Tree, lastOf, boundOf, leavesIn, recordsIn, blocksIn, headOf, times}
+use Rattle.layout.specs.Tree.{Leaf, Section, Tree, lastIn, leavesIn, recordsIn, blocksIn, headOf, times}
 use Rattle.layout.specs.Holds as lay
 use Rattle.layout.proofs.Lists.{last-right}
 use Rattle.demands.proofs.Lists.{All, all-append, all-left, all-right}
 use Rattle.demands.proofs.Cells as cells
 use Rattle.demands.proofs.Rows.{length-cat}
-use Rattle.demands.proofs.Trees.{leavesOf, contents, key, reach, leafCell, cellsOf}
+use Rattle.demands.proofs.Trees.{key, reach, leafCell, cellsOf}
 use Rattle.demands.proofs.Holds as held
 use Rattle.demands.proofs.Locate.{reach-last}
 use Rattle.demands.proofs.Blocks.{masterOf}
 use Rattle.demands.proofs.Entries.{master-rows, last-bounded}
 use Rattle.demands.proofs.Places.{inside-low}
 use Rattle.demands.proofs.Sound.{Ended}
-use Rattle.demands.proofs.Reader.{bound-last, leaves-in, records-in, index-same, detail-same, master-same, tree-times, chain-times, fresh-times}
+use Rattle.demands.proofs.Reader.{bound-last, index-same, detail-same, master-same, tree-times, chain-times, fresh-times}
 use Rattle.demands.proofs.Ascends.{told-first}
 use Rattle.demands.proofs.Words.{words}
 
 module _ (p : Description) (g : goodParams p ≡ true) (f : List ℕ) (size : length f ≡ fileSize p) (ss : List Section) (fr : held.Free)
-    (h : held.Holds p (masterOf p f) (blockAt p f) ss fr) (z : Ended p (contents (leavesOf ss))) where
+    (h : held.HoldsCells p (masterOf p f) (blockAt p f) ss fr) (z : Ended p (recordsIn (leavesIn ss))) where
   -- the tree
   abbrev pub tree : Tree
   tree = record { sections = ss; chain = fr .chain; lowest = fr .lowest }
@@ -43,22 +43,22 @@ module _ (p : Description) (g : goodParams p ≡ true) (f : List ℕ) (size : le
   kr : p .k ≤ p .wpr
   kr = good-facts p g .key
 
-  leaves-ok : (zs : List Section) → All (held.SectionOk p) zs → All (held.LeafOk p) (leavesOf zs)
+  leaves-ok : (zs : List Section) → All (held.SectionOk p) zs → All (held.LeafFits p) (leavesIn zs)
   leaves-ok [] q = tt
-  leaves-ok (s ∷ zs) q = all-append (held.LeafOk p) (s .leaves) _ (q .0 .leaves) (leaves-ok zs (q .1))
+  leaves-ok (s ∷ zs) q = all-append (held.LeafFits p) (s .leaves) _ (q .0 .leaves) (leaves-ok zs (q .1))
 
-  oks : All (held.LeafOk p) (leavesOf ss)
+  oks : All (held.LeafFits p) (leavesIn ss)
   oks = leaves-ok ss (h .sized)
 
   some-section : 1 ≤ length ss
   some-section = go ss (h .top)
     where
-      go : (zs : List Section) → reach (p .k) 0 (leavesOf zs) ≡ suc (val (ones (p .k))) → 1 ≤ length zs
+      go : (zs : List Section) → reach (p .k) 0 (leavesIn zs) ≡ suc (val (ones (p .k))) → 1 ≤ length zs
       go [] e = absurd (omega (arith, e))
       go (s ∷ zs) e = omega arith
 
-  some-leaf : 1 ≤ length (leavesOf ss)
-  some-leaf = go (leavesOf ss) (h .top)
+  some-leaf : 1 ≤ length (leavesIn ss)
+  some-leaf = go (leavesIn ss) (h .top)
     where
       go : (ls : List Leaf) → reach (p .k) 0 ls ≡ suc (val (ones (p .k))) → 1 ≤ length ls
       go [] e = absurd (omega (arith, e))
@@ -77,12 +77,15 @@ module _ (p : Description) (g : goodParams p ≡ true) (f : List ℕ) (size : le
   join (x ∷ xs) ys a b = (a .0, join xs ys (a .1) b)
 
   texts : (zs : List Section) → cells.Agree (blockAt p f) (cellsOf (p .wpb) zs) → lay.All (lay.IndexIn p f) zs × lay.All (lay.DetailIn p f) (leavesIn zs)
-  unfolding lay.All leavesIn cellsOf
+  unfolding lay.All cellsOf
   texts [] q = (tt, tt)
   texts (s ∷ zs) q =
       let P : cells.Cell → Type 0 = λ c. blockAt p f (c .0) ≡ c .1 in
-      let rest = texts zs (all-right P (map (leafCell (p .wpb)) (s .leaves)) _ (q .1)) in
-      ((q .0 ∙ sym (index-same p (s .leaves)), rest .0), join (s .leaves) (leavesIn zs) (agree-leaves (s .leaves) (all-left P (map (leafCell (p .wpb)) (s .leaves)) _ (q .1))) (rest .1))
+      let rest = texts zs (all-right P (map (leafCell (p .wpb)) (s .leaves)) _ (q .1)) in (
+        (q .0 ∙ sym (index-same p (s .leaves)), rest .0),
+        join (s .leaves) (leavesIn zs)
+            (agree-leaves (s .leaves) (all-left P (map (leafCell (p .wpb)) (s .leaves)) _ (q .1))) (rest .1),
+      )
 
   chain-texts : (cs : List ℕ) → cells.Agree (blockAt p f) (held.chainCells p cs) → lay.ChainIn p f cs
   unfolding lay.ChainIn headOf
@@ -113,7 +116,7 @@ module _ (p : Description) (g : goodParams p ≡ true) (f : List ℕ) (size : le
   -- ---- each block once
 
   counts : (b : ℕ) → times b (blocksIn ss) + times b (fr .chain) + cond (leb (fr .lowest) b && leb (suc b) (fr .lowest + fr .spare)) 1 0 ≡ held.inside (p .n) b
-  unfolding held.freeCells cells.times
+  unfolding held.freeCells cells.cellTimes
   counts b =
       let w : cells.Cell → ℕ = λ c. cells.is (c .0) b in
       omega (
@@ -140,7 +143,8 @@ module _ (p : Description) (g : goodParams p ≡ true) (f : List ℕ) (size : le
           inside-low (p .n) (fr .lowest) (omega (
             arith,
             counts (fr .lowest),
-            ap (λ (t : Bool). cond {A = ℕ} t 1 0) (ap₂ (λ (x y : Bool). x && y) (le-leb (fr .lowest) (fr .lowest) (omega arith)) (le-leb (suc (fr .lowest)) (fr .lowest + fr .spare) (omega (arith, e)))),
+            ap (λ (t : Bool). cond {A = ℕ} t 1 0) (ap₂ (λ (x y : Bool). x && y) (le-leb (fr .lowest) (fr .lowest) (omega arith))
+                (le-leb (suc (fr .lowest)) (fr .lowest + fr .spare) (omega (arith, e)))),
           )) .0
 
   -- ---- together
@@ -150,8 +154,8 @@ module _ (p : Description) (g : goodParams p ≡ true) (f : List ℕ) (size : le
   counted-in [] q = tt
   counted-in (s ∷ zs) q = ((q .0 .some, q .0 .room), counted-in zs (q .1))
 
-  pub told : lay.Holds p f tree
-  told = record {
+  pub told-holds : lay.Holds p f tree
+  told-holds = record {
     size = size;
     words = words p g f size ss fr h;
     master = master;
@@ -161,9 +165,9 @@ module _ (p : Description) (g : goodParams p ≡ true) (f : List ℕ) (size : le
     unused = λ b l u. fresh-text (fr .lowest) (fr .spare) b l (omega (arith, h .numbers)) (in-free .1);
     control = (some-section, h .sections);
     counted = counted-in ss (h .sized);
-    leaves = subst (lay.LeavesOk p []) (sym (leaves-in ss)) (told-first p kr (leavesOf ss) oks (h .ranged));
-    last = ap boundOf (leaves-in ss) ∙ bound-last (leavesOf ss) ∙ top;
-    end = ap lastOf (ap recordsIn (leaves-in ss) ∙ records-in (leavesOf ss) ∙ z .is) ∙ last-right (z .front) (endRecord p ∷ []) (omega arith) ∙ last-one (endRecord p);
+    leaves = told-first p kr (leavesIn ss) oks (h .ranged);
+    last = bound-last (leavesIn ss) ∙ top;
+    end = ap lastIn (z .is) ∙ last-right (z .front) (endRecord p ∷ []) (omega arith) ∙ last-one (endRecord p);
     once = λ b i. sum b i;
     reached = all-times (blocksIn ss) (λ b l. inside-low (p .n) b (omega (arith, counts b)));
     linked = all-times (fr .chain) (λ b l. inside-low (p .n) b (omega (arith, counts b)));
@@ -171,20 +175,25 @@ module _ (p : Description) (g : goodParams p ≡ true) (f : List ℕ) (size : le
   }
     where
       master : part 0 (masterSize p) f ≡ lay.masterText p tree
-      master = unfold masterOf part held.masterText in (h .master-is ∙ sym (master-same p tree (length-cat (p .k + 1) (map (held.masterEntry p) ss) (master-rows p ss (h .sized)))))
+      master =
+          unfold masterOf part held.masterFor in
+          (h .master-is ∙ sym (master-same p tree (length-cat (p .k + 1) (map (held.masterEntry p) ss) (master-rows p ss (h .sized)))))
 
-      top : held.lastBound [] (leavesOf ss) ≡ ones (p .k)
+      top : held.lastBound [] (leavesIn ss) ≡ ones (p .k)
       top =
-          let lb = last-bounded p [] (leavesOf ss) some-leaf oks in
-          val-inj (held.lastBound [] (leavesOf ss)) (ones (p .k)) (lb .1) (allWords-replicate (p .k) topWord (omega arith)) (lb .0 ∙ sym (length-replicate {A = ℕ} (p .k) topWord))
-          (omega (arith, h .top, reach-last (p .k) 0 [] (leavesOf ss) some-leaf))
+          let lb = last-bounded p [] (leavesIn ss) some-leaf oks in
+          val-inj (held.lastBound [] (leavesIn ss)) (ones (p .k)) (lb .1) (allWords-replicate (p .k) topWord (omega arith))
+          (lb .0 ∙ sym (length-replicate {A = ℕ} (p .k) topWord))
+          (omega (arith, h .top, reach-last (p .k) 0 [] (leavesIn ss) some-leaf))
 
-      last-one : (y : List ℕ) → lastOf (y ∷ []) ≡ y
-      last-one y = unfold lastOf in refl
+      last-one : (y : List ℕ) → lastIn (y ∷ []) ≡ y
+      last-one y = unfold lastIn in refl
 
       sum : (b : ℕ) → Block p b → times b (blocksIn ss) + times b (fr .chain) + cond (leb (fr .lowest) b) 1 0 ≡ 1
       sum b i =
-          ap (λ (t : Bool). times b (blocksIn ss) + times b (fr .chain) + cond {A = ℕ} t 1 0) (sym (ap (λ (t : Bool). leb (fr .lowest) b && t) (le-leb (suc b) (fr .lowest + fr .spare) (omega (arith, h .numbers))) ∙ and-right (leb (fr .lowest) b)))
+          ap (λ (t : Bool). times b (blocksIn ss) + times b (fr .chain) + cond {A = ℕ} t 1 0)
+          (sym (ap (λ (t : Bool). leb (fr .lowest) b && t) (le-leb (suc b) (fr .lowest + fr .spare) (omega (arith, h .numbers))) ∙ and-right
+          (leb (fr .lowest) b)))
           ∙ counts b ∙ inside-one b i
         where
           and-right : (x : Bool) → (x && true) ≡ x

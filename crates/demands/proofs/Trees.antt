@@ -6,25 +6,16 @@ use native.Mathlib.Omega.{arith}
 use lib.ListN.{take}
 use Rattle.words.specs.Keys.{val}
 use Rattle.layout.specs.Tree.{Leaf, Section}
+pub use Rattle.layout.specs.Tree.{leavesIn, recordsIn}
+pub use Rattle.layout.proofs.Lists.{records-append}
 use Rattle.demands.proofs.Order.{Asc, asc-append}
 use Rattle.demands.proofs.Cells.{Cell}
 unfoldable pub use Rattle.table.specs.Rows.{table}
 
-abbrev pub leavesOf : List Section → List Leaf
-leavesOf [] = []
-leavesOf (s ∷ ss) = s .leaves ++ leavesOf ss
-
-abbrev pub contents : List Leaf → List (List ℕ)
-contents [] = []
-contents (l ∷ ls) = l .records ++ contents ls
-
-pub leaves-append : (xs ys : List Section) → leavesOf (xs ++ ys) ≡ leavesOf xs ++ leavesOf ys
-leaves-append [] ys = refl
-leaves-append (x ∷ xs) ys = rw (leaves-append xs ys) (sym (append-assoc (x .leaves) (leavesOf xs) (leavesOf ys)))
-
-pub contents-append : (xs ys : List Leaf) → contents (xs ++ ys) ≡ contents xs ++ contents ys
-contents-append [] ys = refl
-contents-append (x ∷ xs) ys = rw (contents-append xs ys) (sym (append-assoc (x .records) (contents xs) (contents ys)))
+-- the leaves of two lists of sections
+pub leavesIn-append : (xs ys : List Section) → leavesIn (xs ++ ys) ≡ leavesIn xs ++ leavesIn ys
+leavesIn-append [] ys = refl
+leavesIn-append (x ∷ xs) ys = rw (leavesIn-append xs ys) (sym (append-assoc (x .leaves) (leavesIn xs) (leavesIn ys)))
 
 -- ---- the order: over the number of a key's words
 
@@ -60,18 +51,20 @@ module _ (k : ℕ) where
   ranged-right lo (x ∷ xs) ys h = ranged-right (suc (bd x)) xs ys (h .1)
 
   -- the contents of a ranged list of leaves ascend
-  pub ranged-asc : (lo : ℕ) (ls : List Leaf) → Ranged lo ls → Asc key lo (contents ls) (reach lo ls)
+  pub ranged-asc : (lo : ℕ) (ls : List Leaf) → Ranged lo ls → Asc key lo (recordsIn ls) (reach lo ls)
   ranged-asc lo [] h = omega arith
-  ranged-asc lo (l ∷ ls) h = asc-append key lo (l .records) (suc (bd l)) (contents ls) (reach (suc (bd l)) ls) (h .0) (ranged-asc (suc (bd l)) ls (h .1))
+  ranged-asc lo (l ∷ ls) h = asc-append key lo (l .records) (suc (bd l)) (recordsIn ls) (reach (suc (bd l)) ls) (h .0) (ranged-asc (suc (bd l)) ls (h .1))
 
   -- leaves in the middle give way to others that end where they ended
-  pub ranged-swap : (lo : ℕ) (bs ls ls′ cs : List Leaf) → Ranged lo (bs ++ (ls ++ cs)) → Ranged (reach lo bs) ls′ → reach (reach lo bs) ls′ ≡ reach (reach lo bs) ls
+  pub ranged-swap : (lo : ℕ) (bs ls ls′ cs : List Leaf) → Ranged lo (bs ++ (ls ++ cs)) → Ranged (reach lo bs) ls′
+      → reach (reach lo bs) ls′ ≡ reach (reach lo bs) ls
       → Ranged lo (bs ++ (ls′ ++ cs))
   ranged-swap lo bs ls ls′ cs h g e =
       let m : Ranged (reach lo bs) (ls ++ cs) = ranged-right lo bs (ls ++ cs) h in
       ranged-append lo bs (ls′ ++ cs) (ranged-left lo bs (ls ++ cs) h) (ranged-append (reach lo bs) ls′ cs g (rw e (ranged-right (reach lo bs) ls cs m)))
 
-  pub reach-swap : (lo : ℕ) (bs ls ls′ cs : List Leaf) → reach (reach lo bs) ls′ ≡ reach (reach lo bs) ls → reach lo (bs ++ (ls′ ++ cs)) ≡ reach lo (bs ++ (ls ++ cs))
+  pub reach-swap : (lo : ℕ) (bs ls ls′ cs : List Leaf) → reach (reach lo bs) ls′ ≡ reach (reach lo bs) ls
+      → reach lo (bs ++ (ls′ ++ cs)) ≡ reach lo (bs ++ (ls ++ cs))
   reach-swap lo bs ls ls′ cs e = simp reach-append (rw e)
 
 -- ---- the cells that a tree asks for

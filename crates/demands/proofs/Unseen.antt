@@ -18,9 +18,10 @@ use Rattle.layout.proofs.Unique.{one-tree}
 use Rattle.rules.specs.State.{State, Outcome, desc, keyIn, lent}
 use Rattle.rules.specs.Close.{view}
 use Rattle.rules.specs.Requests.{Request, opening, closing, seeking, advancing, inserting, deleting, updating, extending, given, answer}
-use Rattle.rules.specs.Position.{Positions, Rests}
-use Rattle.rules.specs.Computing.{computing}
-use Rattle.rules.proofs.Position.{positions}
+use Rattle.demands.specs.Position.{Positions, Rests}
+use Rattle.rules.proofs.Computing.{computing}
+use Rattle.demands.proofs.Refused.{impossible}
+use Rattle.demands.proofs.Position.{positions}
 use Rattle.demands.specs.History.{eventOf, withKey}
 use Rattle.demands.specs.Promises.{putBack}
 use Rattle.demands.specs.Contents.{Contains, changed}
@@ -34,7 +35,7 @@ use Rattle.demands.proofs.Stepped.{Stepped}
 use Rattle.demands.proofs.Calls.{stepped}
 use Rattle.demands.proofs.Durable.{sound-closes}
 use Rattle.demands.proofs.Views.{shown}
-use Rattle.demands.proofs.Routines.{impossible, Fine, by-sound, right-calls, answer-fine, answer-answers, demand-2}
+use Rattle.demands.proofs.Routines.{Fine, by-sound, right-calls, answer-fine, answer-answers, demand-2}
 use Rattle.demands.proofs.WrongRoutines.{small, resting, fresh, begin, marks₄, five, end, good, fresh-rows, begin-holds, both-there}
 
 -- ---- position forgotten

@@ -16,8 +16,8 @@ use Rattle.demands.specs.Formula.{M, S, s, X, x, allTransfers, shares, W
 use Rattle.demands.specs.Nearest.{Nearest}
 use Rattle.demands.proofs.Lists.{All, all-append}
 use Rattle.layout.specs.Tree.{Leaf, Section}
-use Rattle.demands.proofs.Trees.{leavesOf}
-use Rattle.demands.proofs.Holds.{Free, LeafOk, SectionOk}
+use Rattle.demands.proofs.Trees.{leavesIn}
+use Rattle.demands.proofs.Holds.{Free, LeafFits, SectionOk}
 use Rattle.demands.proofs.Sound.{Sound}
 use Rattle.demands.proofs.Potential.{lastOr, paid-same, paid-halves, paid-first, paid-fills}
 use Rattle.demands.proofs.Growth.{counts, sizes, Growth, grown, plus, nothing, Tally, Grows, tally-made}
@@ -34,17 +34,26 @@ record Seen (st : State) (q : Request) (o : Outcome) (g : Growth) : Type 0 where
   starts : ofXtend (newDetails st o) q ≡ g .starts
   index-starts : ofXtend (newIndexes st o) q ≡ g .index-starts
 
-sees : (st : State) (q : Request) (o : Outcome) (g : Growth) → Brought q o g → newDetails st o ≡ g .splits + g .starts → newIndexes st o ≡ g .index-splits + g .index-starts
+sees : (st : State) (q : Request) (o : Outcome) (g : Growth) → Brought q o g → newDetails st o ≡ g .splits + g .starts
+    → newIndexes st o ≡ g .index-splits + g .index-starts
     → Seen st q o g
 unfolding ofNsert ofXtend
-sees st (opening marks) o g b d i = subst (Seen st (opening marks) o) (sym b) (record { records = refl; splits = refl; index-splits = refl; starts = refl; index-starts = refl })
-sees st closing o g b d i = subst (Seen st closing o) (sym b) (record { records = refl; splits = refl; index-splits = refl; starts = refl; index-starts = refl })
-sees st (seeking w) o g b d i = subst (Seen st (seeking w) o) (sym b) (record { records = refl; splits = refl; index-splits = refl; starts = refl; index-starts = refl })
-sees st (advancing w) o g b d i = subst (Seen st (advancing w) o) (sym b) (record { records = refl; splits = refl; index-splits = refl; starts = refl; index-starts = refl })
-sees st (inserting w) o g b d i = record { records = omega arith; splits = omega arith; index-splits = omega arith; starts = omega arith; index-starts = omega arith }
-sees st (deleting w) o g b d i = subst (Seen st (deleting w) o) (sym b) (record { records = refl; splits = refl; index-splits = refl; starts = refl; index-starts = refl })
-sees st (updating w) o g b d i = subst (Seen st (updating w) o) (sym b) (record { records = refl; splits = refl; index-splits = refl; starts = refl; index-starts = refl })
-sees st (extending w) o g b d i = record { records = omega arith; splits = omega arith; index-splits = omega arith; starts = omega arith; index-starts = omega arith }
+sees st (opening marks) o g b d i =
+    subst (Seen st (opening marks) o) (sym b) (record { records = refl; splits = refl; index-splits = refl; starts = refl; index-starts = refl })
+sees st closing o g b d i =
+    subst (Seen st closing o) (sym b) (record { records = refl; splits = refl; index-splits = refl; starts = refl; index-starts = refl })
+sees st (seeking w) o g b d i =
+    subst (Seen st (seeking w) o) (sym b) (record { records = refl; splits = refl; index-splits = refl; starts = refl; index-starts = refl })
+sees st (advancing w) o g b d i =
+    subst (Seen st (advancing w) o) (sym b) (record { records = refl; splits = refl; index-splits = refl; starts = refl; index-starts = refl })
+sees st (inserting w) o g b d i =
+    record { records = omega arith; splits = omega arith; index-splits = omega arith; starts = omega arith; index-starts = omega arith }
+sees st (deleting w) o g b d i =
+    subst (Seen st (deleting w) o) (sym b) (record { records = refl; splits = refl; index-splits = refl; starts = refl; index-starts = refl })
+sees st (updating w) o g b d i =
+    subst (Seen st (updating w) o) (sym b) (record { records = refl; splits = refl; index-splits = refl; starts = refl; index-starts = refl })
+sees st (extending w) o g b d i =
+    record { records = omega arith; splits = omega arith; index-splits = omega arith; starts = omega arith; index-starts = omega arith }
 
 module _ (st : State) (ss : List Section) (f : Free) (h : Sound st ss f) (q : Request) (z : Stepped st ss f q) where
   new-details : newDetails st (answer st q) ≡ z .growth .splits + z .growth .starts
@@ -85,7 +94,8 @@ pub record Ran (p : Description) (st : State) (qs : List Request) (g : Growth) :
   pub cost : allTransfers st qs ≤ shares st qs + 4 * (S st qs + X st qs) + s st qs + x st qs
 
 -- a call before the run
-ran-more : (p : Description) (st : State) (ss : List Section) (f : Free) (g : Growth) (q : Request) (qs : List Request) → Sound st ss f → (z : Stepped st ss f q)
+ran-more : (p : Description) (st : State) (ss : List Section) (f : Free) (g : Growth) (q : Request) (qs : List Request) → Sound st ss f
+    → (z : Stepped st ss f q)
     → Ran p (answer st q .after) qs (plus (z .growth) g) → Ran p st (q ∷ qs) g
 unfolding M S X s x allTransfers shares tally left
 ran-more p st ss f g q qs h z r =
@@ -98,7 +108,8 @@ ran-more p st ss f g q qs h z r =
       sound = r .sound;
       desc-is = r .desc-is;
       tally = tally-same p (r .sections) (plus (brings (o .after) qs) (plus n g)) (plus (brings st (q ∷ qs)) g)
-          (omega (arith, y .records)) (omega (arith, y .splits)) (omega (arith, y .starts)) (omega (arith, y .index-splits)) (omega (arith, y .index-starts)) (r .tally);
+          (omega (arith, y .records)) (omega (arith, y .splits)) (omega (arith, y .starts)) (omega (arith, y .index-splits)) (omega (arith, y .index-starts))
+          (r .tally);
       cost = omega (arith, z .cost, r .cost, y .splits, y .starts, y .index-splits, y .index-starts);
     }
 
@@ -107,7 +118,7 @@ last-some : (d : ℕ) (xs : List ℕ) → 1 ≤ d → All (λ n. 1 ≤ n) xs →
 last-some d [] l h = l
 last-some d (n ∷ xs) l h = last-some n xs (h .0) (h .1)
 
-counts-some : (p : Description) (ls : List Leaf) → All (LeafOk p) ls → All (λ n. 1 ≤ n) (counts ls)
+counts-some : (p : Description) (ls : List Leaf) → All (LeafFits p) ls → All (λ n. 1 ≤ n) (counts ls)
 unfolding counts
 counts-some p [] h = tt
 counts-some p (l ∷ ls) h = (h .0 .some, counts-some p ls (h .1))
@@ -117,19 +128,19 @@ unfolding sizes
 sizes-some p [] h = tt
 sizes-some p (z ∷ zs) h = (h .0 .some, sizes-some p zs (h .1))
 
-leaves-ok : (p : Description) (ss : List Section) → All (SectionOk p) ss → All (LeafOk p) (leavesOf ss)
+leaves-ok : (p : Description) (ss : List Section) → All (SectionOk p) ss → All (LeafFits p) (leavesIn ss)
 leaves-ok p [] h = tt
-leaves-ok p (z ∷ zs) h = all-append (LeafOk p) (z .leaves) (leavesOf zs) (h .0 .leaves) (leaves-ok p zs (h .1))
+leaves-ok p (z ∷ zs) h = all-append (LeafFits p) (z .leaves) (leavesIn zs) (h .0 .leaves) (leaves-ok p zs (h .1))
 
 -- what a run brought, from nothing on, is within the formula
 pub ran-within : (st : State) (qs : List Request) → Ran (desc st) st qs nothing → Within st qs
 unfolding hD hI
 ran-within st qs r =
     let p : Description = desc st in
-    let cs : List ℕ = counts (leavesOf (r .sections)) in
+    let cs : List ℕ = counts (leavesIn (r .sections)) in
     let es : List ℕ = sizes (r .sections) in
     let ok : All (SectionOk p) (r .sections) = subst (λ (d : Description). All (SectionOk d) (r .sections)) (r .desc-is) (r .sound .kept .holds .sized) in
-    let a : 1 ≤ lastOr 1 cs = last-some 1 cs (omega arith) (counts-some p (leavesOf (r .sections)) (leaves-ok p (r .sections) ok)) in
+    let a : 1 ≤ lastOr 1 cs = last-some 1 cs (omega arith) (counts-some p (leavesIn (r .sections)) (leaves-ok p (r .sections) ok)) in
     let b : 1 ≤ lastOr 1 es = last-some 1 es (omega arith) (sizes-some p (r .sections) ok) in
     record {
       splits = omega (arith, paid-halves (D p) (FD p) cs _ _ _ (r .tally .leaves));
@@ -155,13 +166,16 @@ ran-nearest st qs r =
     record { never = λ l. omega (arith, a l); index-never = λ l. omega (arith, b l); splits = a; index-splits = b }
 
 module _ (step : (st : State) (ss : List Section) (f : Free) → Sound st ss f → (q : Request) → Stepped st ss f q) where
-  runs : (p : Description) (qs : List Request) (st : State) (ss : List Section) (f : Free) → Sound st ss f → desc st ≡ p → (g : Growth) → Tally p ss g → Ran p st qs g
+  runs : (p : Description) (qs : List Request) (st : State) (ss : List Section) (f : Free) → Sound st ss f → desc st ≡ p → (g : Growth) → Tally p ss g
+      → Ran p st qs g
   runs p [] st ss f h e g t = record {
     sections = ss;
     free = f;
     sound = unfold left in h;
     desc-is = unfold left in e;
-    tally = tally-same p ss g (plus (brings st []) g) (unfold M tally in omega arith) (unfold S tally in omega arith) (unfold X tally in omega arith) (unfold s tally in omega arith) (unfold x tally in omega arith) t;
+    tally =
+        tally-same p ss g (plus (brings st []) g) (unfold M tally in omega arith) (unfold S tally in omega arith) (unfold X tally in omega arith)
+        (unfold s tally in omega arith) (unfold x tally in omega arith) t;
     cost = unfold allTransfers shares S X s x tally in omega arith;
   }
   runs p (q ∷ qs) st ss f h e g t =
@@ -171,15 +185,15 @@ module _ (step : (st : State) (ss : List Section) (f : Free) → Sound st ss f �
 
   -- "From a CREATE and then an OPEN that both answer 0", which leave a sound state with one section of one leaf with the end record: what holds of
   -- a run that began with nothing brought
-  pub after-create : ((session : Session) (f buffer work marks : List ℕ) → create (session .desc) f .number ≡ done
+  pub within-create : ((session : Session) (f buffer work marks : List ℕ) → create (session .desc) f .number ≡ done
       → openFile (lent session (create (session .desc) f .file) buffer work) marks .outcome .number ≡ done
       → (ss : List Section) × (free : Free) × Sound (openFile (lent session (create (session .desc) f .file) buffer work) marks .outcome .after) ss free
-      × (counts (leavesOf ss) ≡ 1 ∷ []) × (sizes ss ≡ 1 ∷ []))
+      × (counts (leavesIn ss) ≡ 1 ∷ []) × (sizes ss ≡ 1 ∷ []))
       → (P : State → List Request → Type 0) → ((st : State) (qs : List Request) → Ran (desc st) st qs nothing → P st qs) → AfterCreate P
-  after-create made P by session f buffer work marks c o qs = go (made session f buffer work marks c o)
+  within-create made P by session f buffer work marks c o qs = go (made session f buffer work marks c o)
     where
       st : State
       st = openFile (lent session (create (session .desc) f .file) buffer work) marks .outcome .after
 
-      go : (ss : List Section) × (free : Free) × Sound st ss free × (counts (leavesOf ss) ≡ 1 ∷ []) × (sizes ss ≡ 1 ∷ []) → P st qs
+      go : (ss : List Section) × (free : Free) × Sound st ss free × (counts (leavesIn ss) ≡ 1 ∷ []) × (sizes ss ≡ 1 ∷ []) → P st qs
       go (ss, free, h, a, b) = by st qs (runs (desc st) qs st ss free h refl nothing (tally-made (desc st) (h .kept .good) ss a b))

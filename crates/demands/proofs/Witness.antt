@@ -12,12 +12,12 @@ use Rattle.rules.specs.State.{State}
 use Rattle.rules.specs.Requests.{opening, answer}
 use Rattle.rules.specs.Run.{begun, createdOutcome}
 use Rattle.rules.specs.Open.{create}
-use Rattle.rules.specs.Computing.{computing}
+use Rattle.rules.proofs.Computing.{computing}
 use Rattle.demands.proofs.Rows.{cat, tab}
-use Rattle.demands.proofs.Cells.{is, weigh, times}
+use Rattle.demands.proofs.Cells.{Agree, is, weigh, cellTimes}
 use Rattle.layout.specs.Tree.{Section}
 use Rattle.demands.proofs.Trees.{key, bd, table, entry, leafCell, indexText, cellsOf}
-use Rattle.demands.proofs.Holds.{Free, inside, freeCells, masterEntry, masterWords, masterText}
+use Rattle.demands.proofs.Holds.{HoldsCells, Free, inside, freeCells, masterEntry, masterWords, masterFor}
 use Rattle.demands.proofs.Steps.{sec}
 use Rattle.demands.proofs.Blocks.{masterOf}
 use Rattle.demands.proofs.Sound.{Sound, no-true-false}
@@ -35,8 +35,8 @@ tree = sec 1 (record { bound = 262143 ∷ []; block = 2; records = (262143 ∷ (
 abbrev pub free : Free
 free = record { chain = []; lowest = 3; spare = 2 }
 
-once : (b : ℕ) → times b (cellsOf 8 tree ++ freeCells small free) ≡ inside 4 b
-unfolding times weigh cellsOf freeCells leafCell is inside
+once : (b : ℕ) → cellTimes b (cellsOf 8 tree ++ freeCells small free) ≡ inside 4 b
+unfolding cellTimes weigh cellsOf freeCells leafCell is inside
 once zero = refl
 once (suc zero) = refl
 once (suc (suc zero)) = refl
@@ -53,8 +53,30 @@ once (suc (suc (suc (suc (suc b))))) =
       and-false,
     )
 
+-- a master and blocks with these words hold the tree
+holds-by : (master : List ℕ) (text : ℕ → List ℕ) → master ≡ masterFor small tree free → Agree text (cellsOf 8 tree ++ freeCells small free)
+    → HoldsCells small master text tree free
+unfolding computing val key bd
+holds-by master text m a = record {
+  master-is = m;
+  agree = a;
+  once = once;
+  ranged = ((omega arith, omega arith), tt);
+  top = refl;
+  sized = (
+    record {
+      some = omega arith;
+      room = omega arith;
+      leaves = (record { some = omega arith; room = omega arith; rows = ((refl, refl), tt); bound = refl; wide = refl }, tt);
+    },
+    tt,
+  );
+  sections = omega arith;
+  numbers = refl;
+}
+
 pub witness : Sound made tree free
-unfolding computing val cat tab weigh key bd table entry leafCell indexText cellsOf freeCells masterEntry masterWords masterText masterOf
+unfolding computing val cat tab weigh key bd table entry leafCell indexText cellsOf freeCells masterEntry masterWords masterFor masterOf
 witness = record {
   kept = record {
     good = refl;
@@ -63,44 +85,12 @@ witness = record {
     current = λ l. absurd (omega arith);
     flagged = λ e. no-true-false e refl;
     clean = λ e l. absurd (omega arith);
-    holds = record {
-      master-is = refl;
-      agree = (refl, (refl, (refl, (refl, tt))));
-      once = once;
-      ranged = ((omega arith, omega arith), tt);
-      top = refl;
-      sized = (
-        record {
-          some = omega arith;
-          room = omega arith;
-          leaves = (record { some = omega arith; room = omega arith; rows = ((refl, refl), tt); bound = refl; wide = refl }, tt);
-        },
-        tt,
-      );
-      sections = omega arith;
-      numbers = refl;
-    };
+    holds = holds-by _ _ refl (refl, (refl, (refl, (refl, tt))));
     ended = record { front = []; is = refl };
     alone = record {
       sections = tree;
       free = free;
-      holds = record {
-        master-is = refl;
-        agree = (refl, (refl, (refl, (refl, tt))));
-        once = once;
-        ranged = ((omega arith, omega arith), tt);
-        top = refl;
-        sized = (
-          record {
-            some = omega arith;
-            room = omega arith;
-            leaves = (record { some = omega arith; room = omega arith; rows = ((refl, refl), tt); bound = refl; wide = refl }, tt);
-          },
-          tt,
-        );
-        sections = omega arith;
-        numbers = refl;
-      };
+      holds = holds-by _ _ refl (refl, (refl, (refl, (refl, tt))));
       ended = record { front = []; is = refl };
     };
   };

@@ -15,7 +15,7 @@ use Rattle.drum.specs.declared.Description.{Description}
 use Rattle.drum.specs.Params.{masterSize, goodParams, fileSize, start}
 use Rattle.drum.specs.Blocks.{blockAt, freeText, Block}
 use Rattle.drum.proofs.Good.{good-facts, caps}
-use Rattle.layout.specs.Tree.{Leaf, Section, times}
+use Rattle.layout.specs.Tree.{Leaf, Section}
 use Rattle.demands.proofs.Lists.{All, all-append, all-left, all-right}
 use Rattle.demands.proofs.Cells as cells
 use Rattle.demands.proofs.Rows.{cat, tab}
@@ -39,14 +39,15 @@ rows-words (r ∷ rows) h = append-allWords r (cat rows) (h .0) (rows-words rows
 pub table-words : (wpb : ℕ) (rows : List (List ℕ)) → length rows ≤ topWord → All (λ r. allWords r ≡ true) rows → allWords (table wpb rows) ≡ true
 unfolding table laid
 table-words wpb rows l h =
-    cons-allWords (length rows) _ l (append-allWords (cat rows) (zeros (wpb - 1 - length (cat rows))) (rows-words rows h) (allWords-replicate (wpb - 1 - length (cat rows)) 0 (omega arith)))
+    cons-allWords (length rows) _ l
+    (append-allWords (cat rows) (zeros (wpb - 1 - length (cat rows))) (rows-words rows h) (allWords-replicate (wpb - 1 - length (cat rows)) 0 (omega arith)))
 
 pub free-words : (p : Description) (b : ℕ) → b ≤ topWord → allWords (freeText p b) ≡ true
 unfolding freeText laid
 free-words p b l = cons-allWords b _ l (allWords-replicate (p .wpb - 1 - 0) 0 (omega arith))
 
 module _ (p : Description) (g : goodParams p ≡ true) (f : List ℕ) (size : length f ≡ fileSize p) (ss : List Section) (fr : held.Free)
-    (h : held.Holds p (masterOf p f) (blockAt p f) ss fr) where
+    (h : held.HoldsCells p (masterOf p f) (blockAt p f) ss fr) where
   abbrev T : cells.Cell → Type 0
   T c = blockAt p f (c .0) ≡ c .1
 
@@ -59,29 +60,33 @@ module _ (p : Description) (g : goodParams p ≡ true) (f : List ℕ) (size : le
   numbers : All Num (cellsOf (p .wpb) ss ++ held.freeCells p fr)
   numbers = go (cellsOf (p .wpb) ss ++ held.freeCells p fr) (λ b l. inside-low (p .n) b (omega (arith, h .once b)) .1)
     where
-      go : (cs : List cells.Cell) → ((b : ℕ) → 1 ≤ cells.times b cs → b ≤ p .n) → All Num cs
+      go : (cs : List cells.Cell) → ((b : ℕ) → 1 ≤ cells.cellTimes b cs → b ≤ p .n) → All Num cs
       go [] q = tt
       go (c ∷ cs) q = (q (c .0) (first c cs), go cs (λ b l. q b (rest b c cs l)))
         where
-          first : (c : cells.Cell) (cs : List cells.Cell) → 1 ≤ cells.times (c .0) (c ∷ cs)
-          first c cs = unfold cells.times cells.weigh in omega (arith, cells.is-self (c .0))
+          first : (c : cells.Cell) (cs : List cells.Cell) → 1 ≤ cells.cellTimes (c .0) (c ∷ cs)
+          first c cs = unfold cells.cellTimes cells.weigh in omega (arith, cells.is-self (c .0))
 
-          rest : (b : ℕ) (c : cells.Cell) (cs : List cells.Cell) → 1 ≤ cells.times b cs → 1 ≤ cells.times b (c ∷ cs)
-          rest b c cs l = unfold cells.times cells.weigh in omega arith
+          rest : (b : ℕ) (c : cells.Cell) (cs : List cells.Cell) → 1 ≤ cells.cellTimes b cs → 1 ≤ cells.cellTimes b (c ∷ cs)
+          rest b c cs l = unfold cells.cellTimes cells.weigh in omega arith
 
   topped : p .n + 1 ≤ topWord
   topped = omega (arith, good-facts p g .n-most)
 
-  entries-words : (ls : List Leaf) → All (held.LeafOk p) ls → All Num (map (leafCell (p .wpb)) ls) → All (λ r. allWords r ≡ true) (map entry ls)
+  entries-words : (ls : List Leaf) → All (held.LeafFits p) ls → All Num (map (leafCell (p .wpb)) ls) → All (λ r. allWords r ≡ true) (map entry ls)
   unfolding entry leafCell
   entries-words [] ok n = tt
-  entries-words (l ∷ ls) ok n =
-      (append-allWords (l .bound) (l .block ∷ []) (ok .0 .wide) (cons-allWords (l .block) [] (omega (arith, n .0, topped)) allWords-none), entries-words ls (ok .1) (n .1))
+  entries-words (l ∷ ls) ok n = (
+    append-allWords (l .bound) (l .block ∷ []) (ok .0 .wide) (cons-allWords (l .block) [] (omega (arith, n .0, topped)) allWords-none),
+    entries-words ls
+        (ok .1) (n .1),
+  )
 
-  details-words : (ls : List Leaf) → All (held.LeafOk p) ls → All Words (map (leafCell (p .wpb)) ls)
+  details-words : (ls : List Leaf) → All (held.LeafFits p) ls → All Words (map (leafCell (p .wpb)) ls)
   unfolding leafCell
   details-words [] ok = tt
-  details-words (l ∷ ls) ok = (table-words (p .wpb) (l .records) (omega (arith, ok .0 .room, caps p g .d-most)) (rows (l .records) (ok .0 .rows)), details-words ls (ok .1))
+  details-words (l ∷ ls) ok =
+      (table-words (p .wpb) (l .records) (omega (arith, ok .0 .room, caps p g .d-most)) (rows (l .records) (ok .0 .rows)), details-words ls (ok .1))
     where
       rows : (rs : List (List ℕ)) → All (held.RowOk p) rs → All (λ r. allWords r ≡ true) rs
       rows [] q = tt
@@ -91,8 +96,10 @@ module _ (p : Description) (g : goodParams p ≡ true) (f : List ℕ) (size : le
   unfolding cellsOf indexText
   tree-words [] ok n = tt
   tree-words (s ∷ zs) ok n = (
-    table-words (p .wpb) (map entry (s .leaves)) (rw (length-map (s .leaves) entry) (omega (arith, ok .0 .room, caps p g .i-most))) (entries-words (s .leaves) (ok .0 .leaves) (all-left Num (map (leafCell (p .wpb)) (s .leaves)) _ (n .1))),
-    all-append Words (map (leafCell (p .wpb)) (s .leaves)) (cellsOf (p .wpb) zs) (details-words (s .leaves) (ok .0 .leaves)) (tree-words zs (ok .1) (all-right Num (map (leafCell (p .wpb)) (s .leaves)) _ (n .1))),
+    table-words (p .wpb) (map entry (s .leaves)) (rw (length-map (s .leaves) entry) (omega (arith, ok .0 .room, caps p g .i-most)))
+        (entries-words (s .leaves) (ok .0 .leaves) (all-left Num (map (leafCell (p .wpb)) (s .leaves)) _ (n .1))),
+    all-append Words (map (leafCell (p .wpb)) (s .leaves)) (cellsOf (p .wpb) zs) (details-words (s .leaves) (ok .0 .leaves))
+        (tree-words zs (ok .1) (all-right Num (map (leafCell (p .wpb)) (s .leaves)) _ (n .1))),
   )
 
   head-in : (cs : List ℕ) → All Num (held.chainCells p cs) → held.headOr cs 0 ≤ topWord
@@ -123,35 +130,38 @@ module _ (p : Description) (g : goodParams p ≡ true) (f : List ℕ) (size : le
       inside-yes : (b : ℕ) → Block p b → 1 ≤ held.inside (p .n) b
       inside-yes b i = unfold held.inside in rw (le-leb 1 b (i .0), le-leb b (p .n) (i .1)) (omega arith)
 
-      pick : (cs : List cells.Cell) → All T cs → All Words cs → 1 ≤ cells.times b cs → allWords (blockAt p f b) ≡ true
+      pick : (cs : List cells.Cell) → All T cs → All Words cs → 1 ≤ cells.cellTimes b cs → allWords (blockAt p f b) ≡ true
       pick [] a w l = absurd (none l)
         where
-          none : 1 ≤ cells.times b [] → ⊥
-          none l = unfold cells.times cells.weigh in omega arith
+          none : 1 ≤ cells.cellTimes b [] → ⊥
+          none l = unfold cells.cellTimes cells.weigh in omega arith
       pick (c ∷ cs) a w l = go (ℕ-discrete (c .0) b) (pick cs (a .1) (w .1))
         where
-          more : (c : cells.Cell) (cs : List cells.Cell) → cells.is (c .0) b ≡ 0 → 1 ≤ cells.times b (c ∷ cs) → 1 ≤ cells.times b cs
-          more c cs e l = unfold cells.times cells.weigh in omega arith
+          more : (c : cells.Cell) (cs : List cells.Cell) → cells.is (c .0) b ≡ 0 → 1 ≤ cells.cellTimes b (c ∷ cs) → 1 ≤ cells.cellTimes b cs
+          more c cs e l = unfold cells.cellTimes cells.weigh in omega arith
 
-          go : Dec (c .0 ≡ b) → (1 ≤ cells.times b cs → allWords (blockAt p f b) ≡ true) → allWords (blockAt p f b) ≡ true
+          go : Dec (c .0 ≡ b) → (1 ≤ cells.cellTimes b cs → allWords (blockAt p f b) ≡ true) → allWords (blockAt p f b) ≡ true
           go (yes e) k = ap (λ (x : ℕ). allWords (blockAt p f x)) (sym e) ∙ ap allWords (a .0) ∙ w .0
           go (no n) k = k (more c cs (cells.is-not (c .0) b n) l)
 
   master-words : allWords (masterOf p f) ≡ true
-  unfolding held.masterText held.masterWords tab
+  unfolding held.masterFor held.masterWords tab
   master-words =
       let rows : List (List ℕ) = map (held.masterEntry p) ss in
       ap allWords (h .master-is)
       ∙ cons-allWords (length rows) _ (rw (length-map ss (held.masterEntry p)) (omega (arith, h .sections, good-facts p g .control-most)))
       (cons-allWords (held.headOr (fr .chain) 0) _ (head-in (fr .chain) chain-numbers) (cons-allWords (fr .lowest) _ (omega (arith, h .numbers, topped))
       (append-allWords (cat rows) _ (rows-words rows (entries ss (h .sized) (all-left Num (cellsOf (p .wpb) ss) _ numbers)))
-      (append-allWords (zeros (masterSize p - (3 + length rows * (p .k + 1)))) [] (allWords-replicate (masterSize p - (3 + length rows * (p .k + 1))) 0 (omega arith)) allWords-none))))
+      (append-allWords (zeros (masterSize p - (3 + length rows * (p .k + 1)))) []
+      (allWords-replicate (masterSize p - (3 + length rows * (p .k + 1))) 0 (omega arith)) allWords-none))))
     where
       entries : (zs : List Section) → All (held.SectionOk p) zs → All Num (cellsOf (p .wpb) zs) → All (λ r. allWords r ≡ true) (map (held.masterEntry p) zs)
       entries [] ok n = tt
       entries (s ∷ zs) ok n =
-          let m : (s .block ≤ p .n) × All Num (cellsOf (p .wpb) zs) = unfold cellsOf in (n .0, all-right Num (map (leafCell (p .wpb)) (s .leaves)) _ (n .1)) in (
-            unfold held.masterEntry in append-allWords (held.lastBound [] (s .leaves)) (s .block ∷ []) (last-bounded p [] (s .leaves) (ok .0 .some) (ok .0 .leaves) .1) (cons-allWords (s .block) [] (omega (arith, m .0, topped)) allWords-none),
+          let m : (s .block ≤ p .n) × All Num (cellsOf (p .wpb) zs) = unfold cellsOf in
+          (n .0, all-right Num (map (leafCell (p .wpb)) (s .leaves)) _ (n .1)) in (
+            unfold held.masterEntry in append-allWords (held.lastBound [] (s .leaves)) (s .block ∷ [])
+                (last-bounded p [] (s .leaves) (ok .0 .some) (ok .0 .leaves) .1) (cons-allWords (s .block) [] (omega (arith, m .0, topped)) allWords-none),
             entries zs (ok .1) (m .1),
           )
 

@@ -20,13 +20,14 @@ use Rattle.layout.proofs.Unique.{one-tree}
 use Rattle.rules.specs.State.{Session, State, desc, keyIn, lent, atRest}
 use Rattle.rules.specs.Lookup.{flushMoves}
 use Rattle.rules.specs.Requests.{opening, closing, seeking, inserting, deleting, extending, answer, left}
-use Rattle.rules.specs.Computing.{computing}
+use Rattle.rules.proofs.Computing.{computing}
 use Rattle.demands.specs.History.{Event, stored, removed, eventOf, withKey}
 use Rattle.demands.specs.Promises.{putBack}
 use Rattle.demands.specs.Contents.{recordsBelow, recordsAbove, changed, Contains}
 use Rattle.demands.specs.Answers.{Keyed, Met, Sought}
 use Rattle.demands.specs.Storing.{storedIn, placing, sectionFor, blockFor, ifNone, nsertNumber}
-use Rattle.demands.specs.Routines.{Routine, leftBy, AfterOpenBy, AnsweredBy, closes, ParametersStay, StaysOpen, RecordsChange, AnswersAre, CountsAre, RightCalls}
+use Rattle.demands.specs.Routines.{Routine, leftBy, AfterOpenBy, AnsweredBy, closes, ParametersStay, StaysOpen, RecordsChange, AnswersAre, CountsAre}
+use Rattle.demands.specs.Routines.{RightCalls}
 use Rattle.demands.specs.WrongRoutines.{RefusesEverything, ConstantAnswer, Idle, DoesNothing, StoresOnce, MadeUpCount, ShutsOut}
 use Rattle.demands.proofs.Holds.{Free}
 use Rattle.demands.proofs.Sound.{Sound}
@@ -98,13 +99,15 @@ abbrev back : Description → ℕ → Bool → List ℕ → List ℕ → List �
 back p c flag f b = written p (flushMoves (seen p c f b) flag) f
 
 -- a state that is as another has the same records
-two-contents : (st now : State) (rows was : List (List ℕ)) → Contains now rows → Contains st was → goodParams (desc st) ≡ true → desc now ≡ desc st → Idle st now → (rows ≡ was → ⊥) → ⊥
+two-contents : (st now : State) (rows was : List (List ℕ)) → Contains now rows → Contains st was → goodParams (desc st) ≡ true → desc now ≡ desc st
+    → Idle st now → (rows ≡ was → ⊥) → ⊥
 two-contents st now rows was a b good e i n =
     let same : putBack now ≡ putBack st
     = ap (λ (p : Description). back p (now .session .current) (now .session .flag) (now .file) (now .buffer)) e
     ∙ ap₂ (λ (f x : List ℕ). back (desc st) (now .session .current) (now .session .flag) f x) (i .0) (i .1)
     ∙ ap₂ (λ (c : ℕ) (t : Bool). back (desc st) c t (st .file) (st .buffer)) (i .2) (i .3) in
-    let h : Holds (desc st) (putBack st) (a .tree) = subst (λ (p : Description). Holds p (putBack st) (a .tree)) e (subst (λ (x : List ℕ). Holds (desc now) x (a .tree)) same (a .held)) in
+    let h : Holds (desc st) (putBack st) (a .tree)
+    = subst (λ (p : Description). Holds p (putBack st) (a .tree)) e (subst (λ (x : List ℕ). Holds (desc now) x (a .tree)) same (a .held)) in
     n (sym (a .are) ∙ ap contents (one-tree (desc st) (putBack st) (a .tree) (b .tree) good h (b .held)) ∙ b .are)
 
 begin-keyed₁ : Keyed begin 1 five
@@ -139,7 +142,9 @@ abbrev again : State
 again = lent (resting true) (left begin (inserting five ∷ closing ∷ []) .file) (zeros 8) (zeros 3)
 
 begin-sound : (ss : List Section) × (f : Free) × Sound (left begin (inserting five ∷ closing ∷ [])) ss f
-begin-sound = sound-run begin witness.tree witness.free (subst (λ (x : State). Sound x witness.tree witness.free) made-is witness.witness) (inserting five ∷ closing ∷ [])
+begin-sound =
+    sound-run begin witness.tree witness.free (subst (λ (x : State). Sound x witness.tree witness.free) made-is witness.witness)
+    (inserting five ∷ closing ∷ [])
 
 later-desc : desc (left begin (inserting five ∷ closing ∷ [])) ≡ small
 unfolding computing
@@ -150,7 +155,8 @@ later-length = begin-sound .2 .kept .file-length ∙ ap fileSize later-desc
 
 later-tree : (t : Tree) × Holds small (left begin (inserting five ∷ closing ∷ []) .file) t
 later-tree =
-    let w : WellFormed (desc (left begin (inserting five ∷ closing ∷ []))) (left begin (inserting five ∷ closing ∷ []) .file) = file-alone _ (begin-sound .0) (begin-sound .1) (begin-sound .2) in
+    let w : WellFormed (desc (left begin (inserting five ∷ closing ∷ []))) (left begin (inserting five ∷ closing ∷ []) .file)
+    = file-alone _ (begin-sound .0) (begin-sound .1) (begin-sound .2) in
     unfold WellFormed in (w .0, subst (λ (p : Description). Holds p (left begin (inserting five ∷ closing ∷ []) .file) (w .0)) later-desc (w .1))
 
 begin-count : length (answer begin (extending six) .transfers) ≡ 3
@@ -165,7 +171,9 @@ again-is : lent (atRest true (later .session)) (later .file) (later .buffer) (la
 unfolding atRest
 again-is = refl
 
-at-again : (r : Routine) (d : RightCalls r) → (r later (opening marks₄) .number ≡ done) × (r later (opening marks₄) .after ≡ lent (atRest true (later .session)) (later .file) (later .buffer) (later .work))
+at-again : (r : Routine) (d : RightCalls r)
+    → (r later (opening marks₄) .number ≡ done)
+    × (r later (opening marks₄) .after ≡ lent (atRest true (later .session)) (later .file) (later .buffer) (later .work))
     → (P : State → Type 0) → AfterOpenBy r P → P again
 unfolding leftBy
 at-again r d z P h = subst P (z .1 ∙ again-is) (h later marks₄ (z .0) [])
@@ -202,7 +210,8 @@ module _ (r : Routine) (d : RightCalls r) where
       subst (λ (x : List (List ℕ)). Sought five x (r begin (seeking five))) none (answers-first .seek five begin-keyed₁) .0
 
   constant-answer : ConstantAnswer r → ⊥
-  constant-answer (n, h) = let z : _≡_ {A = ℕ} done notFound = sym nsert-answers ∙ h begin (inserting five) ∙ sym (h begin (seeking five)) ∙ seek-answers in omega arith
+  constant-answer (n, h) = let z : _≡_ {A = ℕ} done notFound = sym nsert-answers ∙ h begin (inserting five) ∙ sym (h begin (seeking five))
+      ∙ seek-answers in omega arith
 
   -- the state after the NSERT has both records
   pub both-there : Contains second (five ∷ end ∷ [])
@@ -220,12 +229,16 @@ module _ (r : Routine) (d : RightCalls r) where
   second-desc = at-first (ParametersStay r) (d .parameters) (inserting five)
 
   does-nothing : DoesNothing r → ⊥
-  does-nothing h = two-contents begin second (five ∷ end ∷ []) (end ∷ []) both-there (record { tree = freshTree small; held = begin-holds; are = fresh-rows }) good second-desc (h begin five) (λ e. omega (arith, ap length e))
+  does-nothing h =
+      two-contents begin second (five ∷ end ∷ []) (end ∷ []) both-there
+      (record { tree = freshTree small; held = begin-holds; are = fresh-rows }) good second-desc (h begin five) (λ e. omega (arith, ap length e))
 
   stores-once : StoresOnce r → ⊥
   unfolding eventOf
   stores-once h =
-      two-contents second third (end ∷ []) (five ∷ end ∷ []) gone both-there (subst (λ (p : Description). goodParams p ≡ true) (sym second-desc) good) third-desc (h begin five (ap accepted nsert-answers) (deleting five)) (λ e. omega (arith, ap length e))
+      two-contents second third (end ∷ []) (five ∷ end ∷ []) gone both-there
+      (subst (λ (p : Description). goodParams p ≡ true) (sym second-desc) good) third-desc (h begin five (ap accepted nsert-answers) (deleting five))
+      (λ e. omega (arith, ap length e))
     where
       third : State
       third = r second (deleting five) .after
@@ -237,21 +250,25 @@ module _ (r : Routine) (d : RightCalls r) where
       is-open = at-first (StaysOpen r) (d .stays-open) (inserting five) (unfold closes in refl) refl
 
       keyed : Keyed second (desc second .k) five
-      keyed = subst (λ (p : Description). ((second .session .opened ≡ true) × (length five ≡ p .wpr)) × (allWords (part 0 (p .k) five) ≡ true) × (isOnes (keyIn p five) ≡ false)) (sym second-desc) ((is-open, refl), keyed-words .0, keyed-words .1)
+      keyed = subst (λ (p : Description). ((second .session .opened ≡ true) × (length five ≡ p .wpr)) × (allWords (part 0 (p .k) five) ≡ true) ×
+          (isOnes (keyIn p five) ≡ false)) (sym second-desc) ((is-open, refl), keyed-words .0, keyed-words .1)
 
       met : r second (deleting five) .number ≡ done
       met =
           let c : Contains second (five ∷ end ∷ []) = both-there in
           let a : AnsweredBy r second (c .tree) = at-second (AnswersAre r) (d .answers) (c .tree) (c .held) in
-          let found : withKey (desc second) (keyIn (desc second) five) (contents (c .tree)) ≡ five ∷ [] = ap₂ (λ (p : Description) (x : List (List ℕ)). withKey p (keyIn p five) x) second-desc (c .are) ∙ is-there in
+          let found : withKey (desc second) (keyIn (desc second) five) (contents (c .tree)) ≡ five ∷ []
+          = ap₂ (λ (p : Description) (x : List (List ℕ)). withKey p (keyIn p five) x) second-desc (c .are) ∙ is-there in
           subst (λ (x : List (List ℕ)). Met x (r second (deleting five))) found (a .dlete five keyed)
 
-      event : eventOf (desc second) (deleting five) (r second (deleting five)) ≡ cond (eqb (r second (deleting five) .number) done) (removed (keyIn (desc second) five) ∷ []) []
+      event : eventOf (desc second) (deleting five) (r second (deleting five)) ≡ cond (eqb (r second (deleting five) .number) done)
+          (removed (keyIn (desc second) five) ∷ []) []
       event = refl
 
       gone : Contains third (end ∷ [])
       gone =
-          subst (Contains third) (ap₂ (λ (p : Description) (n : ℕ). changed p (cond (eqb n done) (removed (keyIn p five) ∷ []) []) (five ∷ end ∷ [])) second-desc met ∙ taken-out)
+          subst (Contains third)
+          (ap₂ (λ (p : Description) (n : ℕ). changed p (cond (eqb n done) (removed (keyIn p five) ∷ []) []) (five ∷ end ∷ [])) second-desc met ∙ taken-out)
           (subst (λ (es : List Event). Contains third (changed (desc second) es (five ∷ end ∷ []))) event
           (at-second (RecordsChange r) (d .records) (five ∷ end ∷ []) both-there (deleting five)))
 

@@ -15,9 +15,8 @@ use Rattle.words.specs.Keys.{ones, keyLt, val}
 use Rattle.words.proofs.All.{allWords-replicate}
 use Rattle.words.proofs.Values.{keyLt-val, val-inj}
 use Rattle.table.specs.Tables.{count, keyAt, inserted}
-use Rattle.drum.specs.declared.Description.{Description}
 use Rattle.drum.specs.Params.{D, FD, detailShape, goodParams}
-use Rattle.drum.specs.Blocks.{Texts, Read, textOf, chainHead, lowestUnused}
+use Rattle.drum.specs.Blocks.{Read, textOf, chainHead, lowestUnused}
 use Rattle.drum.proofs.Good.{good-facts, caps}
 use Rattle.layout.specs.Create.{endRecord}
 use Rattle.rules.specs.declared.Path.{Path}
@@ -27,25 +26,26 @@ use Rattle.rules.specs.declared.Extend.{Extend}
 use Rattle.rules.specs.declared.Extend.the-variants.{Stop, Room}
 use Rattle.rules.specs.State.{State, Outcome, Effect, desc, texts, keyIn, recordIn, outcome}
 use Rattle.rules.specs.Lookup.{Reached, reached, textAt, stopping, storing}
-use Rattle.rules.specs.Xtend.{lastOf, roomDeed, aloneDeed, newDeed, extendAt, extendDeed}
+use Rattle.rules.specs.Xtend.{lastOf, lastRoom, aloneDeed, newDeed, extendAt, extendDeed}
 use Rattle.rules.specs.XtendDone.{reading, extendDone, xtendSteps, xtend}
+use Rattle.rules.proofs.Sizes.{way-few}
+use Rattle.demands.proofs.Scene.{Scene, scene}
 use Rattle.demands.proofs.Lists.{All, all-append, all-left, all-right}
 use Rattle.demands.proofs.Order.{Asc, asc-le, asc-append, below-at, from-at, ins}
 use Rattle.layout.specs.Tree.{Leaf, Section}
-use Rattle.demands.proofs.Trees.{leavesOf, leaves-append, contents, key, bd, reach, reach-append, table}
-use Rattle.demands.proofs.Holds.{Free, Holds, LeafOk, RowOk, headOr}
+use Rattle.demands.proofs.Trees.{leavesIn, leavesIn-append, recordsIn, key, bd, reach, reach-append, table, indexText}
+use Rattle.demands.proofs.Holds.{Free, HoldsCells, LeafFits, SectionOk, RowOk, headOr}
 use Rattle.demands.proofs.Steps.{sec, withRows}
-use Rattle.demands.proofs.Places.{Place, treeWith, lo, hi, leaf-ok, asc-leaf, ins-here, treeOf}
+use Rattle.demands.proofs.Places.{Place, treeWith, lo, hi, leaf-ok, asc-leaf, ins-here, treeOf, index-text, sec-ok}
 use Rattle.demands.proofs.Texts.{count-table}
 use Rattle.demands.proofs.Blocks.{masterOf}
 use Rattle.demands.proofs.Entries.{head-is, lowest-is}
 use Rattle.demands.proofs.Paths.{pathOf}
 use Rattle.demands.proofs.Records.{key-here, key-long, record-insert, end-key, cut-front, cut-back, ended-ins}
-use Rattle.demands.proofs.Sound.{Key, Ended, Kept, leftBy, isHere}
+use Rattle.demands.proofs.Sound.{Key, Ended, KeptTree, textsLeft, isHere}
 use Rattle.demands.proofs.Answers.{Ready, work-is, work-ok, work-key, ready-pass, Gives}
-use Rattle.demands.proofs.Reach.{way-cost}
 use Rattle.demands.proofs.Stores.{asc-rows, stop-gives, store-gives}
-use Rattle.demands.proofs.Frees.{storedWith, free-ok, stored-number}
+use Rattle.demands.proofs.Frees.{storedWith, FreeOk, free-ok, stored-number}
 use Rattle.demands.proofs.Last.{ending, Last}
 use Rattle.demands.proofs.Growth.{nothing, aRecord, grow-from}
 use Rattle.demands.proofs.Changes.{grow-room}
@@ -54,24 +54,17 @@ abbrev pathIn : Way → Path → Path
 pathIn Here d = d
 pathIn (By w) d = w
 
-module _ (st : State) (ss : List Section) (f : Free) (r : Ready (desc st .wpr) st ss f) (kw : Key (desc st) (keyIn (desc st) (st .work))) (L : Last (texts st) (st .session .flag) ss f) where
-  abbrev p : Description
-  p = desc st
+-- the last place, and how many records its leaf has
+pub record EndScene : Type 0 where
+  pub end : Place
+  pub n₀ : ℕ
 
-  abbrev v : Texts
-  v = texts st
+abbrev pub endScene : (st : State) (ss : List Section) (f : Free) → Last (texts st) (st .session .flag) ss f → EndScene
+endScene st ss f L = record { end = ending (L .before) (L .index) (L .low) (L .leaf); n₀ = length (L .leaf .records) }
 
-  abbrev flag : Bool
-  flag = st .session .flag
-
-  abbrev w : List ℕ
-  w = keyIn (desc st) (st .work)
-
-  abbrev K : List ℕ → ℕ
-  K = key (desc st .k)
-
-  abbrev rows : List (List ℕ)
-  rows = contents (leavesOf ss)
+module _ (st : State) (ss : List Section) (f : Free) (r : Ready (desc st .wpr) st ss f) (kw : Key (desc st) (keyIn (desc st) (st .work)))
+    (L : Last (texts st) (st .session .flag) ss f) where
+  open Scene (scene st ss) using (p, v, flag, w, K, rows)
 
   -- the last place, and how many records its leaf has
   abbrev pub a : Place
@@ -86,10 +79,10 @@ module _ (st : State) (ss : List Section) (f : Free) (r : Ready (desc st .wpr) s
   pub kr : p .k ≤ p .wpr
   kr = good-facts p good .key
 
-  pub held : Holds p (masterOf p (st .file)) (textOf v) ss f
+  pub held : HoldsCells p (masterOf p (st .file)) (textOf v) ss f
   held = r .sound .kept .holds
 
-  pub lk : LeafOk p (L .leaf)
+  pub lk : LeafFits p (L .leaf)
   lk = leaf-ok p a f _ _ (L .at .held)
 
   pub oks : All (RowOk p) (L .front ++ endRecord p ∷ [])
@@ -104,14 +97,17 @@ module _ (st : State) (ss : List Section) (f : Free) (r : Ready (desc st .wpr) s
   -- the last bound is ONES
   pub top-is : hi p a ≡ suc (val (ones (p .k)))
   top-is =
-      sym (ap (reach (p .k) 0) (leaves-append (L .before) (sec (L .index) (L .low ++ (L .leaf ∷ [])) ∷ []) ∙ ap (λ (u : List Leaf). leavesOf (L .before) ++ u) (append-nil (L .low ++ (L .leaf ∷ []))))
-      ∙ reach-append (p .k) 0 (leavesOf (L .before)) (L .low ++ (L .leaf ∷ [])) ∙ reach-append (p .k) (reach (p .k) 0 (leavesOf (L .before))) (L .low) (L .leaf ∷ []))
+      sym (ap (reach (p .k) 0) (leavesIn-append (L .before) (sec (L .index) (L .low ++ (L .leaf ∷ [])) ∷ []) ∙ ap
+      (λ (u : List Leaf). leavesIn (L .before) ++ u) (append-nil (L .low ++ (L .leaf ∷ []))))
+      ∙ reach-append (p .k) 0 (leavesIn (L .before)) (L .low ++ (L .leaf ∷ []))
+      ∙ reach-append (p .k) (reach (p .k) 0 (leavesIn (L .before))) (L .low) (L .leaf ∷ []))
       ∙ L .at .held .top
 
   pub bound-ones : L .leaf .bound ≡ ones (p .k)
   unfolding bd
   bound-ones =
-      val-inj (L .leaf .bound) (ones (p .k)) (lk .wide) (allWords-replicate (p .k) topWord (omega arith)) (lk .bound ∙ sym (length-replicate {A = ℕ} (p .k) topWord)) (omega (arith, top-is))
+      val-inj (L .leaf .bound) (ones (p .k)) (lk .wide) (allWords-replicate (p .k) topWord (omega arith))
+      (lk .bound ∙ sym (length-replicate {A = ℕ} (p .k) topWord)) (omega (arith, top-is))
 
   pub text-is : textAt v (L .way) ≡ table (p .wpb) (L .front ++ endRecord p ∷ [])
   text-is = L .at .text-is ∙ ap (table (p .wpb)) (L .rows-are)
@@ -130,7 +126,8 @@ module _ (st : State) (ss : List Section) (f : Free) (r : Ready (desc st .wpr) s
   unfolding extendDeed
   last-deed d e = ap (λ (m : Checked Way). m >>= (λ x. extendAt v flag w x)) (L .way-is) ∙ e
 
-  pub xtend-by : (d : Extend) (e : Effect) → extendAt v flag w (L .way) ≡ passed d → extendDone v flag (st .work) d ≡ passed e → xtend st ≡ outcome (st .session) e
+  pub xtend-by : (d : Extend) (e : Effect) → extendAt v flag w (L .way) ≡ passed d → extendDone v flag (st .work) d ≡ passed e
+      → xtend st ≡ outcome (st .session) e
   unfolding xtend xtendSteps
   xtend-by d e ed ee =
       ready-pass st ss f (p .wpr) r (xtendSteps v flag (st .work)) e
@@ -146,7 +143,7 @@ module _ (st : State) (ss : List Section) (f : Free) (r : Ready (desc st .wpr) s
 
   pub read-cost : (x : ℕ) → length (reading x (reached v flag (L .way)) .moves) ≤ 4
   unfolding reading
-  read-cost x = rw (length-append (reached v flag (L .way) .moves) (cond (eqb x 0) [] (Read x ∷ []))) (omega (arith, way-cost v flag (L .way), one (eqb x 0)))
+  read-cost x = rw (length-append (reached v flag (L .way) .moves) (cond (eqb x 0) [] (Read x ∷ []))) (omega (arith, way-few v flag (L .way), one (eqb x 0)))
     where
       one : (t : Bool) → length (cond t [] (Read x ∷ [])) ≤ 1
       one true = omega arith
@@ -157,13 +154,14 @@ module _ (st : State) (ss : List Section) (f : Free) (r : Ready (desc st .wpr) s
   unfolding extendDone reading
   stop-xtend x n e =
       let here : Reached = reached v flag (L .way) in
-      let back : Kept (leftBy v here) (here .flag) ss f = subst (λ (z : List Section). Kept (leftBy v here) (here .flag) z f) (sym (L .at .is)) (L .at .kept) in
+      let back : KeptTree (textsLeft v here) (here .flag) ss f
+      = subst (λ (z : List Section). KeptTree (textsLeft v here) (here .flag) z f) (sym (L .at .is)) (L .at .kept) in
       subst (λ (z : Outcome). Gives st ss z n 4 rows nothing ss f) (sym (xtend-by (Stop (L .way) x n) (stopping n (st .work) (reading x here)) e refl))
       (stop-gives st ss f (r .sound) (r .opened) (reading x here) 4 (read-cost x) back n (st .work))
 
   -- "Fewer than FD records"
-  pub room-at : (x : ℕ) → extendAt v flag w (L .way) ≡ roomDeed v (L .way) x → extendAt v flag w (L .way) ≡ passed (Room (L .way) x (storedWith p (size + 1) f))
-  unfolding roomDeed
+  pub room-at : (x : ℕ) → extendAt v flag w (L .way) ≡ lastRoom v (L .way) x → extendAt v flag w (L .way) ≡ passed (Room (L .way) x (storedWith p (size + 1) f))
+  unfolding lastRoom
   room-at x e = e ∙ simp (counted, heads, lows, stored-number v (size + 1) f (free-ok v ss f _ held))
 
   -- ---- the record goes before the end record: its key is above all others there
@@ -179,17 +177,24 @@ module _ (st : State) (ss : List Section) (f : Free) (r : Ready (desc st .wpr) s
     unfolding ins
     ins-is =
         ap (λ (z : List (List ℕ)). ins K (st .work) z) (L .rows-are)
-        ∙ rw (key-is, below-at K (lo p a) (L .front) (val w) (endRecord p ∷ []) (hi p a) seq end-asc, from-at K (lo p a) (L .front) (val w) (endRecord p ∷ []) (hi p a) seq end-asc)
+        ∙ rw (
+          key-is,
+          below-at K (lo p a) (L .front) (val w) (endRecord p ∷ []) (hi p a) seq end-asc,
+          from-at K (lo p a) (L .front) (val w) (endRecord p ∷ [])
+              (hi p a) seq end-asc,
+        )
 
     pub grown : Asc K (lo p a) (L .front ++ st .work ∷ (endRecord p ∷ [])) (hi p a)
     grown =
         asc-append K (lo p a) (L .front) (val w) (st .work ∷ (endRecord p ∷ [])) (hi p a) seq
         (rw key-is (omega arith), (rw key-is (omega (arith, kw .below, end-key p kr)), end-asc .1))
 
-    pub grown-contents : (ls : List Leaf) → contents ls ≡ L .front ++ st .work ∷ (endRecord p ∷ []) → contents (leavesOf (treeWith a ls)) ≡ ins K (st .work) rows
+    pub grown-contents : (ls : List Leaf) → recordsIn ls ≡ L .front ++ st .work ∷ (endRecord p ∷ [])
+        → recordsIn (leavesIn (treeWith a ls)) ≡ ins K (st .work) rows
     grown-contents ls e =
-        ins-here p a f _ _ (L .at .held) (val w) (asc-le K (lo p a) (L .front) (val w) seq) (omega (arith, top-is, kw .below)) ls (st .work) key-is (e ∙ sym ins-is)
-        ∙ ap (λ (z : List Section). ins K (st .work) (contents (leavesOf z))) (sym (L .at .is))
+        ins-here p a f _ _ (L .at .held) (val w) (asc-le K (lo p a) (L .front) (val w) seq) (omega (arith, top-is, kw .below)) ls (st .work) key-is
+        (e ∙ sym ins-is)
+        ∙ ap (λ (z : List Section). ins K (st .work) (recordsIn (leavesIn z))) (sym (L .at .is))
 
     pub grown-ended : Ended p (ins K (st .work) rows)
     grown-ended = ended-ins p kr rows _ (asc-rows p _ _ ss f held) (r .sound .kept .ended) (st .work) (rw key-is (kw .below))
@@ -209,11 +214,17 @@ module _ (st : State) (ss : List Section) (f : Free) (r : Ready (desc st .wpr) s
         let buf : here .buffer ≡ table (p .wpb) (L .front ++ endRecord p ∷ []) = L .at .buffer-is ∙ ap (table (p .wpb)) (L .rows-are) in
         let i : count (here .buffer) - 1 ≡ length (L .front) = omega (arith, ap count (L .at .buffer-is) ∙ count-table (p .wpb) (L .leaf .records), size-is) in
         let words : t ≡ table (p .wpb) rs
-        = ap (λ (m : ℕ). inserted (detailShape p) m (recordIn p (st .work)) (here .buffer)) i ∙ ap (λ (y : List ℕ). inserted (detailShape p) (length (L .front)) y (here .buffer)) (work-is st ss f r)
-        ∙ ap (inserted (detailShape p) (length (L .front)) (st .work)) buf ∙ record-insert p kr (L .front) (st .work) (endRecord p ∷ []) oks (r .work-length) fits in
-        subst (λ (z : Outcome). Gives st ss z n 4 (ins K (st .work) rows) aRecord (treeWith a (withRows p (L .leaf) (L .front ++ st .work ∷ (endRecord p ∷ [])) ∷ [])) f) (sym (xtend-by (Room (L .way) x n) (storing n (st .work) (reading x here) t) deed refl))
-        (store-gives st ss f (r .sound) (r .opened) (reading x here) 4 (read-cost x) a (L .at .kept) (L .at .current-is) rs (ins K (st .work) rows) t n (st .work) words grown
-        (omega (arith, len)) (omega (arith, len, full less)) (all-append (RowOk p) (L .front) _ (all-left (RowOk p) (L .front) _ oks) (work-ok st ss f r, all-right (RowOk p) (L .front) _ oks))
+        = ap (λ (m : ℕ). inserted (detailShape p) m (recordIn p (st .work)) (here .buffer)) i
+        ∙ ap (λ (y : List ℕ). inserted (detailShape p) (length (L .front)) y (here .buffer)) (work-is st ss f r)
+        ∙ ap (inserted (detailShape p) (length (L .front)) (st .work)) buf
+        ∙ record-insert p kr (L .front) (st .work) (endRecord p ∷ []) oks (r .work-length) fits in
+        subst (λ (z : Outcome). Gives st ss z n 4 (ins K (st .work) rows) aRecord
+        (treeWith a (withRows p (L .leaf) (L .front ++ st .work ∷ (endRecord p ∷ [])) ∷ [])) f)
+        (sym (xtend-by (Room (L .way) x n) (storing n (st .work) (reading x here) t) deed refl))
+        (store-gives st ss f (r .sound) (r .opened) (reading x here) 4 (read-cost x) a (L .at .kept) (L .at .current-is) rs (ins K (st .work) rows) t n
+        (st .work) words grown
+        (omega (arith, len)) (omega (arith, len, full less))
+        (all-append (RowOk p) (L .front) _ (all-left (RowOk p) (L .front) _ oks) (work-ok st ss f r, all-right (RowOk p) (L .front) _ oks))
         (grown-contents (withRows p (L .leaf) rs ∷ []) (append-nil rs)) grown-ended kw aRecord
         (grow-from p ss (treeOf a) _ aRecord (L .at .is) (grow-room p good a (withRows p (L .leaf) rs) len)))
       where
@@ -230,17 +241,23 @@ module _ (st : State) (ss : List Section) (f : Free) (r : Ready (desc st .wpr) s
     unfolding key
     high-key =
         let n : size - 2 ≡ length fr = omega (arith, more) in
-        let q : L .leaf .records ≡ fr ++ y ∷ (endRecord p ∷ []) = L .rows-are ∙ ap (λ (u : List (List ℕ)). u ++ endRecord p ∷ []) e ∙ append-assoc fr (y ∷ []) (endRecord p ∷ []) in
+        let q : L .leaf .records ≡ fr ++ y ∷ (endRecord p ∷ [])
+        = L .rows-are ∙ ap (λ (u : List (List ℕ)). u ++ endRecord p ∷ []) e ∙ append-assoc fr (y ∷ []) (endRecord p ∷ []) in
         let all : All (RowOk p) (fr ++ y ∷ (endRecord p ∷ [])) = subst (All (RowOk p)) q (lk .rows) in
         let kl : (length (take (p .k) y) ≡ p .k) × (allWords (take (p .k) y) ≡ true) = key-long p kr y (all-right (RowOk p) fr _ all .0) in
-        ap₂ (λ (t : List ℕ) (m : ℕ). keyLt (keyAt (detailShape p) t m) w) (L .at .text-is ∙ ap (table (p .wpb)) q) n ∙ ap (λ (t : List ℕ). keyLt t w) (key-here p kr fr y (endRecord p ∷ []) all)
+        ap₂ (λ (t : List ℕ) (m : ℕ). keyLt (keyAt (detailShape p) t m) w) (L .at .text-is ∙ ap (table (p .wpb)) q) n
+        ∙ ap (λ (t : List ℕ). keyLt t w) (key-here p kr fr y (endRecord p ∷ []) all)
         ∙ keyLt-val (take (p .k) y) w (kl .1) (kw .wide) (kl .0 ∙ sym (kw .long))
 
-    pub ordinary : extendAt v flag w (L .way) ≡ cond (not (ltb (K y) (val w))) (passed (Stop (L .way) 0 outOfSequence)) (cond (ltb size (FD p)) (roomDeed v (L .way) 0) (newDeed v flag (L .way)))
+    pub ordinary : extendAt v flag w (L .way) ≡ cond (not (ltb (K y) (val w))) (passed (Stop (L .way) 0 outOfSequence))
+        (cond (ltb size (FD p)) (lastRoom v (L .way) 0) (newDeed v flag (L .way)))
     unfolding extendAt
     ordinary =
-        ap (λ (m : ℕ). cond (eqb m 1) (aloneDeed v w (L .way)) (cond (not (keyLt (keyAt (detailShape p) (textAt v (L .way)) (m - 2)) w)) (passed (Stop (L .way) 0 outOfSequence)) (cond (ltb m (FD p)) (roomDeed v (L .way) 0) (newDeed v flag (L .way))))) counted
-        ∙ ap₂ (λ (t u : Bool). cond t (aloneDeed v w (L .way)) (cond (not u) (passed (Stop (L .way) 0 outOfSequence)) (cond (ltb size (FD p)) (roomDeed v (L .way) 0) (newDeed v flag (L .way)))))
+        ap (λ (m : ℕ). cond (eqb m 1) (aloneDeed v w (L .way))
+        (cond (not (keyLt (keyAt (detailShape p) (textAt v (L .way)) (m - 2)) w)) (passed (Stop (L .way) 0 outOfSequence))
+        (cond (ltb m (FD p)) (lastRoom v (L .way) 0) (newDeed v flag (L .way))))) counted
+        ∙ ap₂ (λ (t u : Bool). cond t (aloneDeed v w (L .way))
+        (cond (not u) (passed (Stop (L .way) 0 outOfSequence)) (cond (ltb size (FD p)) (lastRoom v (L .way) 0) (newDeed v flag (L .way)))))
         (ne-eqb size 1 (λ q. omega (arith, q, more))) high-key
 
     pub five-deed : val w ≤ K y → extendAt v flag w (L .way) ≡ passed (Stop (L .way) 0 outOfSequence)
@@ -251,14 +268,39 @@ module _ (st : State) (ss : List Section) (f : Free) (r : Ready (desc st .wpr) s
 
     pub in-sequence : K y < val w → Asc K (lo p a) (L .front) (val w)
     in-sequence h =
-        let b : Asc K (lo p a) (fr ++ y ∷ []) (K (endRecord p)) = subst (λ (u : List (List ℕ)). Asc K (lo p a) u (K (endRecord p))) e (cut-front K (lo p a) (L .front) (endRecord p) [] _ asc) in
-        subst (λ (u : List (List ℕ)). Asc K (lo p a) u (val w)) (sym e) (asc-append K (lo p a) fr (K y) (y ∷ []) (val w) (cut-front K (lo p a) fr y [] _ b) (omega arith, h))
+        let b : Asc K (lo p a) (fr ++ y ∷ []) (K (endRecord p))
+        = subst (λ (u : List (List ℕ)). Asc K (lo p a) u (K (endRecord p))) e (cut-front K (lo p a) (L .front) (endRecord p) [] _ asc) in
+        subst (λ (u : List (List ℕ)). Asc K (lo p a) u (val w)) (sym e)
+        (asc-append K (lo p a) fr (K y) (y ∷ []) (val w) (cut-front K (lo p a) fr y [] _ b) (omega arith, h))
 
     pub room-deed : K y < val w → size < FD p → extendAt v flag w (L .way) ≡ passed (Room (L .way) 0 (storedWith p (size + 1) f))
     room-deed h less = room-at 0 (ordinary ∙ simp (lt-ltb (K y) (val w) h, lt-ltb size (FD p) less))
 
-    pub xtend-room : K y < val w → size < FD p → Gives st ss (xtend st) (storedWith p (size + 1) f) 4 (ins K (st .work) rows) aRecord (treeWith a (withRows p (L .leaf) (L .front ++ st .work ∷ (endRecord p ∷ [])) ∷ [])) f
+    pub xtend-room : K y < val w → size < FD p → Gives st ss (xtend st) (storedWith p (size + 1) f) 4 (ins K (st .work) rows) aRecord
+        (treeWith a (withRows p (L .leaf) (L .front ++ st .work ∷ (endRecord p ∷ [])) ∷ [])) f
     xtend-room h less = room-gives (in-sequence h) less 0 (room-deed h less)
 
     pub to-new : K y < val w → FD p ≤ size → extendAt v flag w (L .way) ≡ newDeed v flag (L .way)
     to-new h full = ordinary ∙ simp (lt-ltb (K y) (val w) h, le-ltb size (FD p) full)
+
+-- what is known of the end of the tree
+pub record End (st : State) (ss : List Section) (f : Free) (L : Last (texts st) (st .session .flag) ss f) : Type 0 where
+  pub g : goodParams (desc st) ≡ true
+  pub hd : HoldsCells (desc st) (masterOf (desc st) (st .file)) (textOf (texts st)) ss f
+  pub fo : FreeOk (texts st) f
+  pub rok : All (RowOk (desc st)) (L .front ++ endRecord (desc st) ∷ [])
+  pub so : SectionOk (desc st) (sec (L .index) (L .low ++ (L .leaf ∷ [])))
+  pub index-is : textOf (texts st) (L .index) ≡ indexText (desc st .wpb) (L .low ++ (L .leaf ∷ []))
+
+pub the-end : (st : State) (ss : List Section) (f : Free) → Ready (desc st .wpr) st ss f → Key (desc st) (keyIn (desc st) (st .work))
+    → (L : Last (texts st) (st .session .flag) ss f) → End st ss f L
+the-end st ss f r kw L =
+    let end = ending (L .before) (L .index) (L .low) (L .leaf) in
+    record {
+      g = good st ss f r kw L;
+      hd = held st ss f r kw L;
+      fo = free-ok (texts st) ss f _ (held st ss f r kw L);
+      rok = oks st ss f r kw L;
+      so = sec-ok (desc st) end f _ _ (L .at .held);
+      index-is = index-text (desc st) end f _ _ (L .at .held);
+    }

@@ -1,6 +1,6 @@
 -- XTEND that starts a block, and an index block and section besides.
 use Prim.Native.Nat.{ℕ, _+_, _-_, _≤_, _<_}
-use mathlib.Core.Bool.{Bool, true, false}
+use mathlib.Core.Bool.{false}
 use mathlib.Core.Path.{_≡_, refl, sym, ap, _∙_, subst}
 use mathlib.Core.List.{List, [], _∷_, _++_, append-nil, append-assoc}
 use native.Mathlib.Omega.{arith}
@@ -8,84 +8,49 @@ use lib.ListN.{length, length-append}
 use Rattle.words.specs.Words.{part}
 use Rattle.words.specs.Keys.{ones, val}
 use Rattle.table.specs.Tables.{count, row, replaced, laid}
-use Rattle.drum.specs.declared.Description.{Description}
-use Rattle.drum.specs.Params.{I, FD, FI, detailShape, masterShape, indexShape, goodParams}
-use Rattle.drum.specs.Blocks.{Texts, Transfer, textOf, written}
+use Rattle.drum.specs.Params.{I, FD, FI, detailShape, masterShape, indexShape}
+use Rattle.drum.specs.Blocks.{Transfer, textOf, written}
 use Rattle.drum.proofs.Good.{good-facts}
 use Rattle.layout.specs.Create.{endRecord}
 use Rattle.rules.specs.declared.Extend.the-variants.{New, Both}
 use Rattle.rules.specs.State.{State, Outcome, desc, texts, keyIn, recordIn}
 use Rattle.rules.specs.Lookup.{reached, textAt, landing}
-use Rattle.rules.specs.XtendDone.{extendDone, xtend, oldText, endText, onesEntry, bounded, extended, newMoves, bothMoves, newFile, bothFile}
+use Rattle.rules.specs.XtendDone.{extendDone, xtend, oldText, endText, onesEntry, bounded, extended, newMoves, sectionMoves, newFile, sectionFile}
+use Rattle.rules.proofs.Sizes.{way-few}
+use Rattle.demands.proofs.Scene.{Scene, scene}
 use Rattle.demands.proofs.Lists.{All, all-append, all-left, all-right}
 use Rattle.layout.specs.Tree.{Leaf, Section}
-use Rattle.demands.proofs.Trees.{leavesOf, contents, key, table, indexText, leafCell, entry}
-use Rattle.demands.proofs.Holds.{Free, Holds, LeafOk, SectionOk, RowOk, headOr, masterText}
+use Rattle.demands.proofs.Trees.{leavesIn, recordsIn, key, table, indexText, leafCell, entry}
+use Rattle.demands.proofs.Holds.{Free, LeafFits, RowOk, headOr, masterFor}
 use Rattle.demands.proofs.Steps.{sec, lf, ix, lower, upper}
-use Rattle.demands.proofs.Places.{Place, treeOf, treeWith, lo, hi, index-text, sec-ok, lastBound-append}
-use Rattle.demands.proofs.Blocks.{masterOf, writes, Fits}
+use Rattle.demands.proofs.Places.{treeOf, treeWith, lo, hi, lastBound-append}
+use Rattle.demands.proofs.Blocks.{cellsWritten, Fits}
 use Rattle.demands.proofs.Entries.{index-long}
 use Rattle.demands.proofs.Paths.{pathOf}
 use Rattle.demands.proofs.Records.{key-long, record-replace, row-here}
 use Rattle.demands.proofs.Sound.{Key}
 use Rattle.demands.proofs.Answers.{Ready, work-is, work-ok, Gives}
-use Rattle.demands.proofs.Reach.{way-cost}
-use Rattle.demands.proofs.Frees.{freeCount, storedWith, FreeOk, free-ok, next, taken, takenOf, taken-count, next-in, second-in}
-use Rattle.demands.proofs.Last.{ending, Last}
+use Rattle.demands.proofs.Frees.{freeCount, storedWith, next, taken, takenOf, taken-count, next-in, second-in}
+use Rattle.demands.proofs.Last.{Last}
 use Rattle.rules.specs.Free.{withFree}
 use Rattle.demands.proofs.Order.{Asc, ins}
 use Rattle.demands.proofs.Cells.{Cell, weigh-cons, weigh-nil}
 use Rattle.demands.proofs.Rows.{cat}
 use Rattle.demands.proofs.Masters.{index-bounded, index-extended, master-extended}
 use Rattle.demands.proofs.Acts.{low-fits, high-fits, index-fits, news-ok, news-length, two-spot, two-gives, leaves-cut, half-spot, four-gives}
-use Rattle.demands.proofs.Xtend.{good, kr, held, lk, oks, size-is, bound-ones, text-is, counted, xtend-by, grown, grown-contents, grown-ended, in-sequence}
+use Rattle.demands.proofs.Xtend.{EndScene, endScene, End, the-end, kr, held, lk, size-is, bound-ones, text-is, counted, xtend-by, grown}
+use Rattle.demands.proofs.Xtend.{grown-contents, grown-ended, in-sequence}
 use Rattle.demands.proofs.XtendDeed.{new-deed, both-deed}
 use Rattle.demands.proofs.Growth.{aStart, bothStart, grow-from}
 use Rattle.demands.proofs.Changes.{grow-start, grow-start-both}
 
-module _ (st : State) (ss : List Section) (f : Free) (r : Ready (desc st .wpr) st ss f) (kw : Key (desc st) (keyIn (desc st) (st .work))) (L : Last (texts st) (st .session .flag) ss f)
-    (fr : List (List ℕ)) (y : List ℕ) (e : L .front ≡ fr ++ y ∷ []) (higher : key (desc st .k) y < val (keyIn (desc st) (st .work))) (full : FD (desc st) ≤ length (L .leaf .records)) where
-  abbrev p : Description
-  p = desc st
-
-  abbrev v : Texts
-  v = texts st
-
-  abbrev flag : Bool
-  flag = st .session .flag
-
-  abbrev w : List ℕ
-  w = keyIn (desc st) (st .work)
-
-  abbrev K : List ℕ → ℕ
-  K = key (desc st .k)
-
-  abbrev rows : List (List ℕ)
-  rows = contents (leavesOf ss)
-
-  abbrev end : Place
-  end = ending (L .before) (L .index) (L .low) (L .leaf)
-
-  abbrev n₀ : ℕ
-  n₀ = length (L .leaf .records)
-
-  g : goodParams p ≡ true
-  g = good st ss f r kw L
-
-  hd : Holds p (masterOf p (st .file)) (textOf v) ss f
-  hd = held st ss f r kw L
-
-  fo : FreeOk v f
-  fo = free-ok v ss f _ hd
-
-  rok : All (RowOk p) (L .front ++ endRecord p ∷ [])
-  rok = oks st ss f r kw L
-
-  so : SectionOk p (sec (L .index) (L .low ++ (L .leaf ∷ [])))
-  so = sec-ok p end f _ _ (L .at .held)
-
-  index-is : textOf v (L .index) ≡ indexText (p .wpb) (L .low ++ (L .leaf ∷ []))
-  index-is = index-text p end f _ _ (L .at .held)
+module _ (st : State) (ss : List Section) (f : Free) (r : Ready (desc st .wpr) st ss f) (kw : Key (desc st) (keyIn (desc st) (st .work)))
+    (L : Last (texts st) (st .session .flag) ss f)
+    (fr : List (List ℕ)) (y : List ℕ) (e : L .front ≡ fr ++ y ∷ []) (higher : key (desc st .k) y < val (keyIn (desc st) (st .work)))
+    (full : FD (desc st) ≤ length (L .leaf .records)) where
+  open Scene (scene st ss) using (p, v, flag, w, K, rows)
+  open EndScene (endScene st ss f L) using (end, n₀)
+  open End (the-end st ss f r kw L) using (g, hd, fo, rok, so, index-is)
 
   -- ---- the two leaves
 
@@ -107,7 +72,7 @@ module _ (st : State) (ss : List Section) (f : Free) (r : Ready (desc st .wpr) s
   asc : Asc K (lo p end) (L .front ++ st .work ∷ (endRecord p ∷ [])) (hi p end)
   asc = grown st ss f r kw L seq
 
-  ok₁ : LeafOk p l₁
+  ok₁ : LeafFits p l₁
   ok₁ = record {
     some = rw (length-append (L .front) (st .work ∷ [])) (omega arith);
     room = rw (length-append (L .front) (st .work ∷ [])) (omega (arith, size-is st ss f r kw L, lk st ss f r kw L .room));
@@ -116,7 +81,7 @@ module _ (st : State) (ss : List Section) (f : Free) (r : Ready (desc st .wpr) s
     wide = key-long p (kr st ss f r kw L) (st .work) (work-ok st ss f r) .1;
   }
 
-  ok₂ : LeafOk p l₂
+  ok₂ : LeafFits p l₂
   ok₂ = record {
     some = omega arith;
     room = omega (arith, good-facts p g .two-records);
@@ -125,7 +90,7 @@ module _ (st : State) (ss : List Section) (f : Free) (r : Ready (desc st .wpr) s
     wide = lk st ss f r kw L .wide;
   }
 
-  now : contents (leavesOf (treeWith end (l₁ ∷ (l₂ ∷ [])))) ≡ ins K (st .work) rows
+  now : recordsIn (leavesIn (treeWith end (l₁ ∷ (l₂ ∷ [])))) ≡ ins K (st .work) rows
   now = grown-contents st ss f r kw L seq (l₁ ∷ (l₂ ∷ [])) (append-assoc (L .front) (st .work ∷ []) (endRecord p ∷ []))
 
   -- ---- their words
@@ -136,27 +101,31 @@ module _ (st : State) (ss : List Section) (f : Free) (r : Ready (desc st .wpr) s
   old-is : oldText v (L .way) (st .work) ≡ table (p .wpb) (L .front ++ (st .work ∷ []))
   unfolding oldText
   old-is =
-      ap (λ (m : ℕ). replaced (detailShape p) m (recordIn p (st .work)) (textAt v (L .way))) last-at ∙ ap (λ (x : List ℕ). replaced (detailShape p) (length (L .front)) x (textAt v (L .way))) (work-is st ss f r)
-      ∙ ap (replaced (detailShape p) (length (L .front)) (st .work)) (text-is st ss f r kw L) ∙ record-replace p (kr st ss f r kw L) (L .front) (endRecord p) [] rok (st .work) (r .work-length)
+      ap (λ (m : ℕ). replaced (detailShape p) m (recordIn p (st .work)) (textAt v (L .way))) last-at
+      ∙ ap (λ (x : List ℕ). replaced (detailShape p) (length (L .front)) x (textAt v (L .way))) (work-is st ss f r)
+      ∙ ap (replaced (detailShape p) (length (L .front)) (st .work)) (text-is st ss f r kw L)
+      ∙ record-replace p (kr st ss f r kw L) (L .front) (endRecord p) [] rok (st .work) (r .work-length)
 
   end-is : endText v (L .way) ≡ table (p .wpb) (endRecord p ∷ [])
   unfolding endText table cat
   end-is =
-      ap (laid (p .wpb) 1) (ap (λ (m : ℕ). row (detailShape p) (textAt v (L .way)) m) last-at ∙ ap (λ (t : List ℕ). row (detailShape p) t (length (L .front))) (text-is st ss f r kw L) ∙ row-here p (kr st ss f r kw L) (L .front) (endRecord p) [] rok ∙ sym (append-nil (endRecord p)))
+      ap (laid (p .wpb) 1) (ap (λ (m : ℕ). row (detailShape p) (textAt v (L .way)) m) last-at ∙ ap (λ (t : List ℕ). row (detailShape p) t (length (L .front)))
+      (text-is st ss f r kw L) ∙ row-here p (kr st ss f r kw L) (L .front) (endRecord p) [] rok ∙ sym (append-nil (endRecord p)))
 
   bound-key : l₁ .bound ≡ w
   unfolding part
   bound-key = refl
 
   cost : (ms : List Transfer) (n : ℕ) → length ms ≡ n → length (reached v flag (L .way) .moves ++ ms) ≤ 3 + n
-  cost ms n q = rw (length-append (reached v flag (L .way) .moves) ms) (omega (arith, q, way-cost v flag (L .way)))
+  cost ms n q = rw (length-append (reached v flag (L .way) .moves) ms) (omega (arith, q, way-few v flag (L .way)))
 
   old-length : length (l₁ .records) ≡ length (L .leaf .records)
   old-length = rw (length-append (L .front) (st .work ∷ [])) (omega (arith, size-is st ss f r kw L))
 
   -- the leaf becomes two
-  pub xtend-new : length (L .low ++ (L .leaf ∷ [])) < FI p → 1 ≤ freeCount f → Gives st ss (xtend st) (storedWith p n₀ (taken f)) 7 (ins K (st .work) rows) aStart (treeWith end (l₁ ∷ (l₂ ∷ []))) (taken f)
-  unfolding extendDone newFile newMoves writes leafCell FI
+  pub xtend-new : length (L .low ++ (L .leaf ∷ [])) < FI p → 1 ≤ freeCount f
+      → Gives st ss (xtend st) (storedWith p n₀ (taken f)) 7 (ins K (st .work) rows) aStart (treeWith end (l₁ ∷ (l₂ ∷ []))) (taken f)
+  unfolding extendDone newFile newMoves cellsWritten leafCell FI
   xtend-new room some =
       let n : ℕ = storedWith p n₀ (taken f) in
       let ms : List Transfer = newMoves v (L .way) (pathOf end) (st .work) nb in
@@ -165,8 +134,9 @@ module _ (st : State) (ss : List Section) (f : Free) (r : Ready (desc st .wpr) s
       let room-index : length (L .low ++ (L .leaf ∷ [])) < I p = omega arith in
       let ws : List Cell = lf p l₁ ∷ ((L .index, ix p news) ∷ (lf p l₂ ∷ [])) in
       let ix-is : extended p (indexShape p) w nb (textOf v (L .index)) ≡ ix p news
-      = ap (extended p (indexShape p) w nb) index-is ∙ index-extended p g w (kw .long) (L .low) (L .leaf) (so .leaves) l₁ bound-key refl l₂ ok₁ (bound-ones st ss f r kw L) room-index in
-      let ms-is : writes ms ≡ ws = rw (old-is, ix-is, end-is) in
+      = ap (extended p (indexShape p) w nb) index-is
+      ∙ index-extended p g w (kw .long) (L .low) (L .leaf) (so .leaves) l₁ bound-key refl l₂ ok₁ (bound-ones st ss f r kw L) room-index in
+      let ms-is : cellsWritten ms ≡ ws = rw (old-is, ix-is, end-is) in
       let fit : All (Fits p) ws
       = (
         low-fits st ss f (r .sound) (r .opened) kw end (L .way) (L .at) (L .front) (st .work) (endRecord p ∷ []) nb asc ok₁ ok₂,
@@ -174,25 +144,35 @@ module _ (st : State) (ss : List Section) (f : Free) (r : Ready (desc st .wpr) s
           index-fits st ss f (r .sound) (r .opened) kw end (L .way) (L .at) (L .front) (st .work) (endRecord p ∷ []) nb asc ok₁ ok₂ news
               (news-ok st ss f (r .sound) (r .opened) kw end (L .way) (L .at) (L .front) (st .work) (endRecord p ∷ []) nb asc ok₁ ok₂)
               (rw (news-length st ss f (r .sound) (r .opened) kw end (L .way) (L .at) (L .front) (st .work) (endRecord p ∷ []) nb asc ok₁ ok₂) room-index),
-          (high-fits st ss f (r .sound) (r .opened) kw end (L .way) (L .at) (L .front) (st .work) (endRecord p ∷ []) nb asc ok₁ ok₂ (next-in p _ _ ss f hd some), tt),
+          (
+            high-fits st ss f (r .sound) (r .opened) kw end (L .way) (L .at) (L .front) (st .work) (endRecord p ∷ []) nb asc ok₁ ok₂
+                (next-in p _ _ ss f hd some),
+            tt,
+          ),
         ),
       ) in
-      subst (λ (z : Outcome). Gives st ss z n 7 (ins K (st .work) rows) aStart (treeWith end (l₁ ∷ (l₂ ∷ []))) (taken f)) (sym (xtend-by st ss f r kw L (New (L .way) (pathOf end) (takenOf f) n) (landing p n (st .work) moves nb file′) (new-deed st ss f r kw L fr y e higher full room some) refl))
-      (two-gives st ss f (r .sound) (r .opened) kw end (L .way) (L .at) (L .front) (st .work) (endRecord p ∷ []) nb asc ok₁ ok₂ refl some room-index ms ws ms-is fit
+      subst (λ (z : Outcome). Gives st ss z n 7 (ins K (st .work) rows) aStart (treeWith end (l₁ ∷ (l₂ ∷ []))) (taken f))
+      (sym (xtend-by st ss f r kw L (New (L .way) (pathOf end) (takenOf f) n) (landing p n (st .work) moves nb file′)
+      (new-deed st ss f r kw L fr y e higher full room some) refl))
+      (two-gives st ss f (r .sound) (r .opened) kw end (L .way) (L .at) (L .front) (st .work)
+      (endRecord p ∷ []) nb asc ok₁ ok₂ refl some room-index ms ws ms-is fit
       (λ x. simp (weigh-cons, weigh-nil) (omega arith)) (ins K (st .work) rows) now (grown-ended st ss f r kw L seq)
-      nb (two-spot st ss f (r .sound) (r .opened) kw end (L .way) (L .at) (L .front) (st .work) (endRecord p ∷ []) nb asc ok₁ ok₂ false) n 7 (cost ms 4 refl) aStart
+      nb (two-spot st ss f (r .sound) (r .opened) kw end (L .way) (L .at) (L .front) (st .work) (endRecord p ∷ []) nb asc ok₁ ok₂ false) n 7
+      (cost ms 4 refl) aStart
       (grow-from p ss (treeOf end) _ aStart (L .at .is) (grow-start p g end l₁ l₂ refl refl full old-length refl)))
 
   -- and a section begins
-  pub xtend-both : FI p ≤ length (L .low ++ (L .leaf ∷ [])) → 2 ≤ freeCount f → length ss < p .control → Gives st ss (xtend st) (storedWith p n₀ (taken (taken f))) 8 (ins K (st .work) rows) bothStart (L .before ++ (sec (L .index) (L .low ++ (l₁ ∷ [])) ∷ (sec (next (taken f)) (l₂ ∷ []) ∷ []))) (taken (taken f))
-  unfolding extendDone bothFile bothMoves writes leafCell
+  pub xtend-both : FI p ≤ length (L .low ++ (L .leaf ∷ [])) → 2 ≤ freeCount f → length ss < p .control → Gives st ss (xtend st)
+      (storedWith p n₀ (taken (taken f))) 8 (ins K (st .work) rows) bothStart
+      (L .before ++ (sec (L .index) (L .low ++ (l₁ ∷ [])) ∷ (sec (next (taken f)) (l₂ ∷ []) ∷ []))) (taken (taken f))
+  unfolding extendDone sectionFile sectionMoves cellsWritten leafCell
   xtend-both most two c =
       let n : ℕ = storedWith p n₀ (taken (taken f)) in
       let f₂ : Free = taken (taken f) in
       let nib : ℕ = next (taken f) in
       let some : 1 ≤ freeCount f = omega arith in
       let some₂ : 1 ≤ freeCount (taken f) = omega (arith, taken-count f some) in
-      let ms : List Transfer = bothMoves v (L .way) (pathOf end) (st .work) nb nib in
+      let ms : List Transfer = sectionMoves v (L .way) (pathOf end) (st .work) nb nib in
       let moves : List Transfer = reached v flag (L .way) .moves ++ ms in
       let us : List Leaf = L .low ++ (l₁ ∷ []) in
       let zs : List Leaf = l₂ ∷ [] in
@@ -202,11 +182,11 @@ module _ (st : State) (ss : List Section) (f : Free) (r : Ready (desc st .wpr) s
       let a₂ : length us ≤ I p = rw us-length (so .room) in
       let b₁ : 1 ≤ length zs = omega arith in
       let b₂ : length zs ≤ I p = omega (arith, good-facts p g .two-entries) in
-      let us-ok : All (LeafOk p) us = all-append (LeafOk p) (L .low) _ (all-left (LeafOk p) (L .low) _ (so .leaves)) (ok₁, tt) in
+      let us-ok : All (LeafFits p) us = all-append (LeafFits p) (L .low) _ (all-left (LeafFits p) (L .low) _ (so .leaves)) (ok₁, tt) in
       let ws : List Cell = lf p l₁ ∷ ((L .index, ix p us) ∷ (lf p l₂ ∷ ((nib, ix p zs) ∷ []))) in
       let ix-is : bounded (indexShape p) w (textOf v (L .index)) ≡ ix p us
       = ap (bounded (indexShape p) w) index-is ∙ index-bounded p g w (kw .long) (L .low) (L .leaf) (so .leaves) l₁ bound-key refl in
-      let ms-is : writes ms ≡ ws = rw (old-is, ix-is, end-is, one-entry nb) in
+      let ms-is : cellsWritten ms ≡ ws = rw (old-is, ix-is, end-is, one-entry nb) in
       let i₂ : (1 ≤ nib) × (nib ≤ p .n) = second-in p _ _ ss f hd some some₂ in
       let fit : All (Fits p) ws
       = (
@@ -214,21 +194,29 @@ module _ (st : State) (ss : List Section) (f : Free) (r : Ready (desc st .wpr) s
         (
           index-fits st ss f (r .sound) (r .opened) kw end (L .way) (L .at) (L .front) (st .work) (endRecord p ∷ []) nb asc ok₁ ok₂ us us-ok a₂,
           (
-            high-fits st ss f (r .sound) (r .opened) kw end (L .way) (L .at) (L .front) (st .work) (endRecord p ∷ []) nb asc ok₁ ok₂ (next-in p _ _ ss f hd some),
+            high-fits st ss f (r .sound) (r .opened) kw end (L .way) (L .at) (L .front) (st .work) (endRecord p ∷ []) nb asc ok₁ ok₂
+                (next-in p _ _ ss f hd some),
             ((i₂ .0, i₂ .1, index-long p g zs (ok₂, tt) b₂), tt),
           ),
         ),
       ) in
       let op : List ℕ → List ℕ = extended p (masterShape p) w nib in
-      let law : (rest : List ℕ) → op (masterText p (treeOf end) f₂ ++ rest) ≡ masterText p (L .before ++ (sec (L .index) us ∷ (sec nib zs ∷ []))) f₂ ++ rest
-      = λ rest. master-extended p g w (kw .long) (L .before) (sec (L .index) (L .low ++ (L .leaf ∷ []))) (L .at .held .sized) f₂ rest (sec (L .index) us) (sec nib zs)
+      let law : (rest : List ℕ) → op (masterFor p (treeOf end) f₂ ++ rest) ≡ masterFor p (L .before ++ (sec (L .index) us ∷ (sec nib zs ∷ []))) f₂ ++ rest
+      = λ rest. master-extended p g w (kw .long) (L .before) (sec (L .index) (L .low ++ (L .leaf ∷ []))) (L .at .held .sized) f₂ rest (sec (L .index) us)
+      (sec nib zs)
       (lastBound-append [] (L .low) (l₁ ∷ []) ∙ bound-key) refl (bound-ones st ss f r kw L) (rw (← L .at .is) c) in
       let file′ : List ℕ = op (written p moves (withFree (headOr (f₂ .chain) 0) (f₂ .lowest) (st .file))) in
-      subst (λ (z : Outcome). Gives st ss z n 8 (ins K (st .work) rows) bothStart (L .before ++ (sec (L .index) (L .low ++ (l₁ ∷ [])) ∷ (sec (next (taken f)) (l₂ ∷ []) ∷ []))) (taken (taken f))) (sym (xtend-by st ss f r kw L (Both (L .way) (pathOf end) nb (takenOf (taken f)) n) (landing p n (st .work) moves nb file′) (both-deed st ss f r kw L fr y e higher full most two c) refl))
-      (four-gives st ss f (r .sound) (r .opened) kw end (L .way) (L .at) (L .front) (st .work) (endRecord p ∷ []) nb asc ok₁ ok₂ nib us zs joined a₁ a₂ b₁ b₂ refl refl two (rw (← L .at .is) c) ms ws ms-is fit
+      subst (λ (z : Outcome). Gives st ss z n 8 (ins K (st .work) rows) bothStart
+      (L .before ++ (sec (L .index) (L .low ++ (l₁ ∷ [])) ∷ (sec (next (taken f)) (l₂ ∷ []) ∷ []))) (taken (taken f)))
+      (sym (xtend-by st ss f r kw L (Both (L .way) (pathOf end) nb (takenOf (taken f)) n) (landing p n (st .work) moves nb file′)
+      (both-deed st ss f r kw L fr y e higher full most two c) refl))
+      (four-gives st ss f (r .sound) (r .opened) kw end (L .way) (L .at) (L .front) (st .work)
+      (endRecord p ∷ []) nb asc ok₁ ok₂ nib us zs joined a₁ a₂ b₁ b₂ refl refl two (rw (← L .at .is) c) ms ws ms-is fit
       (λ x. simp (weigh-cons, weigh-nil) (omega arith)) op law (ins K (st .work) rows)
-      (ap contents (leaves-cut st ss f (r .sound) (r .opened) kw end (L .way) (L .at) (L .front) (st .work) (endRecord p ∷ []) nb asc ok₁ ok₂ nib us zs joined a₁ a₂ b₁ b₂) ∙ now) (grown-ended st ss f r kw L seq)
-      nb (half-spot st ss f (r .sound) (r .opened) kw end (L .way) (L .at) (L .front) (st .work) (endRecord p ∷ []) nb asc ok₁ ok₂ nib us zs joined a₁ a₂ b₁ b₂ false) n 8 (cost ms 5 refl) bothStart
+      (ap recordsIn (leaves-cut st ss f (r .sound) (r .opened) kw end (L .way) (L .at) (L .front) (st .work)
+      (endRecord p ∷ []) nb asc ok₁ ok₂ nib us zs joined a₁ a₂ b₁ b₂) ∙ now) (grown-ended st ss f r kw L seq)
+      nb (half-spot st ss f (r .sound) (r .opened) kw end (L .way) (L .at) (L .front) (st .work)
+      (endRecord p ∷ []) nb asc ok₁ ok₂ nib us zs joined a₁ a₂ b₁ b₂ false) n 8 (cost ms 5 refl) bothStart
       (grow-from p ss (treeOf end) _ bothStart (L .at .is) (grow-start-both p g end l₁ l₂ nib us zs joined refl refl full old-length refl most us-length refl)))
     where
       one-entry : (b : ℕ) → laid (p .wpb) 1 (onesEntry p b) ≡ ix p (upper p (L .leaf) b (endRecord p ∷ []) ∷ [])

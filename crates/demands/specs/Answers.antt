@@ -19,11 +19,11 @@ use Rattle.demands.specs.Contents.{recordsAbove, Contains}
 
 -- the session is open and the workspace is of the right length
 abbrev pub Lent : State → List ℕ → Type 0
-Lent st w = (st .session .opened ≡ true) × (length w ≡ desc st .wpr)
+Lent st work = (st .session .opened ≡ true) × (length work ≡ desc st .wpr)
 
 -- a keyed call that reads so many words: none of them is above 262143, and the key is not ONES
 abbrev pub Keyed : State → ℕ → List ℕ → Type 0
-Keyed st reads w = Lent st w × (allWords (part 0 reads w) ≡ true) × (isOnes (keyIn (desc st) w) ≡ false)
+Keyed st reads work = Lent st work × (allWords (part 0 reads work) ≡ true) × (isOnes (keyIn (desc st) work) ≡ false)
 
 -- the ordinary records: all but the end record, whose key is ONES
 unfoldable pub ordinary : Description → List (List ℕ) → List (List ℕ)
@@ -41,8 +41,8 @@ abovePosition s rows = cond (s .placed) (recordsAbove (s .desc) (positionKey s) 
 
 -- SEEK, of the records with its key: there is none, 1 and the workspace is kept; or one, 0 and the workspace is that record
 abbrev pub Sought : List ℕ → List (List ℕ) → Outcome → Type 0
-Sought w [] o = (o .number ≡ notFound) × (o .after .work ≡ w)
-Sought w (r ∷ rs) o = (rs ≡ []) × (o .number ≡ done) × (o .after .work ≡ r)
+Sought work [] o = (o .number ≡ notFound) × (o .after .work ≡ work)
+Sought work (r ∷ rs) o = (rs ≡ []) × (o .number ≡ done) × (o .after .work ≡ r)
 
 -- UPDAT and DLETE, of the records with the key: there is none, 1; or one, 0
 abbrev pub Met : List (List ℕ) → Outcome → Type 0
@@ -73,13 +73,13 @@ Extended p last (r ∷ rs) o = o .number ≡ outOfSequence
 
 -- what each call answers where these are the records, and `last` those of the last block
 pub record Answered (st : State) (rows last : List (List ℕ)) : Type 0 where
-  pub seek : (w : List ℕ) → Keyed st (desc st .k) w → Sought w (withKey (desc st) (keyIn (desc st) w) rows) (answer st (seeking w))
-  pub adv : (w : List ℕ) → Lent st w → Advanced (desc st) (ordinary (desc st) (abovePosition (st .session) rows)) (answer st (advancing w))
-  pub nsert : (w : List ℕ) → Keyed st (desc st .wpr) w → Inserted (withKey (desc st) (keyIn (desc st) w) rows) (answer st (inserting w))
-  pub dlete : (w : List ℕ) → Keyed st (desc st .k) w → Met (withKey (desc st) (keyIn (desc st) w) rows) (answer st (deleting w))
-  pub updat : (w : List ℕ) → Keyed st (desc st .wpr) w → Met (withKey (desc st) (keyIn (desc st) w) rows) (answer st (updating w))
-  pub xtend : (w : List ℕ) → Keyed st (desc st .wpr) w
-      → Extended (desc st) last (ordinary (desc st) (recordsFrom (desc st) (keyIn (desc st) w) rows)) (answer st (extending w))
+  pub seek : (work : List ℕ) → Keyed st (desc st .k) work → Sought work (withKey (desc st) (keyIn (desc st) work) rows) (answer st (seeking work))
+  pub adv : (work : List ℕ) → Lent st work → Advanced (desc st) (ordinary (desc st) (abovePosition (st .session) rows)) (answer st (advancing work))
+  pub nsert : (work : List ℕ) → Keyed st (desc st .wpr) work → Inserted (withKey (desc st) (keyIn (desc st) work) rows) (answer st (inserting work))
+  pub dlete : (work : List ℕ) → Keyed st (desc st .k) work → Met (withKey (desc st) (keyIn (desc st) work) rows) (answer st (deleting work))
+  pub updat : (work : List ℕ) → Keyed st (desc st .wpr) work → Met (withKey (desc st) (keyIn (desc st) work) rows) (answer st (updating work))
+  pub xtend : (work : List ℕ) → Keyed st (desc st .wpr) work
+      → Extended (desc st) last (ordinary (desc st) (recordsFrom (desc st) (keyIn (desc st) work) rows)) (answer st (extending work))
 
 -- after each call of any run from an OPEN that answers 0
 abbrev pub CallAnswers : Type 0

@@ -79,23 +79,23 @@ ofPlan f (passed a) = f a
 unfoldable pub splitsOf : (Insert → ℕ) → State → Request → ℕ
 splitsOf f st (opening marks) = 0
 splitsOf f st closing = 0
-splitsOf f st (seeking w) = 0
-splitsOf f st (advancing w) = 0
-splitsOf f st (inserting w) = ofPlan f (nsertPlan (lending w st))
-splitsOf f st (deleting w) = 0
-splitsOf f st (updating w) = 0
-splitsOf f st (extending w) = 0
+splitsOf f st (seeking work) = 0
+splitsOf f st (advancing work) = 0
+splitsOf f st (inserting work) = ofPlan f (nsertPlan (lending work st))
+splitsOf f st (deleting work) = 0
+splitsOf f st (updating work) = 0
+splitsOf f st (extending work) = 0
 
 -- what a call starts [F2]
 unfoldable pub startsOf : (Extend → ℕ) → State → Request → ℕ
 startsOf f st (opening marks) = 0
 startsOf f st closing = 0
-startsOf f st (seeking w) = 0
-startsOf f st (advancing w) = 0
-startsOf f st (inserting w) = 0
-startsOf f st (deleting w) = 0
-startsOf f st (updating w) = 0
-startsOf f st (extending w) = ofPlan f (xtendPlan (lending w st))
+startsOf f st (seeking work) = 0
+startsOf f st (advancing work) = 0
+startsOf f st (inserting work) = 0
+startsOf f st (deleting work) = 0
+startsOf f st (updating work) = 0
+startsOf f st (extending work) = ofPlan f (xtendPlan (lending work st))
 
 -- these are the plans that the calls carry out: of any state
 pub record AsPlanned (st : State) : Type 0 where

@@ -7,7 +7,7 @@ use lib.ListN.{length}
 use Rattle.numbers.specs.Numbers.{done}
 use Rattle.drum.specs.declared.Description.{Description}
 use Rattle.drum.specs.Params.{FD, FI}
-use Rattle.layout.specs.Tree.{Leaf, Section, Tree, lastOf, leafBlocks, leavesOf, contents}
+use Rattle.layout.specs.Tree.{Leaf, Section, Tree, lastIn, leafBlocks, leavesOf, contents}
 use Rattle.layout.specs.Holds.{Holds}
 use Rattle.rules.specs.State.{Session, State, Outcome, desc, lent, keyIn}
 use Rattle.rules.specs.Open.{create, openFile}
@@ -51,7 +51,7 @@ MostIndex p s = length (s .leaves) ≤ FI p
 
 -- a detail block whose bound is the key of its last record, and any one
 abbrev pub Tight : Description → Leaf → Type 0
-Tight p l = l .bound ≡ keyIn p (lastOf (l .records))
+Tight p l = l .bound ≡ keyIn p (lastIn (l .records))
 
 -- any detail block
 abbrev pub Any : Leaf → Type 0
@@ -73,7 +73,7 @@ pub record Filled (p : Description) (t : Tree) : Type 0 where
   pub order : OneInOrder (t .sections)
 
 -- the blocks in use, by R, the ordinary records: 1 + R/FD detail blocks, and over d of them 1 + (d-1)/FI index blocks, rounded down
-pub record Counted (p : Description) (t : Tree) : Type 0 where
+pub record CountedOf (p : Description) (t : Tree) : Type 0 where
   pub details : length (leavesOf t) ≡ 1 + length (ordinary p (contents t)) / FD p
   pub indexes : length (t .sections) ≡ 1 + (length (leavesOf t) - 1) / FI p
 
@@ -81,12 +81,12 @@ pub record Counted (p : Description) (t : Tree) : Type 0 where
 unfoldable pub disturbs : Request → Outcome → ℕ
 disturbs (opening marks) o = 0
 disturbs closing o = 0
-disturbs (seeking w) o = 0
-disturbs (advancing w) o = 0
-disturbs (inserting w) o = acceptedBy o
-disturbs (deleting w) o = acceptedBy o
-disturbs (updating w) o = 0
-disturbs (extending w) o = 0
+disturbs (seeking work) o = 0
+disturbs (advancing work) o = 0
+disturbs (inserting work) o = acceptedBy o
+disturbs (deleting work) o = acceptedBy o
+disturbs (updating work) o = 0
+disturbs (extending work) o = 0
 
 -- of the calls of a run no NSERT and no DLETE is accepted; SEEK, ADV, UPDAT, XTEND, CLOSE, OPEN and refused calls are any
 abbrev pub OnlyXtends : State → List Request → Type 0
@@ -94,7 +94,7 @@ OnlyXtends st qs = tally (λ before q o. disturbs q o) st qs ≡ 0
 
 -- the tree that stands in the file with the buffer put back is so filled
 abbrev pub StandsFilled : State → Type 0
-StandsFilled st = (t : Tree) × Holds (desc st) (putBack st) t × Filled (desc st) t × Counted (desc st) t
+StandsFilled st = (t : Tree) × Holds (desc st) (putBack st) t × Filled (desc st) t × CountedOf (desc st) t
 
 -- from an OPEN that answers 0, of a file that is so filled, any such calls, closing and reopening included
 abbrev pub StaysFilled : Type 0

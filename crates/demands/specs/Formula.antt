@@ -51,34 +51,34 @@ acceptedBy o = cond (accepted (o .number)) 1 0
 unfoldable pub ofNsert : ℕ → Request → ℕ
 ofNsert n (opening marks) = 0
 ofNsert n closing = 0
-ofNsert n (seeking w) = 0
-ofNsert n (advancing w) = 0
-ofNsert n (inserting w) = n
-ofNsert n (deleting w) = 0
-ofNsert n (updating w) = 0
-ofNsert n (extending w) = 0
+ofNsert n (seeking work) = 0
+ofNsert n (advancing work) = 0
+ofNsert n (inserting work) = n
+ofNsert n (deleting work) = 0
+ofNsert n (updating work) = 0
+ofNsert n (extending work) = 0
 
 -- n of an XTEND, and 0 of any other call
 unfoldable pub ofXtend : ℕ → Request → ℕ
 ofXtend n (opening marks) = 0
 ofXtend n closing = 0
-ofXtend n (seeking w) = 0
-ofXtend n (advancing w) = 0
-ofXtend n (inserting w) = 0
-ofXtend n (deleting w) = 0
-ofXtend n (updating w) = 0
-ofXtend n (extending w) = n
+ofXtend n (seeking work) = 0
+ofXtend n (advancing work) = 0
+ofXtend n (inserting work) = 0
+ofXtend n (deleting work) = 0
+ofXtend n (updating work) = 0
+ofXtend n (extending work) = n
 
 -- "3·(SEEK+UPDAT+NSERT) + 5·ADV + 6·DLETE + 4·XTEND + CLOSE": a call's share of that sum [F4]
 unfoldable pub share : Request → ℕ
 share (opening marks) = 0
 share closing = 1
-share (seeking w) = 3
-share (advancing w) = 5
-share (inserting w) = 3
-share (deleting w) = 6
-share (updating w) = 3
-share (extending w) = 4
+share (seeking work) = 3
+share (advancing work) = 5
+share (inserting work) = 3
+share (deleting work) = 6
+share (updating work) = 3
+share (extending work) = 4
 
 -- ---- of a run of calls, from the state st on
 

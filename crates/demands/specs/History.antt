@@ -25,12 +25,12 @@ pub data Event : Type 0 where
 unfoldable pub eventOf : Description → Request → Outcome → List Event
 eventOf p (opening marks) o = []
 eventOf p closing o = []
-eventOf p (seeking w) o = []
-eventOf p (advancing w) o = []
-eventOf p (inserting w) o = cond (accepted (o .number)) (stored w ∷ []) []
-eventOf p (deleting w) o = cond (eqb (o .number) done) (removed (keyIn p w) ∷ []) []
-eventOf p (updating w) o = cond (accepted (o .number)) (stored w ∷ []) []
-eventOf p (extending w) o = cond (accepted (o .number)) (stored w ∷ []) []
+eventOf p (seeking work) o = []
+eventOf p (advancing work) o = []
+eventOf p (inserting work) o = cond (accepted (o .number)) (stored work ∷ []) []
+eventOf p (deleting work) o = cond (eqb (o .number) done) (removed (keyIn p work) ∷ []) []
+eventOf p (updating work) o = cond (accepted (o .number)) (stored work ∷ []) []
+eventOf p (extending work) o = cond (accepted (o .number)) (stored work ∷ []) []
 
 -- what the calls of a run have done, one after another
 unfoldable pub events : State → List Request → List Event
@@ -56,9 +56,9 @@ handed o = cond (eqb (o .number) done) (o .after .work ∷ []) []
 -- hands out what stands under its key
 abbrev pub FoundExactly : Type 0
 FoundExactly =
-    (st : State) (marks : List ℕ) → openFile st marks .outcome .number ≡ done → (t : Tree) → Holds (desc st) (st .file) t → (qs : List Request) (w : List ℕ)
+    (st : State) (marks : List ℕ) → openFile st marks .outcome .number ≡ done → (t : Tree) → Holds (desc st) (st .file) t → (qs : List Request) (work : List ℕ)
     → let opened = openFile st marks .outcome .after in
-    let o = answer (left opened qs) (seeking w) in
-    let key = keyIn (desc st) w in
+    let o = answer (left opened qs) (seeking work) in
+    let key = keyIn (desc st) work in
     (o .number ≡ done) ⊎ (o .number ≡ notFound)
     → handed o ≡ standing (desc st) key (events opened qs) (withKey (desc st) key (contents t))

@@ -22,3 +22,10 @@ pub mod Filled
 pub mod Reuse
 pub mod Room
 pub mod Turns
+pub mod Unbuffered
+pub mod Refusals
+pub mod Lengths
+pub mod When
+pub mod Position
+pub mod Answering
+pub mod Names

@@ -34,12 +34,12 @@ calls seeks updats nserts advs dletes xtends closes =
 -- the plan of one call [F4]
 unfoldable pub oneCall : Request → Plan
 oneCall (opening marks) = calls 0 0 0 0 0 0 0
-oneCall (seeking w) = calls 1 0 0 0 0 0 0
-oneCall (updating w) = calls 0 1 0 0 0 0 0
-oneCall (inserting w) = calls 0 0 1 0 0 0 0
-oneCall (advancing w) = calls 0 0 0 1 0 0 0
-oneCall (deleting w) = calls 0 0 0 0 1 0 0
-oneCall (extending w) = calls 0 0 0 0 0 1 0
+oneCall (seeking work) = calls 1 0 0 0 0 0 0
+oneCall (updating work) = calls 0 1 0 0 0 0 0
+oneCall (inserting work) = calls 0 0 1 0 0 0 0
+oneCall (advancing work) = calls 0 0 0 1 0 0 0
+oneCall (deleting work) = calls 0 0 0 0 1 0 0
+oneCall (extending work) = calls 0 0 0 0 0 1 0
 oneCall closing = calls 0 0 0 0 0 0 1
 
 -- how many calls of a kind a run has: "calls counted whether refused or not"

@@ -35,9 +35,9 @@ NoBadFile = AfterOpen λ st. (q : Request) → answer st q .number ≡ badFile �
 pub record Small (st : State) : Type 0 where
   pub file : allWords (st .file) ≡ true
   pub buffer : 1 ≤ st .session .current → allWords (st .buffer) ≡ true
-  pub seek : (w : List ℕ) → answer st (seeking w) .number ≡ done → allWords (answer st (seeking w) .after .work) ≡ true
-  pub adv : (w : List ℕ) → (answer st (advancing w) .number ≡ done) ⊎ (answer st (advancing w) .number ≡ atEnd)
-      → allWords (answer st (advancing w) .after .work) ≡ true
+  pub seek : (work : List ℕ) → answer st (seeking work) .number ≡ done → allWords (answer st (seeking work) .after .work) ≡ true
+  pub adv : (work : List ℕ) → (answer st (advancing work) .number ≡ done) ⊎ (answer st (advancing work) .number ≡ atEnd)
+      → allWords (answer st (advancing work) .after .work) ≡ true
 
 -- after each call of any run from an OPEN that answers 0 [L9, W1]
 abbrev pub WordsSmall : Type 0

@@ -50,30 +50,30 @@ pub record Frees (ds xs : List ℕ) (t t′ : Tree) : Type 0 where
   pub lowest : t′ .lowest ≡ t .lowest
 
 -- the same blocks in use, the same chain and the same word 2
-abbrev pub Keeps : Tree → Tree → Type 0
-Keeps t t′ = Frees [] [] t t′
+abbrev pub KeepsBlocks : Tree → Tree → Type 0
+KeepsBlocks t t′ = Frees [] [] t t′
 
 -- what a DLETE that answers 0 frees: "found: remove" none; "Left empty" its block; "An emptied index block" that too
 pub data Deleted (t t′ : Tree) : Type 0 where
-  some-left : Keeps t t′ → Deleted t t′
+  some-left : KeepsBlocks t t′ → Deleted t t′
   detail-freed : (b : ℕ) → Frees (b ∷ []) [] t t′ → Deleted t t′
   both-freed : (b x : ℕ) → Frees (b ∷ []) (x ∷ []) t t′ → Deleted t t′
 
 -- any other DLETE keeps all
 abbrev pub Deletes : Bool → Tree → Tree → Type 0
 Deletes true t t′ = Deleted t t′
-Deletes false t t′ = Keeps t t′
+Deletes false t t′ = KeepsBlocks t t′
 
 -- what a call makes of the blocks; NSERT and XTEND that are not accepted have no new ones, so that all is kept
 abbrev pub Reuses : State → Request → Tree → Tree → Type 0
-Reuses st (opening marks) t t′ = Keeps t t′
-Reuses st closing t t′ = Keeps t t′
-Reuses st (seeking w) t t′ = Keeps t t′
-Reuses st (advancing w) t t′ = Keeps t t′
-Reuses st (inserting w) t t′ = let o = answer st (inserting w) in Takes (newDetails st o) (newIndexes st o) t t′
-Reuses st (deleting w) t t′ = Deletes (eqb (answer st (deleting w) .number) done) t t′
-Reuses st (updating w) t t′ = Keeps t t′
-Reuses st (extending w) t t′ = let o = answer st (extending w) in Takes (newDetails st o) (newIndexes st o) t t′
+Reuses st (opening marks) t t′ = KeepsBlocks t t′
+Reuses st closing t t′ = KeepsBlocks t t′
+Reuses st (seeking work) t t′ = KeepsBlocks t t′
+Reuses st (advancing work) t t′ = KeepsBlocks t t′
+Reuses st (inserting work) t t′ = let o = answer st (inserting work) in Takes (newDetails st o) (newIndexes st o) t t′
+Reuses st (deleting work) t t′ = Deletes (eqb (answer st (deleting work) .number) done) t t′
+Reuses st (updating work) t t′ = KeepsBlocks t t′
+Reuses st (extending work) t t′ = let o = answer st (extending work) in Takes (newDetails st o) (newIndexes st o) t t′
 
 -- after each call of any run from an OPEN that answers 0
 abbrev pub CallReuse : Type 0

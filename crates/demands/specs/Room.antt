@@ -31,8 +31,8 @@ StoredIf false number = number ≡ noRoom
 
 -- XTEND of a record whose key is above all others: no ordinary record's key is at or above it. With it there is one ordinary record more
 abbrev pub RoomIn : State → Tree → Type 0
-RoomIn st t = (w : List ℕ) → Keyed st (desc st .wpr) w → ordinary (desc st) (recordsFrom (desc st) (keyIn (desc st) w) (contents t)) ≡ []
-    → StoredIf (hasRoom (desc st) (length (ordinary (desc st) (contents t)) + 1)) (answer st (extending w) .number)
+RoomIn st t = (work : List ℕ) → Keyed st (desc st .wpr) work → ordinary (desc st) (recordsFrom (desc st) (keyIn (desc st) work) (contents t)) ≡ []
+    → StoredIf (hasRoom (desc st) (length (ordinary (desc st) (contents t)) + 1)) (answer st (extending work) .number)
 
 -- after each call of any run from an OPEN that answers 0, where the tree that stands in the file with the buffer put back is filled by XTEND
 abbrev pub RoomEnough : Type 0

@@ -21,7 +21,7 @@ use Rattle.demands.specs.Routines.{Routine, Viewing, AfterOpenBy, RightC
 
 -- "a routine that refuses everything": no NSERT is accepted, whatever becomes of the other calls
 abbrev pub RefusesEverything : Routine → Type 0
-RefusesEverything r = (st : State) (w : List ℕ) → accepted (r st (inserting w) .number) ≡ true → ⊥
+RefusesEverything r = (st : State) (work : List ℕ) → accepted (r st (inserting work) .number) ≡ true → ⊥
 
 -- "one with a constant answer"
 abbrev pub ConstantAnswer : Routine → Type 0
@@ -33,12 +33,12 @@ Idle st now = (now .file ≡ st .file) × (now .buffer ≡ st .buffer) × (now .
 
 -- "one that does nothing": no NSERT does, whatever it answers and whatever becomes of the other calls
 abbrev pub DoesNothing : Routine → Type 0
-DoesNothing r = (st : State) (w : List ℕ) → Idle st (r st (inserting w) .after)
+DoesNothing r = (st : State) (work : List ℕ) → Idle st (r st (inserting work) .after)
 
 -- "one that stores in its first call and feigns the rest": after an NSERT that was accepted no call does anything, whatever it answers
 abbrev pub StoresOnce : Routine → Type 0
-StoresOnce r = (st : State) (w : List ℕ) → accepted (r st (inserting w) .number) ≡ true
-    → (q : Request) → Idle (r st (inserting w) .after) (r (r st (inserting w) .after) q .after)
+StoresOnce r = (st : State) (work : List ℕ) → accepted (r st (inserting work) .number) ≡ true
+    → (q : Request) → Idle (r st (inserting work) .after) (r (r st (inserting work) .after) q .after)
 
 -- "a made-up count": made up from the call alone
 abbrev pub MadeUpCount : Routine → Type 0
@@ -56,12 +56,12 @@ pub record ShutsOut (r : Routine) : Type 0 where
 unfoldable pub refuser : Routine
 refuser st (opening marks) = answer st (opening marks)
 refuser st closing = unchanged st wrongSize
-refuser st (seeking w) = unchanged (lending w st) wrongSize
-refuser st (advancing w) = unchanged (lending w st) wrongSize
-refuser st (inserting w) = unchanged (lending w st) wrongSize
-refuser st (deleting w) = unchanged (lending w st) wrongSize
-refuser st (updating w) = unchanged (lending w st) wrongSize
-refuser st (extending w) = unchanged (lending w st) wrongSize
+refuser st (seeking work) = unchanged (lending work st) wrongSize
+refuser st (advancing work) = unchanged (lending work st) wrongSize
+refuser st (inserting work) = unchanged (lending work st) wrongSize
+refuser st (deleting work) = unchanged (lending work st) wrongSize
+refuser st (updating work) = unchanged (lending work st) wrongSize
+refuser st (extending work) = unchanged (lending work st) wrongSize
 
 -- "Demand 3 alone would pass the first": it refuses everything and meets demand 3; its calls are not right
 pub record PassesAlone (r : Routine) : Type 0 where
@@ -83,23 +83,23 @@ forgetting st o =
 unfoldable pub forgetful : Routine
 forgetful st (opening marks) = answer st (opening marks)
 forgetful st closing = answer st closing
-forgetful st (seeking w) = answer st (seeking w)
-forgetful st (advancing w) = answer st (advancing w)
-forgetful st (inserting w) = forgetting st (answer st (inserting w))
-forgetful st (deleting w) = forgetting st (answer st (deleting w))
-forgetful st (updating w) = forgetting st (answer st (updating w))
-forgetful st (extending w) = forgetting st (answer st (extending w))
+forgetful st (seeking work) = answer st (seeking work)
+forgetful st (advancing work) = answer st (advancing work)
+forgetful st (inserting work) = forgetting st (answer st (inserting work))
+forgetful st (deleting work) = forgetting st (answer st (deleting work))
+forgetful st (updating work) = forgetting st (answer st (updating work))
+forgetful st (extending work) = forgetting st (answer st (extending work))
 
 -- `answer`, but for what CLOSE comes to
 unfoldable pub closingBy : (State → Outcome) → Routine
 closingBy close st (opening marks) = answer st (opening marks)
 closingBy close st closing = close st
-closingBy close st (seeking w) = answer st (seeking w)
-closingBy close st (advancing w) = answer st (advancing w)
-closingBy close st (inserting w) = answer st (inserting w)
-closingBy close st (deleting w) = answer st (deleting w)
-closingBy close st (updating w) = answer st (updating w)
-closingBy close st (extending w) = answer st (extending w)
+closingBy close st (seeking work) = answer st (seeking work)
+closingBy close st (advancing work) = answer st (advancing work)
+closingBy close st (inserting work) = answer st (inserting work)
+closingBy close st (deleting work) = answer st (deleting work)
+closingBy close st (updating work) = answer st (updating work)
+closingBy close st (extending work) = answer st (extending work)
 
 -- CLOSE's number and transfers, with another state left where the number is 0
 unfoldable pub feigning : State → Outcome → Outcome

@@ -26,12 +26,14 @@ use Rattle.rules.specs.declared.Delete.{Delete}
 use Rattle.rules.specs.declared.Delete.the-variants as delete-is
 use Rattle.rules.specs.Paths.{pathTo}
 use Rattle.rules.specs.Lookup.{look, reached, textAt}
-use Rattle.rules.specs.Dlete.{emptyDeed, emptyAt, deleteAfter, deleteDeed, entryGone, emptyMoves, emptyAll, bothAll, emptyFile, bothFile, emptying, deleteDone, dleteSteps}
+use Rattle.rules.specs.Dlete.{emptyDeed, emptyAt, deleteAfter, deleteDeed, entryGone, emptyMoves, emptyAll, bothAll, emptyFile, bothFile, emptying}
+use Rattle.rules.specs.Dlete.{deleteDone, dleteSteps}
 use Rattle.rules.specs.Fits.{PathFits, WayFits, LookFits}
 use Rattle.numbers.proofs.Passed.{Passed, chain, by-passed}
-use Rattle.rules.proofs.Fits.{path-fits, look-passed}
+use Rattle.rules.proofs.Fits.{path-fits, looked-fits}
 use Rattle.rules.proofs.Rooms.{detail-end, index-base, index-end, index-row, index-key, master-base, master-end}
-use Rattle.rules.proofs.Kept.{Kept, Only, index-block, detail-block, reached-moves, reached-fits, reached-only, written-length, written-only, written-count, stop-kept, store-kept, way-most, way-below}
+use Rattle.rules.proofs.Kept.{Kept, Only, index-block, detail-block, reached-moves, reached-fits, reached-only, written-length, written-only}
+use Rattle.rules.proofs.Kept.{written-count, stop-kept, store-kept, way-most, way-below}
 
 -- an index block's text with an entry gone
 module _ (p : Description) (good : goodParams p ≡ true) (t : List ℕ) (l : length t ≡ p .wpb) (most : count t ≤ I p) (j : ℕ) (below : j < count t) where
@@ -58,7 +60,8 @@ module _ (p : Description) (good : goodParams p ≡ true) (t : List ℕ) (l : le
       go false = removed-length t l refl
 
 -- the master with an entry gone
-module _ (p : Description) (good : goodParams p ≡ true) (f : List ℕ) (i : ℕ) (l : length f ≡ fileSize p) (below : i < count f) (most : count f ≤ p .control) where
+module _ (p : Description) (good : goodParams p ≡ true) (f : List ℕ) (i : ℕ) (l : length f ≡ fileSize p) (below : i < count f)
+    (most : count f ≤ p .control) where
   gone-room : place (masterShape p) (count f) ≤ masterSize p
   gone-room = master-end p good (count f) most
 
@@ -111,9 +114,12 @@ module _ (v : Texts) (fit : Fitting (v .desc) (v .file) (v .buffer)) (flag : Boo
     unfolding deleteDone emptyFile emptyAll
     empty-kept =
         let t = textOf v (w .index) in
-        let m = moved head (entryGone (v .desc) (w .entry) t) (gone-length (v .desc) (fit .good) t (length-textOf v (w .index) fit (index-block v w path)) (path .entries-most) (w .entry) (path .entry-below)) in
+        let m
+        = moved head (entryGone (v .desc) (w .entry) t)
+        (gone-length (v .desc) (fit .good) t (length-textOf v (w .index) fit (index-block v w path)) (path .entries-most) (w .entry) (path .entry-below)) in
         let l = length-set (v .file) 1 (w .detail) in
-        by-passed _ (emptied-kept _ _ (written-length v fit _ m (set (v .file) 1 (w .detail)) l) (written-only v fit _ m (set (v .file) 1 (w .detail)) l (first-set (w .detail))))
+        by-passed _ (emptied-kept _ _ (written-length v fit _ m (set (v .file) 1 (w .detail)) l)
+        (written-only v fit _ m (set (v .file) 1 (w .detail)) l (first-set (w .detail))))
 
     both-kept : Passed (Kept v) (deleteDone v flag work (delete-is.Both way w head))
     unfolding deleteDone bothFile bothAll
@@ -138,7 +144,8 @@ module _ (v : Texts) (fit : Fitting (v .desc) (v .file) (v .buffer)) (flag : Boo
   unfolding deleteDone
   stopped w h = record { kept = by-passed _ (stop-kept v fit flag work given _ (By w) h) }
 
-  either : (t : Bool) (way : Way) (w : Path) (head : ℕ) → WayFits v flag way → PathFits v w → Deed (cond t (delete-is.Both way w head) (delete-is.Empty way w head))
+  either : (t : Bool) (way : Way) (w : Path) (head : ℕ) → WayFits v flag way → PathFits v w
+      → Deed (cond t (delete-is.Both way w head) (delete-is.Empty way w head))
   either true way w head h p = record { kept = both-kept way w head h p }
   either false way w head h p = record { kept = empty-kept way w head h p }
 
@@ -153,14 +160,12 @@ module _ (v : Texts) (fit : Fitting (v .desc) (v .file) (v .buffer)) (flag : Boo
   after-kept key look-is.Bad h = search chain
   after-kept key (look-is.Missing w) h = by-passed _ (stopped w h)
   after-kept key (look-is.Found Here i) h = let r = removing Here i h in let b : WayFits v flag Here = h .0 in search (chain, either, pathed) depth 12
-  after-kept key (look-is.Found (By w) i) h = let r = removing (By w) i h in let b : WayFits v flag (By w) = h .0 in let q : PathFits v w = h .0 .0 in search (chain, either) depth 12
-
-  looked : (key : List ℕ) (l : Look) → look v flag key ≡ passed l → LookFits v flag l
-  looked key l e = look-passed v flag key .holds l e
+  after-kept key (look-is.Found (By w) i) h = let r = removing (By w) i h in let b : WayFits v flag (By w) = h .0 in let q : PathFits v w = h .0 .0 in search
+      (chain, either) depth 12
 
   deed-kept : (key : List ℕ) → Passed Deed (deleteDeed v flag key)
   unfolding deleteDeed
-  deed-kept key = search (chain, after-kept, looked)
+  deed-kept key = search (chain, after-kept, looked-fits)
 
   done-kept : (key : List ℕ) (d : Delete) → deleteDeed v flag key ≡ passed d → Passed (Kept v) (deleteDone v flag work d)
   done-kept key d e = deed-kept key .holds d e .kept

@@ -1,5 +1,5 @@
 -- What the checks of a way tell once they are passed: of an entry, of a path, of the buffered block, of a lookup, of ADV's step, of XTEND's
--- last block, of a new block.
+-- last block.
 use Prim.Native.Nat.{ℕ, _+_, _-_, _≤_, _<_}
 use mathlib.Core.Path.{_≡_, refl, sym, _∙_, subst}
 use mathlib.Core.Bool.{Bool, true, false, cond, not, _&&_, _||_}
@@ -23,12 +23,11 @@ use Rattle.rules.specs.declared.Entry.{Entry}
 use Rattle.rules.specs.declared.Path.{Path}
 use Rattle.rules.specs.declared.Way.{Way}
 use Rattle.rules.specs.declared.Way.the-variants.{Here, By}
+use Rattle.rules.specs.declared.Look.{Look}
 use Rattle.rules.specs.declared.Look.the-variants.{Found, Missing}
 use Rattle.rules.specs.declared.Step.the-variants as step-is
-use Rattle.rules.specs.declared.Taken.{Taken}
 use Rattle.rules.specs.Paths.{chosen, entryOf, pathAt, pathUnder, pathBy, pathTo, firstPath, lastPath}
 use Rattle.rules.specs.Lookup.{onBuffer, flushOk, inBuffer, lookAt, lookOutside, look}
-use Rattle.rules.specs.Free.{noneLeft, granted}
 use Rattle.rules.specs.Adv.{nextRow, nextInBuffer, nextPath, advBeyond, advAt, advOutside, advStep}
 use Rattle.rules.specs.Xtend.{endsInOnes, lastOutside, lastWay, lastOf}
 use Rattle.rules.specs.Fits.{PathFits, FlushFits, BufferFits, WayFits, LookFits, StepFits}
@@ -152,6 +151,10 @@ module _ (v : Texts) (flag : Bool) (key : List ℕ) where
   unfolding look lookOutside
   look-passed = search (chain, here-facts, outside-facts) depth 12
 
+  -- the same of one lookup that passed
+  pub looked-fits : (l : Look) → look v flag key ≡ passed l → LookFits v flag l
+  looked-fits l e = look-passed .holds l e
+
 -- ADV
 pub next-passed : (v : Texts) (w : Path) → Passed (PathFits v) (nextPath v w)
 unfolding nextPath
@@ -222,51 +225,3 @@ module _ (v : Texts) (flag : Bool) where
   unfolding lastOf
   lastOf-fits Here w h e = last-of .holds w e
   lastOf-fits (By x) w h e = subst (PathFits v) (let z : x ≡ w = cc in z) (h .0)
-
--- a new block, unless none is free, is one of 1..N
-abbrev Left : Description → ℕ → ℕ → Bool → Type 0
-Left p head lowest none = (head ≤ p .n) × (none ≡ false → eqb head 0 ≡ true → lowest ≤ p .n)
-
-module _ (p : Description) (head lowest : ℕ) where
-  left-empty : (x y : ℕ) → upTo (p .n) head ≡ passed x → within 1 (p .n + 1) lowest ≡ passed y → Left p head lowest (ltb (p .n) lowest)
-  left-empty x y e f = (limited (p .n) head x e .0, λ g h. ltb-false (p .n) lowest g)
-
-  left-chain : (x : ℕ) → upTo (p .n) head ≡ passed x → eqb head 0 ≡ false → Left p head lowest false
-  left-chain x e f = (limited (p .n) head x e .0, λ g h. absurd (clash (sym h ∙ f)))
-
-  left-passed : Passed (Left p head lowest) (noneLeft p head lowest)
-  unfolding noneLeft
-  left-passed = search (chain, left-empty, left-chain) depth 12
-
-  pub left-fits : (none : Bool) → noneLeft p head lowest ≡ passed none → Left p head lowest none
-  left-fits none e = left-passed .holds none e
-
--- where the test of "too few are free, or a section is needed and CONTROL are in use" fails, each part of it does
-pub neither : (a b : Bool) → (a || b) ≡ false → (a ≡ false) × (b ≡ false)
-neither true b e = absurd (clash e)
-neither false b e = (refl, e)
-
-record Most (p : Description) (d : Taken) : Type 0 where
-  most : d .block ≤ p .n
-
-module _ (v : Texts) (head lowest : ℕ) where
-  from-none : Most (v .desc) (record { block = 0; head = head; lowest = lowest })
-  from-none = record { most = omega arith }
-
-  from-lowest : (none : Bool) → noneLeft (v .desc) head lowest ≡ passed none → none ≡ false → eqb head 0 ≡ true
-      → Most (v .desc) (record { block = lowest; head = 0; lowest = lowest + 1 })
-  from-lowest none e f g = record { most = left-fits (v .desc) head lowest none e .1 f g }
-
-  from-chain : (none : Bool) (link : ℕ) → noneLeft (v .desc) head lowest ≡ passed none
-      → Most (v .desc) (record { block = head; head = link; lowest = lowest })
-  from-chain none link e = record { most = left-fits (v .desc) head lowest none e .0 }
-
-  granted-most : Passed (Most (v .desc)) (granted v head lowest)
-  unfolding granted
-  granted-most = search (chain, from-none, from-lowest, from-chain) depth 12
-
-  pub granted-fits : (d : Taken) → granted v head lowest ≡ passed d → eqb (d .block) 0 ≡ false → Block (v .desc) (d .block)
-  granted-fits d e n =
-      let l = granted-most .holds d e in
-      let z = eqb-false (d .block) 0 n in
-      (omega arith, omega arith)

@@ -32,7 +32,7 @@ use Rattle.rules.specs.Seek.{giving, seekDone, seekSteps, updatDone, upd
 use Rattle.rules.specs.Adv.{advGiving, advReads, advStep, advDone, advSteps}
 use Rattle.numbers.proofs.Passed.{Passed, chain, by-passed}
 use Rattle.rules.proofs.Rooms.{detail-row, free-length, free-blocks}
-use Rattle.rules.proofs.Fits.{look-passed, step-passed}
+use Rattle.rules.proofs.Fits.{looked-fits, step-passed}
 
 -- "no block of the file changes unless that list writes it": of a list of transfers, and the file then
 abbrev pub Only : Texts → List Transfer → List ℕ → Type 0
@@ -66,7 +66,8 @@ module _ (v : Texts) (fit : Fitting (v .desc) (v .file) (v .buffer)) where
   flush-moves false due = tt
 
   -- a block brought, and a block reached on its way
-  pub bringing-moves : (flag : Bool) (b : ℕ) (reads : List Transfer) → FlushFits v flag → Moves (v .desc) reads → Moves (v .desc) (bringing v flag b reads .moves)
+  pub bringing-moves : (flag : Bool) (b : ℕ) (reads : List Transfer) → FlushFits v flag → Moves (v .desc) reads
+      → Moves (v .desc) (bringing v flag b reads .moves)
   unfolding bringing
   bringing-moves flag b reads due m = moves-append (v .desc) (flushMoves v flag) reads (flush-moves flag due) m
 
@@ -115,7 +116,8 @@ module _ (v : Texts) (fit : Fitting (v .desc) (v .file) (v .buffer)) where
 
   pub freed-only : (moves : List Transfer) → Moves (v .desc) moves → (head lowest : ℕ) → Only v moves (written (v .desc) moves (withFree head lowest (v .file)))
   freed-only moves m head lowest =
-      written-only moves m (withFree head lowest (v .file)) (free-length (v .desc) (fit .good) head lowest (v .file)) (free-blocks (v .desc) (fit .good) head lowest (v .file))
+      written-only moves m (withFree head lowest (v .file)) (free-length (v .desc) (fit .good) head lowest (v .file))
+      (free-blocks (v .desc) (fit .good) head lowest (v .file))
 
   -- and the sections that the master has then
   pub written-count : (moves : List Transfer) → Moves (v .desc) moves → (f : List ℕ) → length f ≡ length (v .file)
@@ -149,7 +151,8 @@ module _ (v : Texts) (fit : Fitting (v .desc) (v .file) (v .buffer)) (flag : Boo
       let f = reached-fits v fit flag way h in
       record { file-is = f .file-is; buffer-is = f .buffer-is; work-is = given; only = reached-only v fit flag way h }
 
-  give-kept : (r : Reached) (n i : ℕ) (keyed : Bool) → Fitting (v .desc) (r .file) (r .buffer) → Only v (r .moves) (r .file) → count (r .buffer) ≤ D (v .desc) → i < count (r .buffer)
+  give-kept : (r : Reached) (n i : ℕ) (keyed : Bool) → Fitting (v .desc) (r .file) (r .buffer) → Only v (r .moves) (r .file) → count (r .buffer) ≤ D (v .desc)
+      → i < count (r .buffer)
       → Kept v (giving v r n i keyed)
   unfolding giving row detailShape
   give-kept r n i keyed f o c l = record {
@@ -159,7 +162,8 @@ module _ (v : Texts) (fit : Fitting (v .desc) (v .file) (v .buffer)) (flag : Boo
     only = o;
   }
 
-  pub store-kept : (n : ℕ) (r : Reached) (t : List ℕ) → Fitting (v .desc) (r .file) (r .buffer) → Only v (r .moves) (r .file) → length t ≡ v .desc .wpb → Kept v (storing n work r t)
+  pub store-kept : (n : ℕ) (r : Reached) (t : List ℕ) → Fitting (v .desc) (r .file) (r .buffer) → Only v (r .moves) (r .file) → length t ≡ v .desc .wpb
+      → Kept v (storing n work r t)
   unfolding storing
   store-kept n r t f o l = record { file-is = f .file-is; buffer-is = l; work-is = given; only = o }
 
@@ -185,9 +189,6 @@ module _ (v : Texts) (fit : Fitting (v .desc) (v .file) (v .buffer)) (flag : Boo
       let q = detail-row (v .desc) (fit .good) (count t) c in
       length-inserted (detailShape (v .desc)) i t (recordIn (v .desc) work) l record-length (rw h q) ∙ h
 
-  looked : (l : Look) → look v flag (keyIn (v .desc) work) ≡ passed l → LookFits v flag l
-  looked l e = look-passed v flag (keyIn (v .desc) work) .holds l e
-
   -- what the buffer holds once a way is gone
   pub way-most : (way : Way) → WayFits v flag way → count (reached v flag way .buffer) ≤ D (v .desc)
   way-most way h = rw (reached-text v flag way) (way-counts v flag way h .1)
@@ -200,24 +201,26 @@ module _ (v : Texts) (fit : Fitting (v .desc) (v .file) (v .buffer)) (flag : Boo
   unfolding seekDone
   seek-done look-is.Bad h = search chain
   seek-done (look-is.Found way i) h =
-      by-passed _ (give-kept (reached v flag way) _ i _ (reached-fits v fit flag way (h .0)) (reached-only v fit flag way (h .0)) (way-most way (h .0)) (way-below way i (h .1)))
+      by-passed _ (give-kept (reached v flag way) _ i _ (reached-fits v fit flag way (h .0)) (reached-only v fit flag way (h .0)) (way-most way (h .0))
+      (way-below way i (h .1)))
   seek-done (look-is.Missing w) h = by-passed _ (stop-kept _ (By w) h)
 
   pub seek-kept : Passed (Kept v) (seekSteps v flag work)
   unfolding seekSteps
-  seek-kept = search (chain, seek-done, looked)
+  seek-kept = search (chain, seek-done, looked-fits)
 
   updat-done : (l : Look) → LookFits v flag l → Passed (Kept v) (updatDone v flag work l)
   unfolding updatDone
   updat-done look-is.Bad h = search chain
   updat-done (look-is.Found way i) h =
       let f = reached-fits v fit flag way (h .0) in
-      by-passed _ (store-kept _ (reached v flag way) _ f (reached-only v fit flag way (h .0)) (replace-length (reached v flag way .buffer) i (f .buffer-is) (way-most way (h .0)) (way-below way i (h .1))))
+      by-passed _ (store-kept _ (reached v flag way) _ f (reached-only v fit flag way (h .0))
+      (replace-length (reached v flag way .buffer) i (f .buffer-is) (way-most way (h .0)) (way-below way i (h .1))))
   updat-done (look-is.Missing w) h = by-passed _ (stop-kept _ (By w) h)
 
   pub updat-kept : Passed (Kept v) (updatSteps v flag work)
   unfolding updatSteps
-  updat-kept = search (chain, updat-done, looked)
+  updat-kept = search (chain, updat-done, looked-fits)
 
   -- ADV
   next-reads : (w x : Path) → Moves (v .desc) (advReads w x)
@@ -235,10 +238,12 @@ module _ (v : Texts) (fit : Fitting (v .desc) (v .file) (v .buffer)) (flag : Boo
   unfolding advDone advGiving bringing
   adv-done step-is.Bad h = search chain
   adv-done (step-is.At way i) h =
-      by-passed _ (give-kept (reached v flag way) _ i _ (reached-fits v fit flag way (h .0)) (reached-only v fit flag way (h .0)) (way-most way (h .0)) (way-below way i (h .1)))
+      by-passed _ (give-kept (reached v flag way) _ i _ (reached-fits v fit flag way (h .0)) (reached-only v fit flag way (h .0)) (way-most way (h .0))
+      (way-below way i (h .1)))
   adv-done (step-is.Beyond w x i) h =
       let f = bringing-fits v fit flag (x .detail) (advReads w x) (h .1) (next-reads w x) (detail-block v x (h .0)) in
-      by-passed _ (give-kept (bringing v flag (x .detail) (advReads w x)) _ i _ f (bringing-only v fit flag (x .detail) (advReads w x) (h .1) (next-reads w x)) (h .0 .records-most) (h .2))
+      by-passed _ (give-kept (bringing v flag (x .detail) (advReads w x)) _ i _ f
+      (bringing-only v fit flag (x .detail) (advReads w x) (h .1) (next-reads w x)) (h .0 .records-most) (h .2))
 
   pub adv-kept : (placed : Bool) (at : List ℕ) → Passed (Kept v) (advSteps v flag placed at)
   unfolding advSteps

@@ -1,11 +1,11 @@
 -- The effects of NSERT have the right lengths, and change no block but those that they write.
 use Prim.Native.Nat.{ℕ, _+_, _-_, _≤_, _<_}
 use mathlib.Core.Path.{_≡_, _∙_}
-use mathlib.Core.Bool.{Bool, true, false, cond, _||_}
+use mathlib.Core.Bool.{Bool, true, false, cond}
 use mathlib.Core.List.{List, _++_}
 use native.Mathlib.Omega.{arith}
-use borrow.Author.Tests.{ltb-true, leb-false}
-use lib.Dec.{eqb, ltb, leb}
+use borrow.Author.Tests.{ltb-true}
+use lib.Dec.{eqb, ltb}
 use lib.ListN.{length, length-append}
 use Rattle.numbers.specs.Checked.{passed}
 use Rattle.table.specs.Tables.{count, place, rowAbove, fits}
@@ -16,7 +16,7 @@ use Rattle.table.proofs.Lengths.{length-entered, length-low, length-high, low-l
 use Rattle.table.proofs.Kept.{part-entered}
 use Rattle.drum.specs.declared.Description.{Description}
 use Rattle.drum.specs.Params.{D, I, start, masterSize, fileSize, goodParams, masterShape, indexShape, detailShape}
-use Rattle.drum.specs.Blocks.{written, blockAt, sections, Texts, textOf, Fitting, Block}
+use Rattle.drum.specs.Blocks.{written, blockAt, Texts, textOf, Fitting, Block}
 use Rattle.drum.proofs.Good.{caps}
 use Rattle.drum.proofs.Blocks.{length-textOf, start-after}
 use Rattle.drum.proofs.Written.{Moves, moves-append}
@@ -26,36 +26,38 @@ use Rattle.rules.specs.declared.Way.the-variants.{By}
 use Rattle.rules.specs.declared.Look.{Look}
 use Rattle.rules.specs.declared.Look.the-variants as look-is
 use Rattle.rules.specs.declared.Taken.{Taken}
+use Rattle.rules.specs.declared.Pair.{Pair}
 use Rattle.rules.specs.declared.Insert.{Insert}
 use Rattle.rules.specs.declared.Insert.the-variants as insert-is
 use Rattle.rules.specs.State.{recordIn}
 use Rattle.rules.specs.Lookup.{look, reached}
-use Rattle.rules.specs.Free.{granted, withFree}
-use Rattle.rules.specs.Nsert.{roomDeed, splitWith, splitDeed, bothStored, bothWith, bothAfter, bothDeed, insertAt, insertAfter, insertDeed}
-use Rattle.rules.specs.NsertDone.{detailLow, detailHigh, detailEntry, indexEntered, indexLow, indexHigh, indexEntry, splitMoves, bothMoves, splitFile, bothFile, halfOf, insertDone, nsertSteps}
+use Rattle.rules.specs.Free.{takeOne, takeTwo, withFree}
+use Rattle.rules.specs.Nsert.{roomDeed, splitDeed, bothDeed, insertAt, insertAfter, insertDeed}
+use Rattle.rules.specs.NsertDone.{detailLow, detailHigh, detailEntry, indexEntered, indexLow, indexHigh, indexEntry, splitMoves, bothSplitMoves, splitFile, bothSplitFile, halfOf, insertDone, nsertSteps}
 use Rattle.rules.specs.Fits.{PathFits, FlushFits, LookFits}
 use Rattle.numbers.proofs.Passed.{Passed, chain, by-passed}
-use Rattle.rules.proofs.Fits.{look-passed, granted-fits, neither}
+use Rattle.rules.proofs.Fits.{looked-fits}
+use Rattle.rules.proofs.Takes.{one-new, two-new}
 use Rattle.rules.proofs.Rooms.{detail-key, index-base, index-row, index-key, master-base, master-row}
 use Rattle.rules.proofs.Kept.{Kept, index-block, detail-block, reached-text, reached-moves, reached-fits, reached-only, record-length, insert-length, stop-kept, store-kept, land-kept, freed-length, freed-only, freed-count}
 
 -- the texts of a split have WPB words, their entries K+1
 module _ (v : Texts) (fit : Fitting (v .desc) (v .file) (v .buffer)) (w : Path) (path : PathFits v w) (i : ℕ) (r : List ℕ) (whole : length r ≡ v .desc .wpr) where
-  low-length : length (detailLow v w i r) ≡ v .desc .wpb
+  pub low-length : length (detailLow v w i r) ≡ v .desc .wpb
   unfolding detailLow detailShape
   low-length =
       let g = caps (v .desc) (fit .good) in
       let f = g .facts in
       length-low (v .desc .wpb) (detailShape (v .desc)) (D (v .desc)) i r (textOf v (w .detail)) (omega arith) whole (g .records-fit)
 
-  high-length : length (detailHigh v w i r) ≡ v .desc .wpb
+  pub high-length : length (detailHigh v w i r) ≡ v .desc .wpb
   unfolding detailHigh detailShape
   high-length =
       let g = caps (v .desc) (fit .good) in
       let f = g .facts in
       length-high (v .desc .wpb) (detailShape (v .desc)) (D (v .desc)) i r (textOf v (w .detail)) (omega arith) whole (g .records-fit)
 
-  entry-length : length (detailEntry v w i r) ≡ v .desc .k + 1
+  pub entry-length : length (detailEntry v w i r) ≡ v .desc .k + 1
   unfolding detailEntry lowBound
   entry-length =
       let g = caps (v .desc) (fit .good) .facts in
@@ -64,7 +66,7 @@ module _ (v : Texts) (fit : Fitting (v .desc) (v .file) (v .buffer)) (w : Path) 
       let l = detail-key (v .desc) (fit .good) (detailLow v w i r) (lowCount (D (v .desc)) - 1) low-length (omega arith) in
       simp length-append (omega arith)
 
-  entered-length : (b : ℕ) → count (textOf v (w .index)) < I (v .desc) → length (indexEntered v w i r b) ≡ v .desc .wpb
+  pub entered-length : (b : ℕ) → count (textOf v (w .index)) < I (v .desc) → length (indexEntered v w i r b) ≡ v .desc .wpb
   unfolding indexEntered indexShape
   entered-length b room =
       let t = textOf v (w .index) in
@@ -73,7 +75,7 @@ module _ (v : Texts) (fit : Fitting (v .desc) (v .file) (v .buffer)) (w : Path) 
       let e = path .entry-below in
       length-entered (indexShape (v .desc)) (w .entry) t (detailEntry v w i r) b (index-base (v .desc)) (omega arith) entry-length (omega arith) ∙ l
 
-  index-low-length : (b : ℕ) → length (indexLow v w i r b) ≡ v .desc .wpb
+  pub index-low-length : (b : ℕ) → length (indexLow v w i r b) ≡ v .desc .wpb
   unfolding indexLow indexShape
   index-low-length b =
       let g = caps (v .desc) (fit .good) in
@@ -106,8 +108,8 @@ module _ (v : Texts) (fit : Fitting (v .desc) (v .file) (v .buffer)) (w : Path) 
         moves-append (v .desc) (reached v flag (By w) .moves) _ (reached-moves v fit flag (By w) (path, due))
         (detail-block v w path, low-length, (new, high-length, (index-block v w path, entered-length b room, tt)))
 
-    both-moves : (x : ℕ) → Block (v .desc) x → Moves (v .desc) (reached v flag (By w) .moves ++ bothMoves v w i r b x)
-    unfolding bothMoves
+    both-moves : (x : ℕ) → Block (v .desc) x → Moves (v .desc) (reached v flag (By w) .moves ++ bothSplitMoves v w i r b x)
+    unfolding bothSplitMoves
     both-moves x newer =
         moves-append (v .desc) (reached v flag (By w) .moves) _ (reached-moves v fit flag (By w) (path, due))
         (detail-block v w path, low-length, (new, high-length, (index-block v w path, index-low-length b, (newer, index-high-length b, tt))))
@@ -158,40 +160,40 @@ module _ (v : Texts) (fit : Fitting (v .desc) (v .file) (v .buffer)) (flag : Boo
         go true = detail-block v w path
         go false = new
 
-    split-deed : (i n : ℕ) (d : Taken) (head lowest : ℕ) → ltb (count (textOf v (w .index))) (I (v .desc)) ≡ true
-        → granted v head lowest ≡ passed d → eqb (d .block) 0 ≡ false → Deed (insert-is.Split w i d n)
+    split-deed : (i n : ℕ) (d : Taken) → ltb (count (textOf v (w .index))) (I (v .desc)) ≡ true
+        → takeOne v flag w ≡ passed d → eqb (d .block) 0 ≡ false → Deed (insert-is.Split w i d n)
     unfolding insertDone splitFile
-    split-deed i n d head lowest room e z =
+    split-deed i n d room e z =
         let r = recordIn (v .desc) work in
-        let new = granted-fits v head lowest d e z in
+        let new = one-new v flag w d e z .new .block in
         let m = split-moves v fit w path i r (record-length v fit flag work given) flag due (d .block) new (ltb-true _ _ room) in
         record {
           kept = by-passed _ (land-kept v fit flag work given n _ _ _ (half-block (D (v .desc)) i (d .block) new) (freed-length v fit _ m (d .head) (d .lowest))
               (freed-only v fit _ m (d .head) (d .lowest)));
         }
 
-    both-deed : (i n : ℕ) (d x : Taken) (head lowest : ℕ) → granted v head lowest ≡ passed d → granted v (d .head) (d .lowest) ≡ passed x
-        → (eqb (d .block) 0 || (eqb (x .block) 0 || leb (v .desc .control) (sections (v .file)))) ≡ false → Deed (insert-is.Both w i (d .block) x n)
-    unfolding insertDone bothFile
-    both-deed i n d x head lowest e g z =
+    both-deed : (i n : ℕ) (t : Pair) → takeTwo v flag w ≡ passed t → eqb (t .detail) 0 ≡ false → Deed (insert-is.Both w i (t .detail) (t .index) n)
+    unfolding insertDone bothSplitFile
+    both-deed i n t e z =
+        let b = t .detail in
+        let x = t .index in
         let r = recordIn (v .desc) work in
-        let a = neither (eqb (d .block) 0) _ z in
-        let c = neither (eqb (x .block) 0) (leb (v .desc .control) (sections (v .file))) (a .1) in
-        let new = granted-fits v head lowest d e (a .0) in
-        let newer = granted-fits v (d .head) (d .lowest) x g (c .0) in
+        let two = two-new v flag w t e z in
+        let new = two .detail .block in
+        let newer = two .index .block in
         let whole = record-length v fit flag work given in
-        let moves = reached v flag (By w) .moves ++ bothMoves v w i r (d .block) (x .block) in
-        let m : Moves (v .desc) moves = both-moves v fit w path i r whole flag due (d .block) new (x .block) newer in
+        let moves = reached v flag (By w) .moves ++ bothSplitMoves v w i r b (x .block) in
+        let m : Moves (v .desc) moves = both-moves v fit w path i r whole flag due b new (x .block) newer in
         let f = written (v .desc) moves (withFree (x .head) (x .lowest) (v .file)) in
         let l = freed-length v fit moves m (x .head) (x .lowest) in
         let s = freed-count v fit moves m (x .head) (x .lowest) in
         let below : w .section < count f = rw s (path .section-below) in
-        let most : count f < v .desc .control = rw s (leb-false _ _ (c .1)) in
-        let entry = index-entry-length v fit w path i r whole (d .block) in
+        let most : count f < v .desc .control = rw s (two .section) in
+        let entry = index-entry-length v fit w path i r whole b in
         record {
-          kept = by-passed _ (land-kept v fit flag work given n _ _ _ (half-block (D (v .desc)) i (d .block) new)
+          kept = by-passed _ (land-kept v fit flag work given n _ _ _ (half-block (D (v .desc)) i b new)
               (section-length (v .desc) (fit .good) f (w .section) _ (x .block) l below most entry)
-              (λ b k o. section-blocks (v .desc) (fit .good) f (w .section) _ (x .block) l below most entry b ∙ freed-only v fit moves m (x .head) (x .lowest) b k o));
+              (λ y k o. section-blocks (v .desc) (fit .good) f (w .section) _ (x .block) l below most entry y ∙ freed-only v fit moves m (x .head) (x .lowest) y k o));
         }
 
   -- what the plan passes
@@ -203,7 +205,7 @@ module _ (v : Texts) (fit : Fitting (v .desc) (v .file) (v .buffer)) (flag : Boo
   above-low key w = first-le (fits Over (detailShape (v .desc)) key (textOf v (w .detail))) (count (textOf v (w .detail)))
 
   after-kept : (key : List ℕ) (l : Look) → LookFits v flag l → Passed Deed (insertAfter v flag key l)
-  unfolding insertAfter insertAt roomDeed splitDeed splitWith bothDeed bothAfter bothWith bothStored
+  unfolding insertAfter insertAt roomDeed splitDeed bothDeed
   after-kept key look-is.Bad h = search chain
   after-kept key (look-is.Found way i) h = by-passed _ (duplicate-deed way i _ h)
   after-kept key (look-is.Missing w) h =
@@ -212,12 +214,9 @@ module _ (v : Texts) (fit : Fitting (v .desc) (v .file) (v .buffer)) (flag : Boo
       let low = above-low key w in
       search (chain, stop-deed, room-deed, split-deed, both-deed) depth 16
 
-  looked : (key : List ℕ) (l : Look) → look v flag key ≡ passed l → LookFits v flag l
-  looked key l e = look-passed v flag key .holds l e
-
   deed-kept : (key : List ℕ) → Passed Deed (insertDeed v flag key)
   unfolding insertDeed
-  deed-kept key = search (chain, after-kept, looked)
+  deed-kept key = search (chain, after-kept, looked-fits)
 
   done-kept : (key : List ℕ) (d : Insert) → insertDeed v flag key ≡ passed d → Passed (Kept v) (insertDone v flag work d)
   done-kept key d e = deed-kept key .holds d e .kept

@@ -1,11 +1,11 @@
 -- The effects of XTEND have the right lengths, and change no block but those that they write.
 use Prim.Native.Nat.{ℕ, _+_, _-_, _≤_, _<_}
 use mathlib.Core.Path.{_≡_, refl, sym, ap, _∙_}
-use mathlib.Core.Bool.{Bool, true, false, _||_}
+use mathlib.Core.Bool.{Bool, true, false}
 use mathlib.Core.List.{List, _++_}
 use native.Mathlib.Omega.{arith}
-use borrow.Author.Tests.{ltb-true, leb-false, eqb-true}
-use lib.Dec.{eqb, ltb, leb}
+use borrow.Author.Tests.{ltb-true, eqb-true}
+use lib.Dec.{eqb, ltb}
 use lib.ListN.{length, length-append, length-replicate}
 use Rattle.numbers.specs.Checked.{passed}
 use Rattle.words.specs.Words.{part}
@@ -17,29 +17,28 @@ use Rattle.table.proofs.Lengths.{length-inserted, length-replaced, length-laid}
 use Rattle.table.proofs.Kept.{count-replaced, part-replaced, part-inserted}
 use Rattle.drum.specs.declared.Description.{Description}
 use Rattle.drum.specs.Params.{D, I, FD, FI, start, masterSize, fileSize, goodParams, masterShape, indexShape, detailShape}
-use Rattle.drum.specs.Blocks.{written, writes, blockAt, sections, Texts, textOf, Fitting, Block}
+use Rattle.drum.specs.Blocks.{written, writes, blockAt, Texts, textOf, Fitting, Block}
 use Rattle.drum.proofs.Good.{caps}
 use Rattle.drum.proofs.Blocks.{length-textOf, start-after}
 use Rattle.drum.proofs.Written.{Moves, moves-append, writes-append}
 use Rattle.rules.specs.declared.Path.{Path}
 use Rattle.rules.specs.declared.Way.{Way}
 use Rattle.rules.specs.declared.Taken.{Taken}
+use Rattle.rules.specs.declared.Pair.{Pair}
 use Rattle.rules.specs.declared.Extend.{Extend}
 use Rattle.rules.specs.declared.Extend.the-variants as extend-is
 use Rattle.rules.specs.State.{keyIn}
 use Rattle.rules.specs.Lookup.{Reached, reached, textAt, stopping}
-use Rattle.rules.specs.Free.{granted, withFree}
-use Rattle.rules.specs.Xtend.{lastWay, lastOf, roomDeed, aloneDeed, newWith, bothWith, bothAfter, newAt, newDeed, extendAt, extendDeed}
-use Rattle.rules.specs.XtendDone.{reading, oldText, endText, onesEntry, bounded, extended, newMoves, bothMoves, newFile, bothFile, extendDone, xtendSteps}
+use Rattle.rules.specs.Free.{takeOne, takeTwo, withFree}
+use Rattle.rules.specs.Xtend.{lastWay, lastOf, lastRoom, aloneDeed, startDeed, sectionDeed, newAt, newDeed, extendAt, extendDeed}
+use Rattle.rules.specs.XtendDone.{reading, oldText, endText, onesEntry, bounded, extended, newMoves, sectionMoves, newFile, sectionFile, extendDone, xtendSteps}
 use Rattle.rules.specs.Fits.{PathFits, WayFits}
 use Rattle.numbers.proofs.Passed.{Passed, chain, by-passed}
-use Rattle.rules.proofs.Fits.{last-passed, lastOf-fits, granted-fits, neither}
+use Rattle.rules.proofs.Fits.{last-passed, lastOf-fits}
+pub use Rattle.rules.proofs.Sizes.{ones-length}
+use Rattle.rules.proofs.Takes.{neither, one-new, two-new}
 use Rattle.rules.proofs.Rooms.{detail-read, index-base, index-end, index-row, master-base, master-row}
 use Rattle.rules.proofs.Kept.{Kept, Only, index-block, detail-block, reached-text, way-counts, reached-moves, reached-fits, reached-only, insert-length, replace-length, store-kept, land-kept, freed-length, freed-only, freed-count}
-
-ones-length : (p : Description) (b : ℕ) → length (onesEntry p b) ≡ p .k + 1
-unfolding onesEntry
-ones-length p b = simp (length-append, length-replicate) (omega arith)
 
 -- a table of entries whose last bound becomes the key, and with a new entry behind it
 module _ (p : Description) (h : Shape) (stride : h .stride ≡ p .k + 1) (base : 1 ≤ h .base) (t key : List ℕ) (whole : length key ≡ p .k) (some : 1 ≤ count t) (all : place h (count t) ≤ length t) where
@@ -48,11 +47,11 @@ module _ (p : Description) (h : Shape) (stride : h .stride ≡ p .k + 1) (base :
       let r = row-lt (count t - 1) (count t) (h .stride) (omega arith) in
       omega arith
 
-  bounded-length : length (bounded h key t) ≡ length t
+  pub bounded-length : length (bounded h key t) ≡ length t
   unfolding bounded
   bounded-length = length-replaced h (count t - 1) t key bounded-room
 
-  bounded-count : count (bounded h key t) ≡ count t
+  pub bounded-count : count (bounded h key t) ≡ count t
   unfolding bounded
   bounded-count = count-replaced h (count t - 1) t key bounded-room base
 
@@ -60,7 +59,7 @@ module _ (p : Description) (h : Shape) (stride : h .stride ≡ p .k + 1) (base :
     still : place h (count (bounded h key t)) + h .stride ≤ length (bounded h key t)
     still = rw (bounded-count, bounded-length) room
 
-    extended-length : length (extended p h key b t) ≡ length t
+    pub extended-length : length (extended p h key b t) ≡ length t
     unfolding extended
     extended-length = length-inserted h (count t) (bounded h key t) (onesEntry p b) (rw bounded-count (omega arith)) (ones-length p b ∙ sym stride) still ∙ bounded-length
 
@@ -87,13 +86,13 @@ module _ (v : Texts) (fit : Fitting (v .desc) (v .file) (v .buffer)) (flag : Boo
     text-length = ap length (sym (reached-text v flag way)) ∙ reached-fits v fit flag way reach .buffer-is
 
     -- the old block's text, and the new one's
-    old-length : length (oldText v way work) ≡ v .desc .wpb
+    pub old-length : length (oldText v way work) ≡ v .desc .wpb
     unfolding oldText
     old-length =
         let c = way-counts v flag way reach in
         replace-length v fit flag work given (textAt v way) (count (textAt v way) - 1) text-length (c .1) (omega arith)
 
-    end-length : length (endText v way) ≡ v .desc .wpb
+    pub end-length : length (endText v way) ≡ v .desc .wpb
     unfolding endText
     end-length =
         let g = caps (v .desc) (fit .good) in
@@ -109,13 +108,13 @@ module _ (v : Texts) (fit : Fitting (v .desc) (v .file) (v .buffer)) (flag : Boo
       index-all : place (indexShape (v .desc)) (count (textOf v (w .index))) ≤ length (textOf v (w .index))
       index-all = rw index-length (index-end (v .desc) (fit .good) (count (textOf v (w .index))) (path .entries-most))
 
-      index-bounded : length (bounded (indexShape (v .desc)) (keyIn (v .desc) work) (textOf v (w .index))) ≡ v .desc .wpb
+      pub index-bounded : length (bounded (indexShape (v .desc)) (keyIn (v .desc) work) (textOf v (w .index))) ≡ v .desc .wpb
       unfolding indexShape
       index-bounded =
           let e = path .entry-below in
           bounded-length (v .desc) (indexShape (v .desc)) refl (index-base (v .desc)) (textOf v (w .index)) (keyIn (v .desc) work) key-length (omega arith) index-all ∙ index-length
 
-      index-extended : (b : ℕ) → count (textOf v (w .index)) < I (v .desc)
+      pub index-extended : (b : ℕ) → count (textOf v (w .index)) < I (v .desc)
           → length (extended (v .desc) (indexShape (v .desc)) (keyIn (v .desc) work) b (textOf v (w .index))) ≡ v .desc .wpb
       unfolding indexShape
       index-extended b room =
@@ -129,8 +128,8 @@ module _ (v : Texts) (fit : Fitting (v .desc) (v .file) (v .buffer)) (flag : Boo
           moves-append (v .desc) (reached v flag way .moves) _ (reached-moves v fit flag way reach)
           (detail-block v w path, old-length, (index-block v w path, index-extended b room, (new, end-length, tt)))
 
-      both-moves : (b x : ℕ) → Block (v .desc) b → Block (v .desc) x → Moves (v .desc) (reached v flag way .moves ++ bothMoves v way w work b x)
-      unfolding bothMoves
+      both-moves : (b x : ℕ) → Block (v .desc) b → Block (v .desc) x → Moves (v .desc) (reached v flag way .moves ++ sectionMoves v way w work b x)
+      unfolding sectionMoves
       both-moves b x new newer =
           let g = caps (v .desc) (fit .good) in
           let l = ones-length (v .desc) b in
@@ -203,37 +202,35 @@ module _ (v : Texts) (fit : Fitting (v .desc) (v .file) (v .buffer)) (flag : Boo
         let c = ltb-true (count (textAt v way)) (FD (v .desc)) e in
         room-deed x n (omega arith)
 
-    new-deed : (w : Path) (n : ℕ) (d : Taken) (head lowest : ℕ) → lastOf v way ≡ passed w → ltb (count (textOf v (w .index))) (FI (v .desc)) ≡ true
-        → granted v head lowest ≡ passed d → eqb (d .block) 0 ≡ false → Deed (extend-is.New way w d n)
+    new-deed : (w : Path) (n : ℕ) (d : Taken) → lastOf v way ≡ passed w → ltb (count (textOf v (w .index))) (FI (v .desc)) ≡ true
+        → takeOne v flag w ≡ passed d → eqb (d .block) 0 ≡ false → Deed (extend-is.New way w d n)
     unfolding extendDone newFile
-    new-deed w n d head lowest last room e z =
+    new-deed w n d last room e z =
         let g = caps (v .desc) (fit .good) in
         let path = lastOf-fits v flag way w reach last in
-        let new = granted-fits v head lowest d e z in
+        let new = one-new v flag w d e z .new .block in
         let c = ltb-true (count (textOf v (w .index))) (FI (v .desc)) room in
         let m = new-moves v fit flag work given way reach w path (d .block) new (omega arith) in
         record {
           kept = by-passed _ (land-kept v fit flag work given n _ _ _ new (freed-length v fit _ m (d .head) (d .lowest)) (freed-only v fit _ m (d .head) (d .lowest)));
         }
 
-    both-deed : (w : Path) (n : ℕ) (d x : Taken) (head lowest : ℕ) → lastOf v way ≡ passed w → granted v head lowest ≡ passed d
-        → granted v (d .head) (d .lowest) ≡ passed x
-        → (eqb (d .block) 0 || (eqb (x .block) 0 || leb (v .desc .control) (sections (v .file)))) ≡ false → Deed (extend-is.Both way w (d .block) x n)
-    unfolding extendDone bothFile
-    both-deed w n d x head lowest last e g z =
+    both-deed : (w : Path) (n : ℕ) (t : Pair) → lastOf v way ≡ passed w → takeTwo v flag w ≡ passed t → eqb (t .detail) 0 ≡ false
+        → Deed (extend-is.Both way w (t .detail) (t .index) n)
+    unfolding extendDone sectionFile
+    both-deed w n t last e z =
         let path = lastOf-fits v flag way w reach last in
-        let a = neither (eqb (d .block) 0) _ z in
-        let c = neither (eqb (x .block) 0) (leb (v .desc .control) (sections (v .file))) (a .1) in
-        let new = granted-fits v head lowest d e (a .0) in
-        let newer = granted-fits v (d .head) (d .lowest) x g (c .0) in
-        let moves = reached v flag way .moves ++ bothMoves v way w work (d .block) (x .block) in
-        let m : Moves (v .desc) moves = both-moves v fit flag work given way reach w path (d .block) (x .block) new newer in
+        let x = t .index in
+        let two = two-new v flag w t e z in
+        let new = two .detail .block in
+        let moves = reached v flag way .moves ++ sectionMoves v way w work (t .detail) (x .block) in
+        let m : Moves (v .desc) moves = both-moves v fit flag work given way reach w path (t .detail) (x .block) new (two .index .block) in
         let f = written (v .desc) moves (withFree (x .head) (x .lowest) (v .file)) in
         let l = freed-length v fit moves m (x .head) (x .lowest) in
         let s = freed-count v fit moves m (x .head) (x .lowest) in
         let q = path .section-below in
         let some : 1 ≤ count f = rw s (omega arith) in
-        let most : count f < v .desc .control = rw s (leb-false _ _ (c .1)) in
+        let most : count f < v .desc .control = rw s (two .section) in
         let key = key-length v fit flag work given in
         record {
           kept = by-passed _ (land-kept v fit flag work given n _ _ _ new
@@ -246,7 +243,7 @@ module _ (v : Texts) (fit : Fitting (v .desc) (v .file) (v .buffer)) (flag : Boo
   last-fits way e = last-passed v flag .holds way e
 
   deed-kept : (key : List ℕ) → Passed Deed (extendDeed v flag key)
-  unfolding extendDeed extendAt aloneDeed roomDeed newDeed newAt newWith bothAfter bothWith
+  unfolding extendDeed extendAt aloneDeed lastRoom newDeed newAt startDeed sectionDeed
   deed-kept key = search (chain, last-fits, stop-deed, room-alone, room-more, new-deed, both-deed) depth 20
 
   done-kept : (key : List ℕ) (d : Extend) → extendDeed v flag key ≡ passed d → Passed (Kept v) (extendDone v flag work d)

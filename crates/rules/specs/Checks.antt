@@ -4,11 +4,11 @@ use mathlib.Core.Bool.{Bool, not, _&&_}
 use lib.Dec.{eqb}
 use lib.ListN.{length}
 use Rattle.numbers.specs.Numbers.{wrongSize, isClosed, wrongKey}
-use Rattle.numbers.specs.Checked.{Checked, require}
+use Rattle.numbers.specs.Checked.{Checked, _>>=_, _>>_, require}
 use Rattle.words.specs.Words.{part, allWords}
 use Rattle.words.specs.Keys.{isOnes}
 use Rattle.drum.specs.Params.{sized}
-use Rattle.rules.specs.State.{State, desc, keyIn}
+use Rattle.rules.specs.State.{State, Outcome, Effect, desc, keyIn, settle}
 
 -- 020007: "parameter or slice length wrong", of file and buffer; "Workspace: WPR" [N1, P10, P12]
 unfoldable pub sizesOk : State → Checked Bool
@@ -25,3 +25,12 @@ isOpen st = require (st .session .opened) isClosed
 -- 030001: "workspace word it reads above 262143, or key ONES (SEEK, DLETE read the key only)" [N4]
 unfoldable pub keyOk : ℕ → State → Checked Bool
 keyOk reads st = require (allWords (part 0 reads (st .work)) && not (isOnes (keyIn (desc st) (st .work)))) wrongKey
+
+-- a keyed call that reads so many words of the workspace: 020007, 020005, 030001 in this order, and then its steps [N1, N3, N4]
+abbrev pub keyedCall : ℕ → State → Checked Effect → Outcome
+keyedCall reads st steps = settle st do
+  sizesOk st
+  workOk st
+  isOpen st
+  keyOk reads st
+  steps

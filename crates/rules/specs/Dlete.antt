@@ -18,8 +18,8 @@ use Rattle.rules.specs.declared.Look.{Look}
 use Rattle.rules.specs.declared.Look.the-variants as look-is
 use Rattle.rules.specs.declared.Delete.{Delete}
 use Rattle.rules.specs.declared.Delete.the-variants.{Bad, Stop, Remove, Empty, Both}
-use Rattle.rules.specs.State.{State, Outcome, Effect, desc, texts, keyIn, settle}
-use Rattle.rules.specs.Checks.{sizesOk, workOk, isOpen, keyOk}
+use Rattle.rules.specs.State.{State, Outcome, Effect, desc, texts, keyIn}
+use Rattle.rules.specs.Checks.{keyedCall}
 use Rattle.rules.specs.Paths.{pathTo}
 use Rattle.rules.specs.Lookup.{look, reached, textAt, stopping, storing}
 
@@ -111,9 +111,4 @@ dleteSteps v flag work = do
 
 -- DLETE: 020007, 020005, 030001, and then its steps, which give 070003, 000001 or 0 [C17, N1, N3, N4]
 unfoldable pub dlete : State → Outcome
-dlete st = settle st do
-  sizesOk st
-  workOk st
-  isOpen st
-  keyOk (desc st .k) st
-  dleteSteps (texts st) (st .session .flag) (st .work)
+dlete st = keyedCall (desc st .k) st (dleteSteps (texts st) (st .session .flag) (st .work))

@@ -1,9 +1,12 @@
+-- Document 01 as definitions that compute: all that a reader of the rules must believe, in the order in which to read it.
+-- What a call is given and leaves, and the refusals before its own steps.
 pub mod State
 pub mod Checks
+-- Ways to blocks, the lookup, new blocks.
 pub mod Paths
 pub mod Lookup
 pub mod Free
-pub mod Names
+-- The calls.
 pub mod Open
 pub mod Close
 pub mod Seek
@@ -13,14 +16,10 @@ pub mod NsertDone
 pub mod Dlete
 pub mod Xtend
 pub mod XtendDone
-pub mod Fits
-pub mod Told
+-- Runs of calls, and the printed session.
 pub mod Requests
-pub mod Unbuffered
-pub mod Refusals
-pub mod Lengths
 pub mod Run
-pub mod Computing
-pub mod When
-pub mod Position
-pub mod Answering
+-- Not needed to read the rules: what the promises of the code below the session are written with.
+pub mod Code
+pub use Code.Fits
+pub use Code.Told

@@ -14,8 +14,8 @@ use Rattle.rules.specs.declared.Way.the-variants.{By}
 use Rattle.rules.specs.declared.Taken.{Taken}
 use Rattle.rules.specs.declared.Insert.{Insert}
 use Rattle.rules.specs.declared.Insert.the-variants.{Bad, Stop, Room, Split, Both}
-use Rattle.rules.specs.State.{State, Outcome, Effect, desc, texts, keyIn, recordIn, settle}
-use Rattle.rules.specs.Checks.{sizesOk, workOk, isOpen, keyOk}
+use Rattle.rules.specs.State.{State, Outcome, Effect, desc, texts, keyIn, recordIn}
+use Rattle.rules.specs.Checks.{keyedCall}
 use Rattle.rules.specs.Lookup.{reached, stopping, storing, landing}
 use Rattle.rules.specs.Free.{withFree}
 use Rattle.rules.specs.Nsert.{insertDeed}
@@ -62,8 +62,8 @@ splitMoves v w i r b =
     ∷ []
 
 -- "A full index splits ..: 1 more." [C14, C15]
-unfoldable pub bothMoves : Texts → Path → ℕ → List ℕ → ℕ → ℕ → List Transfer
-bothMoves v w i r b x =
+unfoldable pub bothSplitMoves : Texts → Path → ℕ → List ℕ → ℕ → ℕ → List Transfer
+bothSplitMoves v w i r b x =
     Read (w .index)
     ∷ Write (w .detail) (detailLow v w i r)
     ∷ Write b (detailHigh v w i r)
@@ -77,10 +77,10 @@ splitFile v flag w i r d =
     written (v .desc) (reached v flag (By w) .moves ++ splitMoves v w i r (d .block)) (withFree (d .head) (d .lowest) (v .file))
 
 -- the same where the index block is split too: "the master entered likewise" [C15]
-unfoldable pub bothFile : Texts → Bool → Path → ℕ → List ℕ → ℕ → Taken → List ℕ
-bothFile v flag w i r b x =
+unfoldable pub bothSplitFile : Texts → Bool → Path → ℕ → List ℕ → ℕ → Taken → List ℕ
+bothSplitFile v flag w i r b x =
     entered (masterShape (v .desc)) (w .section) (indexEntry v w i r b) (x .block)
-    (written (v .desc) (reached v flag (By w) .moves ++ bothMoves v w i r b (x .block)) (withFree (x .head) (x .lowest) (v .file)))
+    (written (v .desc) (reached v flag (By w) .moves ++ bothSplitMoves v w i r b (x .block)) (withFree (x .head) (x .lowest) (v .file)))
 
 -- of the two blocks of a split, "the half with the record" put in at place i of n [C16]
 abbrev pub halfOf : ℕ → ℕ → ℕ → ℕ → ℕ
@@ -99,8 +99,8 @@ insertDone v flag work (Split w i d n) =
     (halfOf (D (v .desc)) i (w .detail) (d .block)) (splitFile v flag w i r d))
 insertDone v flag work (Both w i b x n) =
     let r = recordIn (v .desc) work in
-    passed (landing (v .desc) n work (reached v flag (By w) .moves ++ bothMoves v w i r b (x .block))
-    (halfOf (D (v .desc)) i (w .detail) b) (bothFile v flag w i r b x))
+    passed (landing (v .desc) n work (reached v flag (By w) .moves ++ bothSplitMoves v w i r b (x .block))
+    (halfOf (D (v .desc)) i (w .detail) b) (bothSplitFile v flag w i r b x))
 
 -- NSERT's steps, after the refusals [C10]
 unfoldable pub nsertSteps : Texts → Bool → List ℕ → Checked Effect
@@ -110,9 +110,4 @@ nsertSteps v flag work = do
 
 -- NSERT: 020007, 020005, 030001, and then its steps, which give 070003, 000001, 070002, 070001 or 0 [C10, N1, N3, N4]
 unfoldable pub nsert : State → Outcome
-nsert st = settle st do
-  sizesOk st
-  workOk st
-  isOpen st
-  keyOk (desc st .wpr) st
-  nsertSteps (texts st) (st .session .flag) (st .work)
+nsert st = keyedCall (desc st .wpr) st (nsertSteps (texts st) (st .session .flag) (st .work))

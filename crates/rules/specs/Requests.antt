@@ -19,29 +19,29 @@ pub data Request : Type 0 where
 
 -- a state like st, with another workspace
 unfoldable pub lending : List ℕ → State → State
-lending w st = lent (st .session) (st .file) (st .buffer) w
+lending work st = lent (st .session) (st .file) (st .buffer) work
 
 -- what the call is given
 unfoldable pub given : State → Request → State
 given st (opening marks) = st
 given st closing = st
-given st (seeking w) = lending w st
-given st (advancing w) = lending w st
-given st (inserting w) = lending w st
-given st (deleting w) = lending w st
-given st (updating w) = lending w st
-given st (extending w) = lending w st
+given st (seeking work) = lending work st
+given st (advancing work) = lending work st
+given st (inserting work) = lending work st
+given st (deleting work) = lending work st
+given st (updating work) = lending work st
+given st (extending work) = lending work st
 
 -- what it does
 unfoldable pub answer : State → Request → Outcome
 answer st (opening marks) = openFile st marks .outcome
 answer st closing = close st
-answer st (seeking w) = seek (lending w st)
-answer st (advancing w) = adv (lending w st)
-answer st (inserting w) = nsert (lending w st)
-answer st (deleting w) = dlete (lending w st)
-answer st (updating w) = updat (lending w st)
-answer st (extending w) = xtend (lending w st)
+answer st (seeking work) = seek (lending work st)
+answer st (advancing work) = adv (lending work st)
+answer st (inserting work) = nsert (lending work st)
+answer st (deleting work) = dlete (lending work st)
+answer st (updating work) = updat (lending work st)
+answer st (extending work) = xtend (lending work st)
 
 -- the state that a run of calls leaves [S7]
 unfoldable pub left : State → List Request → State

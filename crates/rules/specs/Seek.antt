@@ -10,8 +10,8 @@ use Rattle.drum.specs.Blocks.{Texts}
 use Rattle.rules.specs.declared.Way.the-variants.{By}
 use Rattle.rules.specs.declared.Look.{Look}
 use Rattle.rules.specs.declared.Look.the-variants.{Bad, Found, Missing}
-use Rattle.rules.specs.State.{State, Outcome, Effect, desc, texts, keyIn, recordIn, settle}
-use Rattle.rules.specs.Checks.{sizesOk, workOk, isOpen, keyOk}
+use Rattle.rules.specs.State.{State, Outcome, Effect, desc, texts, keyIn, recordIn}
+use Rattle.rules.specs.Checks.{keyedCall}
 use Rattle.rules.specs.Lookup.{Reached, reached, look, stopping, storing}
 
 -- "SEEK found: record to workspace, position = key." [C3]
@@ -41,12 +41,7 @@ seekSteps v flag work = do
 
 -- SEEK: 020007, 020005, 030001, and then its steps, which give 070003, 000001 or 0 [C3, N1, N3, N4]
 unfoldable pub seek : State → Outcome
-seek st = settle st do
-  sizesOk st
-  workOk st
-  isOpen st
-  keyOk (desc st .k) st
-  seekSteps (texts st) (st .session .flag) (st .work)
+seek st = keyedCall (desc st .k) st (seekSteps (texts st) (st .session .flag) (st .work))
 
 -- "UPDAT found: record replaced, flag on, position = key." [C4, N6]
 unfoldable pub updatDone : Texts → Bool → List ℕ → Look → Checked Effect
@@ -64,9 +59,4 @@ updatSteps v flag work = do
 
 -- UPDAT: 020007, 020005, 030001, and then its steps, which give 070003, 000001 or 0 [C4, N1, N3, N4]
 unfoldable pub updat : State → Outcome
-updat st = settle st do
-  sizesOk st
-  workOk st
-  isOpen st
-  keyOk (desc st .wpr) st
-  updatSteps (texts st) (st .session .flag) (st .work)
+updat st = keyedCall (desc st .wpr) st (updatSteps (texts st) (st .session .flag) (st .work))

@@ -33,7 +33,7 @@ pub record Outcome : Type 0 where
 
 -- a session with the words lent to it
 abbrev pub lent : Session → List ℕ → List ℕ → List ℕ → State
-lent s f b w = record { session = s; file = f; buffer = b; work = w }
+lent s f b work = record { session = s; file = f; buffer = b; work = work }
 
 -- its parameters
 abbrev pub desc : State → Description
@@ -45,11 +45,11 @@ texts st = seen (st .session .desc) (st .session .current) (st .file) (st .buffe
 
 -- the key and the record in a workspace; the key that position is
 abbrev pub keyIn : Description → List ℕ → List ℕ
-keyIn p w = part 0 (p .k) w
+keyIn p work = part 0 (p .k) work
 
 -- the record in a workspace [P3]
 abbrev pub recordIn : Description → List ℕ → List ℕ
-recordIn p w = part 0 (p .wpr) w
+recordIn p work = part 0 (p .wpr) work
 
 -- the key that position is [S1]
 abbrev pub positionKey : Session → List ℕ

@@ -1,24 +1,23 @@
 -- Document 01, XTEND: what it will do, decided from current texts alone, every number checked.
 use Prim.Native.Nat.{ℕ, _+_, _-_}
-use mathlib.Core.Bool.{Bool, true, false, cond, not, _&&_, _||_}
+use mathlib.Core.Bool.{Bool, cond, not, _&&_}
 use mathlib.Core.List.{List}
-use lib.Dec.{leb, ltb, eqb}
+use lib.Dec.{ltb, eqb}
 use Rattle.numbers.specs.Numbers.{outOfSequence, noRoom, badFile}
 use Rattle.numbers.specs.Checked.{Checked, passed, refused, _>>=_, _>>_, require}
 use Rattle.words.specs.Keys.{keyLt, isOnes}
 use Rattle.table.specs.Tables.{count, keyAt}
 use Rattle.drum.specs.declared.Description.{Description}
 use Rattle.drum.specs.Params.{FD, FI, masterShape, indexShape, detailShape}
-use Rattle.drum.specs.Blocks.{Texts, textOf, sections, chainHead, lowestUnused}
+use Rattle.drum.specs.Blocks.{Texts, textOf, chainHead, lowestUnused}
 use Rattle.rules.specs.declared.Path.{Path}
 use Rattle.rules.specs.declared.Way.{Way}
 use Rattle.rules.specs.declared.Way.the-variants.{Here, By}
-use Rattle.rules.specs.declared.Taken.{Taken}
 use Rattle.rules.specs.declared.Extend.{Extend}
 use Rattle.rules.specs.declared.Extend.the-variants.{Stop, Room, New, Both}
 use Rattle.rules.specs.Paths.{lastPath}
 use Rattle.rules.specs.Lookup.{onBuffer, flushOk, textAt}
-use Rattle.rules.specs.Free.{granted, isNew, storedNumber}
+use Rattle.rules.specs.Free.{takeOne, takeTwo, storedNumber}
 
 -- the key of the last record is ONES [C23]
 abbrev pub endsInOnes : Description → List ℕ → Bool
@@ -48,8 +47,8 @@ lastOf v Here = do
   passed w
 
 -- "Fewer than FD records: insert before the end record": x is the index block that was read for it, or 0 [C26]
-unfoldable pub roomDeed : Texts → Way → ℕ → Checked Extend
-roomDeed v way x = do
+unfoldable pub lastRoom : Texts → Way → ℕ → Checked Extend
+lastRoom v way x = do
   number ← storedNumber (v .desc) (count (textAt v way) + 1) (chainHead (v .file)) (lowestUnused (v .file))
   passed (Room way x number)
 
@@ -64,39 +63,28 @@ notAboveBefore v key w =
 unfoldable pub aloneDeed : Texts → List ℕ → Way → Checked Extend
 aloneDeed v key way = do
   w ← lastOf v way
-  cond (notAboveBefore v key w) (passed (Stop way (w .index) outOfSequence)) (roomDeed v way (w .index))
+  cond (notAboveBefore v key w) (passed (Stop way (w .index) outOfSequence)) (lastRoom v way (w .index))
 
--- "the end record starts a new block": one new block is needed, and is d [C27, N8, B5, B10]
-unfoldable pub newWith : Description → ℕ → Bool → Way → Path → ℕ → Taken → Checked Extend
-newWith p cur flag way w n d =
-    cond (eqb (d .block) 0) (passed (Stop way 0 noRoom)) (do
-      require (isNew cur flag w (d .block)) badFile
-      number ← storedNumber p n (d .head) (d .lowest)
-      passed (New way w d number))
+-- "the end record starts a new block": one new block is needed; n is the number of records that the record's block keeps [C27, N8, N9]
+unfoldable pub startDeed : Texts → Bool → Way → Path → ℕ → Checked Extend
+startDeed v flag way w n = do
+  d ← takeOne v flag w
+  cond (eqb (d .block) 0) (passed (Stop way 0 noRoom)) (do
+    number ← storedNumber (v .desc) n (d .head) (d .lowest)
+    passed (New way w d number))
 
--- "the entry starts a new index block and section": two new blocks, d and x, and a section [C29, N8, B5, B10]
-unfoldable pub bothWith : Description → ℕ → Bool → ℕ → Way → Path → ℕ → Taken → Taken → Checked Extend
-bothWith p cur flag used way w n d x =
-    cond (eqb (d .block) 0 || (eqb (x .block) 0 || leb (p .control) used)) (passed (Stop way 0 noRoom)) (do
-      require (isNew cur flag w (d .block)) badFile
-      require (isNew cur flag w (x .block)) badFile
-      require (not (eqb (x .block) (d .block))) badFile
-      number ← storedNumber p n (x .head) (x .lowest)
-      passed (Both way w (d .block) x number))
+-- "the entry starts a new index block and section": two new blocks are needed, and a section [C29, N8, N9]
+unfoldable pub sectionDeed : Texts → Bool → Way → Path → ℕ → Checked Extend
+sectionDeed v flag way w n = do
+  t ← takeTwo v flag w
+  cond (eqb (t .detail) 0) (passed (Stop way 0 noRoom)) (do
+    number ← storedNumber (v .desc) n (t .index .head) (t .index .lowest)
+    passed (Both way w (t .detail) (t .index) number))
 
--- the second new block is taken after the first: "detail before index" [C29, C32]
-unfoldable pub bothAfter : Texts → Bool → Way → Path → ℕ → Taken → Checked Extend
-bothAfter v flag way w n d = do
-  x ← granted v (d .head) (d .lowest)
-  bothWith (v .desc) (v .current) flag (sections (v .file)) way w n d x
-
--- "If the index holds FI or more": n is the number of records in the last block, which the record's block keeps [C29, C32]
+-- "If the index holds FI or more" [C27, C29]
 unfoldable pub newAt : Texts → Bool → Way → Path → ℕ → Checked Extend
-newAt v flag way w n = do
-  d ← granted v (chainHead (v .file)) (lowestUnused (v .file))
-  cond (ltb (count (textOf v (w .index))) (FI (v .desc)))
-      (newWith (v .desc) (v .current) flag way w n d)
-      (bothAfter v flag way w n d)
+newAt v flag way w n =
+    cond (ltb (count (textOf v (w .index))) (FI (v .desc))) (startDeed v flag way w n) (sectionDeed v flag way w n)
 
 -- the path to the last block, and then its new block [C27]
 unfoldable pub newDeed : Texts → Bool → Way → Checked Extend
@@ -110,7 +98,7 @@ extendAt v flag key way =
     let t = textAt v way in
     cond (eqb (count t) 1) (aloneDeed v key way)
     (cond (not (keyLt (keyAt (detailShape (v .desc)) t (count t - 2)) key)) (passed (Stop way 0 outOfSequence))
-    (cond (ltb (count t) (FD (v .desc))) (roomDeed v way 0) (newDeed v flag way)))
+    (cond (ltb (count t) (FD (v .desc))) (lastRoom v way 0) (newDeed v flag way)))
 
 -- the way to the last block, and then what XTEND will do [C23]
 unfoldable pub extendDeed : Texts → Bool → List ℕ → Checked Extend

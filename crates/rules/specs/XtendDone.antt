@@ -16,8 +16,8 @@ use Rattle.rules.specs.declared.Way.{Way}
 use Rattle.rules.specs.declared.Taken.{Taken}
 use Rattle.rules.specs.declared.Extend.{Extend}
 use Rattle.rules.specs.declared.Extend.the-variants.{Bad, Stop, Room, New, Both}
-use Rattle.rules.specs.State.{State, Outcome, Effect, desc, texts, keyIn, recordIn, settle}
-use Rattle.rules.specs.Checks.{sizesOk, workOk, isOpen, keyOk}
+use Rattle.rules.specs.State.{State, Outcome, Effect, desc, texts, keyIn, recordIn}
+use Rattle.rules.specs.Checks.{keyedCall}
 use Rattle.rules.specs.Lookup.{Reached, reached, textAt, stopping, storing, landing}
 use Rattle.rules.specs.Free.{withFree}
 use Rattle.rules.specs.Xtend.{extendDeed}
@@ -63,8 +63,8 @@ newMoves v way w work b =
     ∷ []
 
 -- "the entry starts a new index block ..: 1 more." [C28, C29]
-unfoldable pub bothMoves : Texts → Way → Path → List ℕ → ℕ → ℕ → List Transfer
-bothMoves v way w work b x =
+unfoldable pub sectionMoves : Texts → Way → Path → List ℕ → ℕ → ℕ → List Transfer
+sectionMoves v way w work b x =
     Write (w .detail) (oldText v way work)
     ∷ Read (w .index)
     ∷ Write (w .index) (bounded (indexShape (v .desc)) (keyIn (v .desc) work) (textOf v (w .index)))
@@ -78,10 +78,10 @@ newFile v flag way w work d =
     written (v .desc) (reached v flag way .moves ++ newMoves v way w work (d .block)) (withFree (d .head) (d .lowest) (v .file))
 
 -- the same with a new section: "the old section's bound becoming the key" [C29]
-unfoldable pub bothFile : Texts → Bool → Way → Path → List ℕ → ℕ → Taken → List ℕ
-bothFile v flag way w work b x =
+unfoldable pub sectionFile : Texts → Bool → Way → Path → List ℕ → ℕ → Taken → List ℕ
+sectionFile v flag way w work b x =
     extended (v .desc) (masterShape (v .desc)) (keyIn (v .desc) work) (x .block)
-    (written (v .desc) (reached v flag way .moves ++ bothMoves v way w work b (x .block)) (withFree (x .head) (x .lowest) (v .file)))
+    (written (v .desc) (reached v flag way .moves ++ sectionMoves v way w work b (x .block)) (withFree (x .head) (x .lowest) (v .file)))
 
 -- "insert before the end record, flag on"; "Buffer: the new block, flag off." [C26, C27, C29, C30]
 unfoldable pub extendDone : Texts → Bool → List ℕ → Extend → Checked Effect
@@ -93,7 +93,7 @@ extendDone v flag work (Room way x n) =
 extendDone v flag work (New way w d n) =
     passed (landing (v .desc) n work (reached v flag way .moves ++ newMoves v way w work (d .block)) (d .block) (newFile v flag way w work d))
 extendDone v flag work (Both way w b x n) =
-    passed (landing (v .desc) n work (reached v flag way .moves ++ bothMoves v way w work b (x .block)) b (bothFile v flag way w work b x))
+    passed (landing (v .desc) n work (reached v flag way .moves ++ sectionMoves v way w work b (x .block)) b (sectionFile v flag way w work b x))
 
 -- XTEND's steps, after the refusals [C23]
 unfoldable pub xtendSteps : Texts → Bool → List ℕ → Checked Effect
@@ -103,9 +103,4 @@ xtendSteps v flag work = do
 
 -- XTEND: 020007, 020005, 030001, and then its steps, which give 070003, 000005, 070002, 070001 or 0 [C23, N1, N3, N4]
 unfoldable pub xtend : State → Outcome
-xtend st = settle st do
-  sizesOk st
-  workOk st
-  isOpen st
-  keyOk (desc st .wpr) st
-  xtendSteps (texts st) (st .session .flag) (st .work)
+xtend st = keyedCall (desc st .wpr) st (xtendSteps (texts st) (st .session .flag) (st .work))

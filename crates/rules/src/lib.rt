@@ -54,6 +54,13 @@ pub struct Taken {
     pub lowest: u32,
 }
 
+// Two new blocks, the detail block before the index block, whose words 1 and 2 are the master's then (detail 0: too few are free, or no
+// section is left).
+pub struct Pair {
+    pub detail: usize,
+    pub index: Taken,
+}
+
 // What NSERT will do, with its number: stop after the lookup; store at a place of the block; split the block; split the index block too.
 pub enum Insert {
     Bad,
