@@ -1,1 +1,3 @@
-pub mod Granted
+pub mod Granting
+pub mod Taking
+pub mod Readying

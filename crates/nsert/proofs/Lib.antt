@@ -1,6 +1,5 @@
-pub mod Answers
+pub mod Planning
 pub mod Fits
-pub mod Shapes
-pub mod Ready
-pub mod Files
-pub mod Told
+pub mod Cutting
+pub mod Splitting
+pub mod Telling

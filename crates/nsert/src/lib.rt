@@ -1,13 +1,11 @@
 // NSERT: a record put in. What it will do is decided first, from current texts alone; then it is done.
-mod blocks;
 mod deeds;
 mod plan;
 mod splits;
 
-use deeds::perform;
 use drum::Description;
-use plan::insert_deed;
 use rules::Done;
+use rules::Held;
 ghost use mathlib.Core.Path.{_≡_};
 ghost use lib.ListN.{length};
 ghost use Rattle.drum.specs.Blocks.{Fitting};
@@ -26,6 +24,11 @@ pub fn nsert(
     requires { ⌜ Fitting p (now file) (now buffer) × (length (now work) ≡ p .wpr) ⌝ }
     ensures { λ r. ⌜ Follows r nsertSteps p current flag file buffer work ⌝ }
 {
-    let deed = insert_deed(p, current, flag, file, buffer, work);
-    perform(deed, p, current, flag, file, buffer, work)
+    let at = Held {
+        desc: p,
+        current,
+        flag,
+    };
+    let deed = plan::plan_nsert(at, file, buffer, work);
+    deeds::do_nsert(deed, at, file, buffer, work)
 }

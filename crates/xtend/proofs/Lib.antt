@@ -1,5 +1,10 @@
-pub mod Reading
-pub mod Ready
+pub mod Rows
 pub mod Entries
+pub mod Sections
+pub mod Stored
 pub mod Started
-pub mod Outcome
+pub mod Entered
+pub mod Planned
+pub mod Ways
+pub mod Decided
+pub mod Ended

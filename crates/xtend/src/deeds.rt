@@ -1,191 +1,201 @@
 // What XTEND does once it is planned.
 use super::index::extend_in;
 use super::index::start_section;
-use super::last::stop_last;
-use super::last::store_last;
-use super::start::start_block;
 use drum::Description;
 use numbers::BAD_FILE;
 use rules::Done;
 use rules::Extend;
+use rules::Held;
 use rules::Path;
 use rules::Taken;
 use rules::Way;
 ghost use mathlib.Core.Path.{_≡_};
-ghost use mathlib.Core.List.{_++_};
+ghost use Prim.Native.Nat.{_≤_};
 ghost use lib.ListN.{length};
-ghost use Rattle.drum.specs.Blocks.{Fitting, seen, atEntry};
+ghost use Rattle.drum.specs.Blocks.{Fitting, Block};
 ghost use Rattle.rules.specs.Lookup.{reached};
-ghost use Rattle.rules.specs.Told.{Follows};
-ghost use Rattle.rules.specs.XtendDone.{newMoves, bothMoves, newFile, bothFile, extendDone};
-ghost use Rattle.xtend_plan.specs.Fits.{NewFits, BothFits, ExtendFits};
+ghost use Rattle.rules.specs.Told.{FollowsAt};
+ghost use Rattle.rules.specs.XtendDone.{extendDone};
+ghost use Rattle.acts.specs.Reach.{seenBy};
+ghost use Rattle.xtend.specs.Fits.{EndIn, LastTakes, StartFits, NewFits, SectionFits, ExtendFits};
+ghost use Rattle.xtend.specs.Steps.{besides, roomDone, swapped, startedFile, newAll, newLeft, sectionAll, sectionLeft};
 ghost use Rattle.words.specs.Slices.{was, became};
 
-// All that is stored in the file for a new block whose index block has room.
-fn write_new(
-    p: Description,
-    current: usize,
-    flag: bool,
+// A block that the end record starts: the way to the last block, the path to it, and the new block.
+pub struct Start {
+    pub way: Way,
+    pub path: Path,
+    pub new: Taken,
+}
+
+// What was done, with the read of index block x counted besides; 0 is no block.
+fn count_read(d: Done, x: usize) -> Done
+    requires { ⌜ d .transfers ≤ 3 ⌝ }
+    ensures { λ r. ⌜ r ≡ besides x d ⌝ }
+{
+    if x == 0 {
+        return d;
+    }
+    Done {
+        number: d.number,
+        transfers: d.transfers + 1,
+        current: d.current,
+        flag: d.flag,
+        keyed: d.keyed,
+    }
+}
+
+// The record goes before the end record of the last block.
+fn store_last(
+    at: Held,
     file: &mut [u32],
     buffer: &mut [u32],
     work: &[u32],
     way: Way,
-    w: Path,
-    d: Taken,
-) -> usize
+    number: u32,
+) -> Done
     requires { ⌜
-        Fitting p (now file) (now buffer)
-        × (length (now work) ≡ p .wpr)
-        × NewFits (seen p current (now file) (now buffer)) flag way w d
+        Fitting (at .desc) (now file) (now buffer)
+        × (length (now work) ≡ at .desc .wpr)
+        × LastTakes (seenBy at (now file) (now buffer)) (at .flag) way
+        ⌝ }
+    ensures { λ r. ⌜ FollowsAt r (λ v flag work. roomDone v flag work way number) at file buffer work ⌝ }
+{
+    let p = at.desc;
+    let here = acts::reach(at, file, buffer, way);
+    let n = words::word_at(buffer, 0);
+    table::insert_row(p.detail_shape(), buffer, n - 1, work, 0);
+    Done {
+        number,
+        transfers: here.transfers,
+        current: here.current,
+        flag: true,
+        keyed: true,
+    }
+}
+
+// The end record of the text in the buffer starts block b, and the record takes its place in the old block.
+fn swap_end(
+    p: Description,
+    file: &mut [u32],
+    buffer: &mut [u32],
+    work: &[u32],
+    b: usize,
+    old: usize,
+)
+    requires { ⌜ EndIn p (now file) (now buffer) (now work) × Block p b × Block p old ⌝ }
+    ensures { λ _. ⌜ became file ≡ swapped p b old (was work) (was buffer) (was file) ⌝ }
+{
+    let wpr = p.wpr;
+    let i = words::word_at(buffer, 0) - 1;
+    let from = 1 + i * wpr;
+    let end = from + wpr;
+    drum::inside::lay_block(p, file, b, 1, &buffer[from..end]);
+    table::replace_row(p.detail_shape(), buffer, i, work, 0, wpr);
+    drum::write_block(p, file, buffer, old);
+}
+
+// The last block and the new block after it, both written.
+fn start_block(at: Held, file: &mut [u32], buffer: &mut [u32], work: &[u32], s: Start) -> usize
+    requires { ⌜
+        Fitting (at .desc) (now file) (now buffer)
+        × (length (now work) ≡ at .desc .wpr)
+        × StartFits (seenBy at (now file) (now buffer)) (at .flag) s
         ⌝ }
     ensures { λ r. ⌜
-        (r
-        ≡ length
-        (reached (atEntry p current file buffer) flag way .moves ++ newMoves (atEntry p current file buffer) way w (was work) (d .block)))
-        × (became file ≡ newFile (atEntry p current file buffer) flag way w (was work) d)
+        (r ≡ length (reached (seenBy at (was file) (was buffer)) (at .flag) (s .way) .moves))
+        × (became file ≡ startedFile (seenBy at (was file) (was buffer)) (at .flag) s (was work))
         ⌝ }
 {
-    let b = d.block;
-    let moved = start_block(
-        p,
-        current,
-        flag,
-        file,
-        buffer,
-        work,
-        way,
-        w,
-        b,
-        d.head,
-        d.lowest,
-    );
-    extend_in(p, file, w.index, work, b);
+    let way = s.way;
+    let w = s.path;
+    let d = s.new;
+    let moved = free::prepare(at, file, buffer, way, w, d);
+    swap_end(at.desc, file, buffer, work, d.block, w.detail);
+    moved
+}
+
+// All that is stored in the file for a new block whose index block has room.
+fn write_new(at: Held, file: &mut [u32], buffer: &mut [u32], work: &[u32], s: Start) -> usize
+    requires { ⌜
+        Fitting (at .desc) (now file) (now buffer)
+        × (length (now work) ≡ at .desc .wpr)
+        × NewFits (seenBy at (now file) (now buffer)) (at .flag) s
+        ⌝ }
+    ensures { λ r. ⌜
+        (r ≡ length (newAll (seenBy at (was file) (was buffer)) (at .flag) s (was work)))
+        × (became file ≡ newLeft (seenBy at (was file) (was buffer)) (at .flag) s (was work))
+        ⌝ }
+{
+    let w = s.path;
+    let d = s.new;
+    let moved = start_block(at, file, buffer, work, s);
+    extend_in(at.desc, file, w.index, work, d.block);
     moved + 4
 }
 
 // All that is stored in the file for a new block whose index block is full: x is the new index block.
 fn write_both(
-    p: Description,
-    current: usize,
-    flag: bool,
+    at: Held,
     file: &mut [u32],
     buffer: &mut [u32],
     work: &[u32],
-    way: Way,
-    w: Path,
-    b: usize,
-    x: Taken,
+    s: Start,
+    x: usize,
 ) -> usize
     requires { ⌜
-        Fitting p (now file) (now buffer)
-        × (length (now work) ≡ p .wpr)
-        × BothFits (seen p current (now file) (now buffer)) flag way w b x
+        Fitting (at .desc) (now file) (now buffer)
+        × (length (now work) ≡ at .desc .wpr)
+        × SectionFits (seenBy at (now file) (now buffer)) (at .flag) s x
         ⌝ }
     ensures { λ r. ⌜
-        (r
-        ≡ length
-        (reached (atEntry p current file buffer) flag way .moves ++ bothMoves (atEntry p current file buffer) way w (was work) b (x .block)))
-        × (became file ≡ bothFile (atEntry p current file buffer) flag way w (was work) b x)
+        (r ≡ length (sectionAll (seenBy at (was file) (was buffer)) (at .flag) s x (was work)))
+        × (became file ≡ sectionLeft (seenBy at (was file) (was buffer)) (at .flag) s x (was work))
         ⌝ }
 {
-    let moved = start_block(
-        p,
-        current,
-        flag,
-        file,
-        buffer,
-        work,
-        way,
-        w,
-        b,
-        x.head,
-        x.lowest,
-    );
-    start_section(p, file, work, w.index, b, x.block);
+    let w = s.path;
+    let d = s.new;
+    let moved = start_block(at, file, buffer, work, s);
+    start_section(at.desc, file, work, w.index, d.block, x);
     moved + 5
 }
 
-// The end record starts a new block.
-fn store_new(
-    p: Description,
-    current: usize,
-    flag: bool,
-    file: &mut [u32],
-    buffer: &mut [u32],
-    work: &[u32],
-    way: Way,
-    w: Path,
-    d: Taken,
-    number: u32,
-) -> Done
-    requires { ⌜
-        Fitting p (now file) (now buffer)
-        × (length (now work) ≡ p .wpr)
-        × NewFits (seen p current (now file) (now buffer)) flag way w d
-        ⌝ }
-    ensures { λ r. ⌜
-        Follows r (λ v flag work. extendDone v flag work (Extend.New way w d number)) p current flag file buffer work
-        ⌝ }
-{
-    let b = d.block;
-    let transfers = write_new(p, current, flag, file, buffer, work, way, w, d);
-    acts::land(p, file, buffer, b, number, transfers)
-}
-
-// The end record starts a new block, and its entry a new index block and section.
-fn store_both(
-    p: Description,
-    current: usize,
-    flag: bool,
-    file: &mut [u32],
-    buffer: &mut [u32],
-    work: &[u32],
-    way: Way,
-    w: Path,
-    b: usize,
-    x: Taken,
-    number: u32,
-) -> Done
-    requires { ⌜
-        Fitting p (now file) (now buffer)
-        × (length (now work) ≡ p .wpr)
-        × BothFits (seen p current (now file) (now buffer)) flag way w b x
-        ⌝ }
-    ensures { λ r. ⌜
-        Follows r (λ v flag work. extendDone v flag work (Extend.Both way w b x number)) p current flag file buffer
-        work
-        ⌝ }
-{
-    let transfers = write_both(p, current, flag, file, buffer, work, way, w, b, x);
-    acts::land(p, file, buffer, b, number, transfers)
-}
-
 // What was planned is done.
-pub fn perform(
-    deed: Extend,
-    p: Description,
-    current: usize,
-    flag: bool,
-    file: &mut [u32],
-    buffer: &mut [u32],
-    work: &[u32],
-) -> Done
+pub fn do_xtend(deed: Extend, at: Held, file: &mut [u32], buffer: &mut [u32], work: &[u32]) -> Done
     requires { ⌜
-        Fitting p (now file) (now buffer)
-        × (length (now work) ≡ p .wpr)
-        × ExtendFits (seen p current (now file) (now buffer)) flag deed
+        Fitting (at .desc) (now file) (now buffer)
+        × (length (now work) ≡ at .desc .wpr)
+        × ExtendFits (seenBy at (now file) (now buffer)) (at .flag) deed
         ⌝ }
-    ensures { λ r. ⌜ Follows r (λ v flag work. extendDone v flag work deed) p current flag file buffer work ⌝ }
+    ensures { λ r. ⌜ FollowsAt r (λ v flag work. extendDone v flag work deed) at file buffer work ⌝ }
 {
+    let p = at.desc;
     match deed {
-        Extend::Bad => Done::refused(BAD_FILE, current, flag),
-        Extend::Stop(way, x, n) => stop_last(p, current, flag, file, buffer, way, x, n),
-        Extend::Room(way, x, n) => store_last(p, current, flag, file, buffer, work, way, x, n),
+        Extend::Bad => Done::refused(BAD_FILE, at.current, at.flag),
+        Extend::Stop(way, x, n) => count_read(acts::stop(at, file, buffer, way, n), x),
+        Extend::Room(way, x, n) => count_read(store_last(at, file, buffer, work, way, n), x),
         Extend::New(way, w, d, n) => {
-            store_new(p, current, flag, file, buffer, work, way, w, d, n)
+            let s = Start {
+                way,
+                path: w,
+                new: d,
+            };
+            let transfers = write_new(at, file, buffer, work, s);
+            acts::land(p, file, buffer, d.block, n, transfers)
         }
         Extend::Both(way, w, b, x, n) => {
-            store_both(p, current, flag, file, buffer, work, way, w, b, x, n)
+            let d = Taken {
+                block: b,
+                head: x.head,
+                lowest: x.lowest,
+            };
+            let s = Start {
+                way,
+                path: w,
+                new: d,
+            };
+            let transfers = write_both(at, file, buffer, work, s, x.block);
+            acts::land(p, file, buffer, b, n, transfers)
         }
     }
 }

@@ -1,12 +1,12 @@
-// XTEND: a record put in behind all others, before the end record. What it will do is planned first; here it is done.
+// XTEND: a record put in behind all others, before the end record. What it will do is planned first, from current texts alone; then it is done.
 mod deeds;
 mod index;
 mod last;
-mod start;
+mod plan;
 
-use deeds::perform;
 use drum::Description;
 use rules::Done;
+use rules::Held;
 ghost use mathlib.Core.Path.{_≡_};
 ghost use lib.ListN.{length};
 ghost use Rattle.drum.specs.Blocks.{Fitting};
@@ -25,6 +25,11 @@ pub fn xtend(
     requires { ⌜ Fitting p (now file) (now buffer) × (length (now work) ≡ p .wpr) ⌝ }
     ensures { λ r. ⌜ Follows r xtendSteps p current flag file buffer work ⌝ }
 {
-    let deed = xtend_plan::extend_deed(p, current, flag, file, buffer, work);
-    perform(deed, p, current, flag, file, buffer, work)
+    let at = Held {
+        desc: p,
+        current,
+        flag,
+    };
+    let deed = plan::plan_xtend(at, file, buffer, work);
+    deeds::do_xtend(deed, at, file, buffer, work)
 }
