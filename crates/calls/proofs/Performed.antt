@@ -15,7 +15,7 @@ use Rattle.rules.specs.declared.Call.{Call}
 use Rattle.rules.specs.declared.Call.the-variants.{Create, Open, Close, Seek, Adv, Nsert, Dlete, Updat, Xtend}
 use Rattle.rules.specs.State.{Session, State, Outcome, lent}
 use Rattle.rules.specs.Checks.{sizesOk, isOpen}
-use Rattle.rules.specs.Open.{Created, create, openFile, openChecks, openDone, openLayout}
+use Rattle.rules.specs.Open.{openFile, openChecks, openDone, openLayout}
 use Rattle.rules.specs.Close.{close, closeChecks, closeDone}
 use Rattle.rules.specs.Seek.{seek, updat}
 use Rattle.rules.specs.Adv.{adv}
@@ -23,8 +23,7 @@ use Rattle.rules.specs.NsertDone.{nsert}
 use Rattle.rules.specs.Dlete.{dlete}
 use Rattle.rules.specs.XtendDone.{xtend}
 use Rattle.rules.specs.Run.{createdOutcome}
-use Rattle.searchfile.specs.declared.Session as code
-use Rattle.searchfile.specs.Promise.{Counted, CountedOpen, held, given, counted, countedOpen}
+use Rattle.searchfile.specs.Promise.{Counted, CountedOpen, counted, countedOpen, creating}
 use Rattle.calls.specs.Perform.{Staged, stagedAs, staged, stagedFor, marked, called, calledOn, done}
 
 -- the words beside and the workspace have room, or one has not
@@ -166,6 +165,19 @@ module _ (ws : List ℕ) (s : Session) (f b u m w : List ℕ) (c : Call) (r : Bo
       ∙ ap (λ (t : Bool). countedOpen (calledOn (lent s f b u) m c (stagedAs t w))) (sym (not-false r q))
       ∙ ap (λ (g : Staged). countedOpen (calledOn (lent s f b u) m c g)) e
 
+  -- what CREATE leaves, who is lent the file alone
+  pub create-performed : (n t : ℕ) (s′ : Session) (f′ : List ℕ)
+      → _≡_ {A = Counted} (record { number = n; transfers = t; after = lent s′ f′ [] [] }) (counted (creating (lent s f [] [])))
+      → stagedAs r w ≡ stagedFor ws (s .desc) u c → not r ≡ false → c ≡ Create
+      → _≡_ {A = CountedOpen} (record { outcome = record { number = n; transfers = t; after = lent s′ f′ b w }; marks = m }) did
+  unfolding called creating createdOutcome
+  create-performed n t s′ f′ k e g h =
+      (λ j. record {
+        outcome = record { number = k j .number; transfers = k j .transfers; after = lent (k j .after .session) (k j .after .file) b w };
+        marks = m;
+      })
+      ∙ called-done Create e g h
+
   -- what OPEN and CLOSE leave, who are not lent the workspace
   module _ (n t : ℕ) (s′ : Session) (f′ b′ m′ : List ℕ) where
     abbrev gives : List ℕ → Counted
@@ -220,17 +232,3 @@ module _ (ws : List ℕ) (s : Session) (f b u m w : List ℕ) (c : Call) (r : Bo
       → _≡_ {A = CountedOpen} (record { outcome = o; marks = m }) did
   unfolding called
   xtend-performed at = by-work xtend (Xtend at) refl
-
--- CREATE "has no session": it is handed back as it was
-pub create-performed : (ws : List ℕ) (s s′ : code.Session) (f b u m w : List ℕ) (c : Call) (r : Bool) (n t : ℕ) (f′ : List ℕ)
-    → _≡_ {A = Created} (record { number = n; file = f′ }) (create (s .desc) f)
-    → t ≡ 0
-    → s′ ≡ s
-    → stagedAs r w ≡ stagedFor ws (s .desc) u c → not r ≡ false → c ≡ Create
-    → _≡_ {A = CountedOpen}
-    (record { outcome = record { number = n; transfers = t; after = given s′ f′ b w }; marks = m })
-    (countedOpen (done ws (given s f b u) m c))
-unfolding called createdOutcome
-create-performed ws s s′ f b u m w c r n t f′ k z q e g h =
-    (λ j. record { outcome = record { number = k j .number; transfers = z j; after = given (q j) (k j .file) b w }; marks = m })
-    ∙ called-done ws (held s) f b u m w c r Create e g h

@@ -5,8 +5,7 @@ use rules::Call;
 use searchfile::Answer;
 use searchfile::Session;
 ghost use mathlib.Core.Path.{_≡_};
-ghost use Rattle.rules.specs.Open.{create as creation};
-ghost use Rattle.searchfile.specs.Promise.{given, made, countedOpen};
+ghost use Rattle.searchfile.specs.Promise.{given, countedOpen};
 ghost use Rattle.calls.specs.Perform.{staged, stagedAs, stagedFor, done, performedAs};
 ghost use Rattle.words.specs.Slices.{was, became};
 
@@ -44,20 +43,6 @@ fn stage(call: Call, p: Description, words: &[u32], work: &mut [u32]) -> bool
     }
 }
 
-// CREATE with the session's parameters; the session stays as it is.
-fn create(s: Session, file: &mut [u32]) -> Answer
-    ensures { λ r. ⌜
-        (made (r .number) (became file) ≡ creation (s .desc) (was file)) × (r .transfers ≡ 0) × (r .session ≡ s)
-        ⌝ }
-{
-    let number = searchfile::create(s.desc, file);
-    Answer {
-        number,
-        transfers: 0,
-        session: s,
-    }
-}
-
 // Performs one call: its key or record is put into the workspace, and the session's method of its kind is called. A key or record that has no
 // room, in the words or in the workspace, is refused before anything is changed.
 pub fn perform(
@@ -82,7 +67,7 @@ pub fn perform(
         };
     }
     match call {
-        Call::Create => create(s, file),
+        Call::Create => s.create(file),
         Call::Open => s.open_file(file, buffer, marks),
         Call::Close => s.close(file, buffer),
         Call::Seek { at: _ } => s.seek(file, buffer, work),

@@ -1,20 +1,21 @@
 -- The same of the steps of NSERT, DLETE and XTEND: a new block is one of 1..N.
 use Prim.Native.Nat.{ℕ, _≤_}
 use mathlib.Core.Path.{_≡_}
-use mathlib.Core.Bool.{Bool, true, false, cond, _||_}
+use mathlib.Core.Bool.{Bool, true, false, cond}
 use mathlib.Core.List.{List, [], _∷_}
 use native.Mathlib.Omega.{arith}
-use lib.Dec.{eqb, ltb, leb}
+use lib.Dec.{eqb, ltb}
 use lib.ListN.{length}
 use Rattle.numbers.specs.Checked.{passed}
 use Rattle.numbers.proofs.Passed.{Passed, chain, by-passed}
-use Rattle.drum.specs.Blocks.{Transfer, Read, Texts, Fitting, sections}
+use Rattle.drum.specs.Blocks.{Transfer, Read, Texts, Fitting}
 use Rattle.rules.specs.declared.Path.{Path}
 use Rattle.rules.specs.declared.Way.{Way}
 use Rattle.rules.specs.declared.Way.the-variants.{Here, By}
 use Rattle.rules.specs.declared.Look.{Look}
 use Rattle.rules.specs.declared.Look.the-variants as look-is
 use Rattle.rules.specs.declared.Taken.{Taken}
+use Rattle.rules.specs.declared.Pair.{Pair}
 use Rattle.rules.specs.declared.Insert.{Insert}
 use Rattle.rules.specs.declared.Insert.the-variants as insert-is
 use Rattle.rules.specs.declared.Delete.{Delete}
@@ -22,14 +23,15 @@ use Rattle.rules.specs.declared.Delete.the-variants as delete-is
 use Rattle.rules.specs.declared.Extend.{Extend}
 use Rattle.rules.specs.declared.Extend.the-variants as extend-is
 use Rattle.rules.specs.Lookup.{look, reached, stopping, storing}
-use Rattle.rules.specs.Free.{granted}
+use Rattle.rules.specs.Free.{takeOne, takeTwo}
 use Rattle.rules.specs.Fits.{PathFits, FlushFits, WayFits, LookFits}
-use Rattle.rules.specs.Nsert.{roomDeed, splitWith, splitDeed, bothStored, bothWith, bothAfter, bothDeed, insertAt, insertAfter, insertDeed}
-use Rattle.rules.specs.NsertDone.{splitMoves, bothMoves, halfOf, insertDone, nsertSteps}
+use Rattle.rules.specs.Nsert.{roomDeed, splitDeed, bothDeed, insertAt, insertAfter, insertDeed}
+use Rattle.rules.specs.NsertDone.{splitMoves, bothSplitMoves, halfOf, insertDone, nsertSteps}
 use Rattle.rules.specs.Dlete.{emptyDeed, emptyAt, deleteAfter, deleteDeed, emptyMoves, emptyAll, bothAll, emptying, deleteDone, dleteSteps}
 use Rattle.rules.specs.Xtend as x
 use Rattle.rules.specs.XtendDone as y
-use Rattle.rules.proofs.Fits.{look-passed, last-passed, granted-fits, neither}
+use Rattle.rules.proofs.Fits.{look-passed, last-passed}
+use Rattle.rules.proofs.Takes.{one-new, two-new}
 use Rattle.capi.proofs.Modest.{Modest, way-brought, stop-modest, store-modest, land-modest, more-few}
 
 module _ (v : Texts) (fit : Fitting (v .desc) (v .file) (v .buffer)) (flag : Bool) (work : List ℕ) where
@@ -56,26 +58,24 @@ module _ (v : Texts) (fit : Fitting (v .desc) (v .file) (v .buffer)) (flag : Boo
     unfolding insertDone
     room-deed i n = record { modest = by-passed _ (store-modest v fit n work (reached v flag (By w)) _ (way-brought v fit flag (By w) (path, due))) }
 
-    split-deed : (i n : ℕ) (d : Taken) (head lowest : ℕ) → granted v head lowest ≡ passed d → eqb (d .block) 0 ≡ false → Inserts (insert-is.Split w i d n)
+    split-deed : (i n : ℕ) (d : Taken) → takeOne v flag w ≡ passed d → eqb (d .block) 0 ≡ false → Inserts (insert-is.Split w i d n)
     unfolding insertDone splitMoves
-    split-deed i n d head lowest e z =
-        let new = granted-fits v head lowest d e z in
+    split-deed i n d e z =
+        let new = one-new v flag w d e z .new .block in
         record { modest = by-passed _ (land-modest v fit n work _ _ _ (half-most _ i (d .block) (new .1)) (more-few v fit flag (By w) _ (path, due) (omega arith))) }
 
-    both-deed : (i n : ℕ) (d t : Taken) (head lowest : ℕ) → granted v head lowest ≡ passed d
-        → (eqb (d .block) 0 || (eqb (t .block) 0 || leb (v .desc .control) (sections (v .file)))) ≡ false → Inserts (insert-is.Both w i (d .block) t n)
-    unfolding insertDone bothMoves
-    both-deed i n d t head lowest e z =
-        let a = neither (eqb (d .block) 0) _ z in
-        let new = granted-fits v head lowest d e (a .0) in
-        record { modest = by-passed _ (land-modest v fit n work _ _ _ (half-most _ i (d .block) (new .1)) (more-few v fit flag (By w) _ (path, due) (omega arith))) }
+    both-deed : (i n : ℕ) (t : Pair) → takeTwo v flag w ≡ passed t → eqb (t .detail) 0 ≡ false → Inserts (insert-is.Both w i (t .detail) (t .index) n)
+    unfolding insertDone bothSplitMoves
+    both-deed i n t e z =
+        let new = two-new v flag w t e z .detail .block in
+        record { modest = by-passed _ (land-modest v fit n work _ _ _ (half-most _ i (t .detail) (new .1)) (more-few v fit flag (By w) _ (path, due) (omega arith))) }
 
   duplicate-deed : (way : Way) (i n : ℕ) → LookFits v flag (look-is.Found way i) → Inserts (insert-is.Stop way n)
   unfolding insertDone
   duplicate-deed way i n h = record { modest = by-passed _ (stop-modest v fit n work (reached v flag way) (way-brought v fit flag way (h .0))) }
 
   insert-after : (key : List ℕ) (l : Look) → LookFits v flag l → Passed Inserts (insertAfter v flag key l)
-  unfolding insertAfter insertAt roomDeed splitDeed splitWith bothDeed bothAfter bothWith bothStored
+  unfolding insertAfter insertAt roomDeed splitDeed bothDeed
   insert-after key look-is.Bad h = search chain
   insert-after key (look-is.Found way i) h = by-passed _ (duplicate-deed way i _ h)
   insert-after key (look-is.Missing w) h =
@@ -157,25 +157,24 @@ module _ (v : Texts) (fit : Fitting (v .desc) (v .file) (v .buffer)) (flag : Boo
     unfolding y.extendDone y.reading storing
     extend-room n z = record { modest = by-passed _ (record { current-most = way-brought v fit flag way reach .current-most; few = reading-few n }) }
 
-    extend-new : (w : Path) (n : ℕ) (d : Taken) (head lowest : ℕ) → granted v head lowest ≡ passed d → eqb (d .block) 0 ≡ false → Extends (extend-is.New way w d n)
+    extend-new : (w : Path) (n : ℕ) (d : Taken) → takeOne v flag w ≡ passed d → eqb (d .block) 0 ≡ false → Extends (extend-is.New way w d n)
     unfolding y.extendDone y.newMoves
-    extend-new w n d head lowest e z =
-        let new = granted-fits v head lowest d e z in
+    extend-new w n d e z =
+        let new = one-new v flag w d e z .new .block in
         record { modest = by-passed _ (land-modest v fit n work _ _ _ (new .1) (more-few v fit flag way _ reach (omega arith))) }
 
-    extend-both : (w : Path) (n : ℕ) (d t : Taken) (head lowest : ℕ) → granted v head lowest ≡ passed d
-        → (eqb (d .block) 0 || (eqb (t .block) 0 || leb (v .desc .control) (sections (v .file)))) ≡ false → Extends (extend-is.Both way w (d .block) t n)
-    unfolding y.extendDone y.bothMoves
-    extend-both w n d t head lowest e z =
-        let a = neither (eqb (d .block) 0) _ z in
-        let new = granted-fits v head lowest d e (a .0) in
+    extend-both : (w : Path) (n : ℕ) (t : Pair) → takeTwo v flag w ≡ passed t → eqb (t .detail) 0 ≡ false
+        → Extends (extend-is.Both way w (t .detail) (t .index) n)
+    unfolding y.extendDone y.sectionMoves
+    extend-both w n t e z =
+        let new = two-new v flag w t e z .detail .block in
         record { modest = by-passed _ (land-modest v fit n work _ _ _ (new .1) (more-few v fit flag way _ reach (omega arith))) }
 
   last-fits : (way : Way) → x.lastWay v flag ≡ passed way → WayFits v flag way
   last-fits way e = last-passed v flag .holds way e
 
   extend-passed : (key : List ℕ) → Passed Extends (x.extendDeed v flag key)
-  unfolding x.extendDeed x.extendAt x.aloneDeed x.roomDeed x.newDeed x.newAt x.newWith x.bothAfter x.bothWith
+  unfolding x.extendDeed x.extendAt x.aloneDeed x.lastRoom x.newDeed x.newAt x.startDeed x.sectionDeed
   extend-passed key = search (chain, last-fits, extend-stop, extend-room, extend-new, extend-both) depth 20
 
   extend-done : (key : List ℕ) (d : Extend) → x.extendDeed v flag key ≡ passed d → Passed (Modest v) (y.extendDone v flag work d)

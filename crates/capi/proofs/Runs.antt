@@ -19,7 +19,8 @@ use Rattle.demands.proofs.Demands.{opens, session-formula}
 use Rattle.demands.proofs.Plans.{plan-holds}
 use Rattle.demands.proofs.Turns.{counts-are, turns-formula}
 use Rattle.capi.specs.Words.{isSession, sessionOf, packed}
-use Rattle.capi.specs.Calls.{Returned, ReturnedOpen, returned, creating}
+use Rattle.searchfile.specs.Promise.{creating}
+use Rattle.capi.specs.Calls.{Returned, ReturnedOpen, returned}
 use Rattle.capi.specs.Plan.{planIn, mostIn}
 use Rattle.capi.specs.Runs.{numberIn, transfersIn, stateIn, promised, promisedCreate, Call, Promises, last, requests, seenOf, seen, transfersOf}
 use Rattle.capi.specs.Runs.{ArchiveFollows, ArchiveAfterOpen, Begins, ArchiveFormula, ArchivePlanned}

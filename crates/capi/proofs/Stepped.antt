@@ -18,10 +18,10 @@ use Rattle.rules.specs.NsertDone.{nsert}
 use Rattle.rules.specs.Dlete.{dlete}
 use Rattle.rules.specs.XtendDone.{xtend}
 use Rattle.rules.specs.Requests.{Request, opening, closing, seeking, advancing, inserting, deleting, updating, extending, answer, given, lending}
-use Rattle.rules.proofs.Lengths.{lengths-kept}
+use Rattle.demands.proofs.Lengths.{lengths-kept}
 use Rattle.searchfile.specs.Promise.{counted}
 use Rattle.capi.specs.Words.{isSession, sessionOf}
-use Rattle.capi.specs.Calls.{Returned, ReturnedOpen, returned, told}
+use Rattle.capi.specs.Calls.{Returned, ReturnedOpen, returned, toldInWords}
 use Rattle.capi.specs.Runs.{numberIn, transfersIn, stateIn, keeping, promised}
 use Rattle.capi.proofs.Words.{session-facts, session-kept, words-are}
 use Rattle.capi.proofs.Told.{called-some, open-some}
@@ -31,7 +31,7 @@ use Rattle.capi.proofs.Unpacked.{number-small, number-unpacked, transfe
 module _ (s : Session) (f b w : List ℕ) where
   -- told without it, and told with it
   abbrev Keeping : Outcome → Outcome → Type 0
-  Keeping o p = keeping w (told (counted o)) ≡ told (counted p)
+  Keeping o p = keeping w (toldInWords (counted o)) ≡ toldInWords (counted p)
 
   closed-keeping : (c : Checked Bool) → Keeping (closeDone (lent s f b []) c) (closeDone (lent s f b w) c)
   unfolding closeDone
@@ -56,7 +56,7 @@ module _ (s : Session) (f b w : List ℕ) where
   unfolding openFile openChecks sizesOk
   open-keeping marks = opened-keeping marks (openChecks (lent s f b w) marks)
 
-promised-told : (x : Returned) → isSession (x .session) ≡ true → (q : Request) → promised x q ≡ told (counted (answer (stateIn x) q))
+promised-told : (x : Returned) → isSession (x .session) ≡ true → (q : Request) → promised x q ≡ toldInWords (counted (answer (stateIn x) q))
 unfolding promised answer lending
 promised-told x ok (opening marks) =
     ap (λ (r : ReturnedOpen). keeping (x .work) (r .returned)) (sym (open-some (x .session) ok (x .file) (x .buffer) marks))
@@ -88,7 +88,7 @@ module _ (x : Returned) (ok : isSession (x .session) ≡ true) (q : Request) (y 
   abbrev does : Outcome
   does = answer (stateIn x) q
 
-  is : y ≡ told (counted does)
+  is : y ≡ toldInWords (counted does)
   is = p ∙ promised-told x ok q
 
   whole : length (does .after .session .position) ≡ 63

@@ -1,6 +1,6 @@
 -- A session call's promise, told in words: one law for every call, and what it asks of the answer before it is told. They speak as the
 -- code does: t is its test of the words, s the session that it reads from them, a the session call's answer, r what it returns.
-use Prim.Native.Nat.{ℕ}
+use Prim.Native.Nat.{ℕ, _≤_}
 use mathlib.Core.Path.{_≡_, sym, ap, _∙_}
 use mathlib.Core.Bool.{Bool, true, false, cond, not}
 use borrow.Author.Tests.{not-true, not-false}
@@ -10,22 +10,21 @@ use mir.Syntax.{w32}
 use mir.Val.{Fits}
 use lib.ListN.{length, getD}
 use Rattle.numbers.specs.Numbers.{wrongSize}
-use Rattle.drum.specs.declared.Description.{Description}
 use Rattle.rules.specs.State.{Session, State, Outcome, desc, lent}
-use Rattle.rules.specs.Open.{create, openFile}
+use Rattle.rules.specs.Open.{openFile}
 use Rattle.rules.specs.Run.{createdOutcome}
 use Rattle.searchfile.specs.declared.Session as code
 use Rattle.searchfile.specs.declared.Answer.{Answer}
-use Rattle.searchfile.specs.Promise.{Counted, CountedOpen, held, given, counted, countedOpen, answered, answeredOpen, made}
+use Rattle.searchfile.specs.Promise.{Counted, CountedOpen, held, given, counted, countedOpen, answered, answeredOpen, creating}
 use Rattle.capi.specs.Words.{isSession, parametersIn, sessionOf, wordsOf, packed}
-use Rattle.capi.specs.Calls.{returned, told, toldOpen, marked, called, calledOpen, creating, Tellable}
+use Rattle.capi.specs.Calls.{returned, toldInWords, toldOpen, marked, called, calledOpen, Tellable}
 use Rattle.capi.proofs.Words.{session-facts, words-kept}
 use Rattle.capi.proofs.Outcomes.{Telling, open-telling}
 
 -- what a call is told as, by the test of the words
 module _ (ws : List ℕ) (x : Bool) (is : isSession ws ≡ x) where
   called-by : (call : State → Outcome) (f b w : List ℕ)
-      → cond x (told (counted (call (lent (sessionOf ws) f b w)))) (returned (packed 0 wrongSize) ws f b w) ≡ called call ws f b w
+      → cond x (toldInWords (counted (call (lent (sessionOf ws) f b w)))) (returned (packed 0 wrongSize) ws f b w) ≡ called call ws f b w
   unfolding called
   called-by call f b w = rw is
 
@@ -57,23 +56,28 @@ module _ (ws : List ℕ) (t : Bool) where
 
 -- words that are one's
 module _ (ws : List ℕ) (yes : isSession ws ≡ true) where
-  pub called-some : (call : State → Outcome) (f b w : List ℕ) → told (counted (call (lent (sessionOf ws) f b w))) ≡ called call ws f b w
+  pub called-some : (call : State → Outcome) (f b w : List ℕ) → toldInWords (counted (call (lent (sessionOf ws) f b w))) ≡ called call ws f b w
   called-some = called-by ws true yes
 
   pub open-some : (f b m : List ℕ) → toldOpen (countedOpen (openFile (lent (sessionOf ws) f b []) m)) ≡ calledOpen ws f b m
   open-some = open-by ws true yes
 
--- what CREATE made is told as its number
-pub create-called : (ws : List ℕ) (t : Bool) (p : Description) (f g : List ℕ) (n r : ℕ) → made n g ≡ create p f → p ≡ parametersIn ws
-    → r ≡ packed 0 n → t ≡ isSession ws → not t ≡ false → returned r ws g [] [] ≡ called creating ws f [] []
-unfolding creating createdOutcome sessionOf
-create-called ws t p f g n r e d h q y =
-    let yes = asked-yes ws t q y in
-    let k = words-kept ws yes in
-    let c = e ∙ ap (λ (x : Description). create x f) d in
-    (λ j. returned (h j) (sym k j) g [] [])
-    ∙ (λ j. returned (packed 0 (c j .number)) (wordsOf (sessionOf ws)) (c j .file) [] [])
-    ∙ called-some ws yes creating f [] []
+-- what CREATE answers is told, its session as it was; and it can be told
+module _ (s : code.Session) (a : Answer) (f g : List ℕ) (e : answered a g [] [] ≡ counted (creating (given s f [] []))) where
+  pub create-called : (ws : List ℕ) (t : Bool) (r : ℕ) → held s ≡ sessionOf ws → r ≡ packed (a .transfers) (a .number)
+      → t ≡ isSession ws → not t ≡ false → returned r ws g [] [] ≡ called creating ws f [] []
+  unfolding creating createdOutcome
+  create-called ws t r same p q h =
+      let yes = asked-yes ws t q h in
+      let k = words-kept ws yes in
+      let c = e ∙ ap (λ (x : Session). counted (creating (lent x f [] []))) same in
+      (λ j. returned (p j) (sym k j) g [] [])
+      ∙ (λ j. returned (packed (c j .transfers) (c j .number)) (wordsOf (sessionOf ws)) (c j .after .file) [] [])
+      ∙ called-some ws yes creating f [] []
+
+  pub create-few : a .transfers ≤ 16
+  unfolding creating createdOutcome
+  create-few = let n : a .transfers ≡ 0 = ap (λ (x : Counted). x .transfers) e in omega arith
 
 -- what the answer of a call is told as
 module _ (ws : List ℕ) (t : Bool) (s : code.Session) (a : Answer) where
@@ -83,8 +87,8 @@ module _ (ws : List ℕ) (t : Bool) (s : code.Session) (a : Answer) where
       → t ≡ isSession ws → not t ≡ false → returned r us f₁ b₁ w₁ ≡ called call ws f b w
   call-called call f b w f₁ b₁ w₁ us r e same p q h =
       (λ j. returned (p .0 j) (p .1 j) f₁ b₁ w₁)
-      ∙ ap told e
-      ∙ ap (λ (x : Session). told (counted (call (lent x f b w)))) same
+      ∙ ap toldInWords e
+      ∙ ap (λ (x : Session). toldInWords (counted (call (lent x f b w)))) same
       ∙ called-some ws (asked-yes ws t q h) call f b w
 
   pub open-called : (f b m m₁ us : List ℕ) (r : ℕ)

@@ -11,8 +11,8 @@ use Rattle.drum.specs.declared.Description.{Description}
 use Rattle.rules.specs.State.{State}
 use Rattle.rules.specs.Open.{create}
 use Rattle.rules.specs.Requests.{Request, opening, closing, seeking, advancing, inserting, deleting, updating, extending, answer}
-use Rattle.rules.specs.Answering.{openRefuses, plainRefuses, keyedRefuses, finds, advances, inserts, extends, canAnswer}
-use Rattle.rules.proofs.Answering.{can-answer, create-can}
+use Rattle.demands.specs.Answering.{openRefuses, plainRefuses, keyedRefuses, finds, advances, inserts, extends, canAnswer}
+use Rattle.demands.proofs.Answering.{can-answer, create-can}
 use Rattle.capi.specs.Words.{packed}
 use Rattle.capi.specs.Runs.{numberIn, transfersIn}
 

@@ -5,7 +5,7 @@ use mathlib.Core.Bool.{Bool, true, false, cond, not, _&&_}
 use mathlib.Core.List.{List, []}
 use native.Mathlib.Nat.{mul-le-mul-right}
 use native.Mathlib.Omega.{arith}
-use borrow.Author.Tests.{not-true, not-false, eq-eqb, ne-eqb, le-leb, lt-leb, le-ltb, leb-true}
+use borrow.Author.Tests.{not-true, not-false, eq-eqb, ne-eqb, le-ltb, leb-true}
 use denote.Ref.{ptr, now}
 use mir.Syntax.{w64}
 use mir.Val.{Fits}
@@ -23,9 +23,10 @@ use Rattle.rules.specs.State.{Session, State, desc, texts, lent}
 use Rattle.rules.specs.Close.{view}
 use Rattle.searchfile.specs.declared.Session as code
 use Rattle.searchfile.specs.Promise.{held, given}
-use Rattle.searchfile.specs.Parts.{Borrowed, wordOf, textAt, viewAt}
+use Rattle.drum.specs.Parts.{Borrowed, wordOf, partText}
+use Rattle.searchfile.specs.Parts.{shown, viewAt}
 use Rattle.capi.specs.Words.{isSession, sessionOf, packed}
-use Rattle.capi.specs.View.{inFile, inBuffer, placeOf, viewed, partAt, addressAt, Named}
+use Rattle.capi.specs.View.{inFile, lentInBuffer, placeOf, viewed, partAt, addressAt, Named}
 
 -- a block of a good file starts below 2^32
 start-most : (p : Description) (b : ℕ) → goodParams p ≡ true → 1 ≤ b → b ≤ p .n → start p b < inFile
@@ -39,14 +40,14 @@ start-most p b g l h =
 pub in-file-fits : (p : Description) (b n : ℕ) → n ≡ start p b → goodParams p ≡ true → 1 ≤ b → b ≤ p .n → Fits w64 (inFile + n)
 in-file-fits p b n e g l h = let m = start-most p b g l h in omega arith
 
--- whether VIEW lends a part that is not empty
-abbrev shown : State → ℕ → Bool
-shown st b = st .session .opened && (sized (desc st) (length (st .file)) (length (st .buffer)) && between 1 (desc st .n) b)
+-- VIEW's tests
+abbrev tests : State → ℕ → Bool
+tests st b = st .session .opened && (sized (desc st) (length (st .file)) (length (st .buffer)) && between 1 (desc st .n) b)
 
 -- the number of a block in the file is neither none nor the buffer's
 record InFile (p : Description) (b : ℕ) : Type 0 where
   not-none : ltb (inFile + start p b) inFile ≡ false
-  not-buffer : eqb (inFile + start p b) inBuffer ≡ false
+  not-buffer : eqb (inFile + start p b) lentInBuffer ≡ false
   offset : inFile + start p b - inFile ≡ start p b
 
 module _ (st : State) (b : ℕ) where
@@ -57,12 +58,12 @@ module _ (st : State) (b : ℕ) where
       let m = start-most (desc st) b g (leb-true _ _ (x .0)) (leb-true _ _ (x .1)) in
       record {
         not-none = le-ltb (inFile + start (desc st) b) inFile (omega arith);
-        not-buffer = ne-eqb (inFile + start (desc st) b) inBuffer (λ e. omega arith);
+        not-buffer = ne-eqb (inFile + start (desc st) b) lentInBuffer (λ e. omega arith);
         offset = omega arith;
       }
 
   place-named : sized (desc st) (length (st .file)) (length (st .buffer)) ≡ true → between 1 (desc st .n) b ≡ true → (t : Bool)
-      → partAt st (cond t inBuffer (inFile + start (desc st) b)) ≡ cond t (st .buffer) (blockAt (desc st) (st .file) b)
+      → partAt st (cond t lentInBuffer (inFile + start (desc st) b)) ≡ cond t (st .buffer) (blockAt (desc st) (st .file) b)
   unfolding partAt blockAt
   place-named z r true = refl
   place-named z r false = let f = in-file z r in simp (f .not-none, f .not-buffer, f .offset)
@@ -73,11 +74,11 @@ module _ (st : State) (b : ℕ) where
 
   -- the number names the part: an empty one, a part of the file, the buffer
   pub view-named : partAt st (placeOf st b) ≡ view st b
-  unfolding placeOf view textOf
-  view-named = go (shown st b) refl
+  unfolding placeOf shown view textOf
+  view-named = go (tests st b) refl
     where
-      go : (t : Bool) → shown st b ≡ t
-          → partAt st (cond t (cond (eqb b (st .session .current)) inBuffer (inFile + start (desc st) b)) 0) ≡ cond t (textOf (texts st) b) []
+      go : (t : Bool) → tests st b ≡ t
+          → partAt st (cond t (cond (eqb b (st .session .current)) lentInBuffer (inFile + start (desc st) b)) 0) ≡ cond t (textOf (texts st) b) []
       go true e =
           let x = both (st .session .opened) _ e in
           let y = both (sized (desc st) (length (st .file)) (length (st .buffer))) _ (x .1) in
@@ -90,7 +91,7 @@ module _ (s : Session) (file buffer : Borrowed) (b : ℕ) where
   held-by = lent s (now file) (now buffer) []
 
   address-named : sized (s .desc) (length (now file)) (length (now buffer)) ≡ true → between 1 (s .desc .n) b ≡ true → (t : Bool)
-      → addressAt file buffer (cond t inBuffer (inFile + start (s .desc) b)) ≡ cond t (ptr buffer) (wordOf file (start (s .desc) b))
+      → addressAt file buffer (cond t lentInBuffer (inFile + start (s .desc) b)) ≡ cond t (ptr buffer) (wordOf file (start (s .desc) b))
   unfolding addressAt
   address-named z r true = refl
   address-named z r false =
@@ -99,14 +100,14 @@ module _ (s : Session) (file buffer : Borrowed) (b : ℕ) where
       simp (f .not-none, f .not-buffer) (λ j. wordOf file (e j))
 
   view-addressed : addressAt file buffer (placeOf held-by b) ≡ viewAt s file buffer b
-  unfolding placeOf viewAt textAt
-  view-addressed = go (shown held-by b) refl
+  unfolding placeOf shown viewAt partText
+  view-addressed = go (tests held-by b) refl
     where
       none : addressAt file buffer 0 ≡ ptr file
       none = unfold addressAt in refl
 
-      go : (t : Bool) → shown held-by b ≡ t
-          → addressAt file buffer (cond t (cond (eqb b (s .current)) inBuffer (inFile + start (s .desc) b)) 0)
+      go : (t : Bool) → tests held-by b ≡ t
+          → addressAt file buffer (cond t (cond (eqb b (s .current)) lentInBuffer (inFile + start (s .desc) b)) 0)
           ≡ cond t (cond (eqb b (s .current)) (ptr buffer) (wordOf file (start (s .desc) b))) (ptr file)
       go true e =
           let x = both (s .opened) _ e in
@@ -117,42 +118,19 @@ module _ (s : Session) (file buffer : Borrowed) (b : ℕ) where
   pub place-named-by : Named s file buffer b
   place-named-by = record { words = view-named held-by b; address = view-addressed }
 
--- the tests one by one, as the code makes them: t is its test of the sizes, r what it returns
-module _ (st : State) (b : ℕ) where
-  place-none : shown st b ≡ false → 0 ≡ placeOf st b
+-- the returns of the code: t is its test whether the block is shown, r what it returns
+module _ (s : code.Session) (f d : List ℕ) (b : ℕ) (t : Bool) (e : t ≡ shown (held s) (length f) (length d) b) where
+  pub place-none : not t ≡ true → 0 ≡ placeOf (given s f d []) b
   unfolding placeOf
-  place-none e = sym (ap (λ (t : Bool). cond t (cond (eqb b (st .session .current)) inBuffer (inFile + start (desc st) b)) 0) e)
+  place-none h = simp (sym e ∙ not-true t h)
 
-  pub place-closed : not (st .session .opened) ≡ true → 0 ≡ placeOf st b
-  place-closed h = place-none (simp (not-true (st .session .opened) h))
+  pub place-buffer : not t ≡ false → b ≡ s .current → lentInBuffer ≡ placeOf (given s f d []) b
+  unfolding placeOf
+  place-buffer h c = simp (sym e ∙ not-false t h, eq-eqb b (s .current) c)
 
-  pub place-sizes : (t : Bool) → t ≡ sized (desc st) (length (st .file)) (length (st .buffer)) → not t ≡ true
-      → not (st .session .opened) ≡ false → 0 ≡ placeOf st b
-  place-sizes t e s h = place-none (simp (not-false (st .session .opened) h, sym e ∙ not-true t s))
-
-  module _ (t : Bool) (e : t ≡ sized (desc st) (length (st .file)) (length (st .buffer))) (s : not t ≡ false) (h : not (st .session .opened) ≡ false) where
-    pub place-below : b < 1 → 0 ≡ placeOf st b
-    place-below l = place-none (simp (not-false (st .session .opened) h, sym e ∙ not-false t s, lt-leb 1 b l))
-
-    pub place-above : 1 ≤ b → desc st .n < b → 0 ≡ placeOf st b
-    place-above l m = place-none (simp (not-false (st .session .opened) h, sym e ∙ not-false t s, le-leb 1 b l, lt-leb b (desc st .n) m))
-
-    module _ (l : 1 ≤ b) (m : b ≤ desc st .n) where
-      place-shown : cond (eqb b (st .session .current)) inBuffer (inFile + start (desc st) b) ≡ placeOf st b
-      unfolding placeOf
-      place-shown = simp (not-false (st .session .opened) h, sym e ∙ not-false t s, le-leb 1 b l, le-leb b (desc st .n) m)
-
-      pub place-buffer : b ≡ st .session .current → inBuffer ≡ placeOf st b
-      place-buffer e =
-          sym (ap (λ (t : Bool). cond t inBuffer (inFile + start (desc st) b)) (eq-eqb b (st .session .current) e)) ∙ place-shown
-
-      pub place-file : (b ≡ st .session .current → ⊥) → (r : ℕ) → r ≡ inFile + start (desc st) b → r ≡ placeOf st b
-      place-file e r is =
-          is ∙ sym (ap (λ (t : Bool). cond t inBuffer (inFile + start (desc st) b)) (ne-eqb b (st .session .current) e)) ∙ place-shown
-
--- what the test of the sizes tells of the parameters
-pub sized-good : (p : Description) (n m : ℕ) (t : Bool) → t ≡ sized p n m → not t ≡ false → goodParams p ≡ true
-sized-good p n m t e s = sized-facts p n m (sym e ∙ not-false t s) .good
+  pub place-file : (r : ℕ) → r ≡ inFile + start (s .desc) b → not t ≡ false → (b ≡ s .current → ⊥) → r ≡ placeOf (given s f d []) b
+  unfolding placeOf
+  place-file r is h c = simp (sym e ∙ not-false t h, ne-eqb b (s .current) c) is
 
 module _ (ws f b : List ℕ) (block : ℕ) where
   -- t is the code's test of the words, r what it returns

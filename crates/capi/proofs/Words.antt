@@ -13,7 +13,9 @@ use Rattle.words.specs.Words.{part, put}
 use Rattle.words.proofs.Parts.{length-part, part-all, part-cons, put-all}
 use Rattle.drum.specs.declared.Description.{Description}
 use Rattle.rules.specs.State.{Session}
-use Rattle.capi.specs.Words.{isSession, parametersIn, sessionOf, wordsOf, bit}
+use Rattle.searchfile.specs.declared.Session as code
+use Rattle.searchfile.specs.Promise.{held}
+use Rattle.capi.specs.Words.{isSession, parametersIn, sessionOf, wordsOf, mostWord, bit}
 
 -- what the test of a session's words tells
 pub record Words (ws : List ℕ) : Type 0 where
@@ -75,11 +77,11 @@ module _ (ws : List ℕ) where
       ∙ ap (λ (z : List ℕ). getD ws 7 0 ∷ z) (part-cons 8 64 ws (omega arith)
       ∙ ap (λ (z : List ℕ). getD ws 8 0 ∷ z) (part-cons 9 63 ws (omega arith))))))))))
 
-  -- the parameters read one by one
-  pub parameters-by : (a b c d e f : ℕ) → a ≡ getD ws 0 0 → b ≡ getD ws 1 0 → c ≡ getD ws 2 0 → d ≡ getD ws 3 0 → e ≡ getD ws 4 0 → f ≡ getD ws 5 0
-      → _≡_ {A = Description} (record { wpb = a; wpr = b; k = c; space = d; control = e; n = f }) (parametersIn ws)
+  -- the parameters read one by one, each step handing the description on
+  pub parameters-by : (p : Description) (a b c d e f : ℕ) → p ≡ record { wpb = a; wpr = b; k = c; space = d; control = e; n = f }
+      → a ≡ getD ws 0 0 → b ≡ getD ws 1 0 → c ≡ getD ws 2 0 → d ≡ getD ws 3 0 → e ≡ getD ws 4 0 → f ≡ getD ws 5 0 → p ≡ parametersIn ws
   unfolding parametersIn
-  parameters-by a b c d e f u v w x y z = λ j. record { wpb = u j; wpr = v j; k = w j; space = x j; control = y j; n = z j }
+  parameters-by p a b c d e f h u v w x y z = h ∙ (λ j. record { wpb = u j; wpr = v j; k = w j; space = x j; control = y j; n = z j })
 
   -- the session read so, its position copied over the words l
   pub session-by : (d : Description) (x : ℕ) (l ps : List ℕ) → ps ≡ put l 0 (part 10 63 ws) → d ≡ parametersIn ws → x ≡ getD ws 7 0
@@ -153,13 +155,17 @@ module _ (a b c d e f g h i j : ℕ) (rest pos : List ℕ) where
       ∙ ap (λ (t : List ℕ). a ∷ b ∷ c ∷ d ∷ e ∷ f ∷ g ∷ h ∷ i ∷ j ∷ (pos ++ t)) q
       ∙ ap (λ (t : List ℕ). a ∷ b ∷ c ∷ d ∷ e ∷ f ∷ g ∷ h ∷ i ∷ j ∷ t) (append-nil pos)
 
-pub overwritten : (ws : List ℕ) (s : Session) (ts : List ℕ) (o l m : ℕ)
-    → length ws ≡ 73 → parametersIn ws ≡ s .desc → length (s .position) ≡ 63
+pub overwritten : (ws : List ℕ) (s : code.Session) (ts : List ℕ) (o l m : ℕ)
     → ts ≡ put ws 10 (part 0 63 (s .position)) → o ≡ bit (s .opened) → l ≡ bit (s .flag) → m ≡ bit (s .placed)
-    → set (set (set (set ts 6 o) 7 (s .current)) 8 l) 9 m ≡ wordsOf s
+    → (length ws ≡ 73) × (parametersIn ws ≡ s .desc) × (s .current ≤ mostWord) → length (s .position) ≡ 63
+    → set (set (set (set ts 6 o) 7 (s .current)) 8 l) 9 m ≡ wordsOf (held s)
 unfolding wordsOf parametersIn
-overwritten ws s ts o l m h p k e u v w =
-    let x = over (getD ws 0 0) (getD ws 1 0) (getD ws 2 0) (getD ws 3 0) (getD ws 4 0) (getD ws 5 0) (getD ws 6 0) (getD ws 7 0) (getD ws 8 0) (getD ws 9 0) (part 10 63 ws) (s .position) (length-part 10 63 ws (omega arith)) k in
-    let z = e ∙ ap (put ws 10) (part-all 63 (s .position) k) ∙ ap (λ (t : List ℕ). put t 10 (s .position)) (spelled ws h) ∙ x in
+overwritten ws s ts o l m e u v w pre k =
+    let p = pre .1 in
+    let x =
+    over
+    (getD ws 0 0) (getD ws 1 0) (getD ws 2 0) (getD ws 3 0) (getD ws 4 0) (getD ws 5 0) (getD ws 6 0) (getD ws 7 0) (getD ws 8 0) (getD ws 9 0)
+    (part 10 63 ws) (s .position) (length-part 10 63 ws (omega (arith, pre .0))) k in
+    let z = e ∙ ap (put ws 10) (part-all 63 (s .position) k) ∙ ap (λ (t : List ℕ). put t 10 (s .position)) (spelled ws (pre .0)) ∙ x in
     (λ j. set (set (set (set (z j) 6 (u j)) 7 (s .current)) 8 (v j)) 9 (w j))
     ∙ (λ j. p j .wpb ∷ p j .wpr ∷ p j .k ∷ p j .space ∷ p j .control ∷ p j .n ∷ bit (s .opened) ∷ s .current ∷ bit (s .flag) ∷ bit (s .placed) ∷ s .position)

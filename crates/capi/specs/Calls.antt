@@ -5,9 +5,8 @@ use mathlib.Core.Bool.{cond}
 use mathlib.Core.List.{List, []}
 use lib.ListN.{length}
 use Rattle.numbers.specs.Numbers.{wrongSize}
-use Rattle.rules.specs.State.{State, Outcome, desc, lent}
-use Rattle.rules.specs.Open.{create, openFile}
-use Rattle.rules.specs.Run.{createdOutcome}
+use Rattle.rules.specs.State.{State, Outcome, lent}
+use Rattle.rules.specs.Open.{openFile}
 use Rattle.searchfile.specs.declared.Answer.{Answer}
 use Rattle.searchfile.specs.Promise.{Counted, CountedOpen, counted, countedOpen}
 use Rattle.capi.specs.Words.{isSession, parametersIn, sessionOf, wordsOf, mostWord, packed}
@@ -25,19 +24,15 @@ abbrev pub returned : ℕ → List ℕ → List ℕ → List ℕ → List ℕ �
 returned r ws f b w = record { answer = r; session = ws; file = f; buffer = b; work = w }
 
 -- a session call's outcome: "transfers times 2^32, plus the number", and the session as words
-abbrev pub told : Counted → Returned
-told o =
+abbrev pub toldInWords : Counted → Returned
+toldInWords o =
     returned (packed (o .transfers) (o .number)) (wordsOf (o .after .session)) (o .after .file) (o .after .buffer) (o .after .work)
 
 -- "A session slice of another length, or a word 6, 8 or 9 above 1, answers 020007 and changes nothing."; of any other the function does
 -- what the session call does
 unfoldable pub called : (State → Outcome) → List ℕ → List ℕ → List ℕ → List ℕ → Returned
 called call ws f b w =
-    cond (isSession ws) (told (counted (call (lent (sessionOf ws) f b w)))) (returned (packed 0 wrongSize) ws f b w)
-
--- `nasturakh_create(session, file)`: CREATE with the session's parameters; the session stays as it is
-unfoldable pub creating : State → Outcome
-creating st = createdOutcome st (create (desc st) (st .file))
+    cond (isSession ws) (toldInWords (counted (call (lent (sessionOf ws) f b w)))) (returned (packed 0 wrongSize) ws f b w)
 
 -- `nasturakh_open(session, file, buffer, marks)`: what it returns and leaves, the marks beside
 pub record ReturnedOpen : Type 0 where
@@ -50,7 +45,7 @@ marked r m = record { returned = r; marks = m }
 
 -- OPEN's outcome, told in words
 abbrev pub toldOpen : CountedOpen → ReturnedOpen
-toldOpen o = marked (told (o .outcome)) (o .marks)
+toldOpen o = marked (toldInWords (o .outcome)) (o .marks)
 
 -- what `called` is of the other calls: 020007 and nothing changed, or what OPEN does
 unfoldable pub calledOpen : List ℕ → List ℕ → List ℕ → List ℕ → ReturnedOpen

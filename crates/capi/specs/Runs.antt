@@ -19,7 +19,8 @@ use Rattle.demands.specs.Planned.{Keeps}
 use Rattle.demands.specs.Promises.{AfterOpen}
 use Rattle.demands.specs.Turns.{Turn, turns, Formula}
 use Rattle.capi.specs.Words.{isSession, sessionOf}
-use Rattle.capi.specs.Calls.{Returned, returned, called, creating, calledOpen}
+use Rattle.searchfile.specs.Promise.{creating}
+use Rattle.capi.specs.Calls.{Returned, returned, called, calledOpen}
 use Rattle.capi.specs.Plan.{planIn, mostIn}
 
 -- the two parts of a returned number: "transfers times 2^32, plus the number"
@@ -88,7 +89,7 @@ transfersOf [] = 0
 transfersOf (c ∷ cs) = transfersIn (c .gave .answer) + transfersOf cs
 
 -- "each proved to do what the session call does", of a whole run: number, transfers and state of every call; so what is left, and the sum
-pub record Follows (x : Returned) (cs : List Call) : Type 0 where
+pub record RunFollows (x : Returned) (cs : List Call) : Type 0 where
   pub calls : seen cs ≡ turns (stateIn x) (requests cs)
   pub leaves : stateIn (last x cs) ≡ left (stateIn x) (requests cs)
   pub transfers : transfersOf cs ≡ allTransfers (stateIn x) (requests cs)
@@ -96,7 +97,7 @@ pub record Follows (x : Returned) (cs : List Call) : Type 0 where
 
 -- a run of the functions, told by their promises, is a run of the calls [S7]
 abbrev pub ArchiveFollows : Type 0
-ArchiveFollows = (x : Returned) (cs : List Call) → isSession (x .session) ≡ true → Promises x cs → Follows x cs
+ArchiveFollows = (x : Returned) (cs : List Call) → isSession (x .session) ≡ true → Promises x cs → RunFollows x cs
 
 -- what holds after each call of any run of requests from an OPEN that answers 0 holds of the states in the words that the functions leave
 abbrev pub ArchiveAfterOpen : Type 1

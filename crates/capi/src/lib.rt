@@ -22,7 +22,8 @@ ghost use Rattle.rules.specs.NsertDone.{nsert};
 ghost use Rattle.rules.specs.Dlete.{dlete};
 ghost use Rattle.rules.specs.XtendDone.{xtend};
 ghost use Rattle.rules.specs.Seek.{seek, updat};
-ghost use Rattle.capi.specs.Calls.{returned, called, creating, marked, calledOpen};
+ghost use Rattle.searchfile.specs.Promise.{creating};
+ghost use Rattle.capi.specs.Calls.{returned, called, marked, calledOpen};
 ghost use Rattle.capi.specs.View.{viewed};
 ghost use Rattle.capi.specs.Plan.{mostIn};
 ghost use Rattle.words.specs.Slices.{was, became};
@@ -35,8 +36,8 @@ pub extern "C" fn nasturakh_create(session: &[u32], file: &mut [u32]) -> u64
     if !is_session(session) {
         return packed(0, WRONG_SIZE);
     }
-    let number = searchfile::create(parameters_in(session), file);
-    packed(0, number)
+    let answer = session_of(session).create(file);
+    packed(answer.transfers, answer.number)
 }
 
 // OPEN, which marks every block.

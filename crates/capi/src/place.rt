@@ -26,21 +26,11 @@ fn in_file(p: Description, b: usize) -> u64
 pub fn place_of(s: Session, file: &[u32], buffer: &[u32], b: usize) -> u64
     ensures { λ r. ⌜ r ≡ placeOf (given s (was file) (was buffer) []) b ⌝ }
 {
-    let p = s.desc;
-    if !s.opened {
-        return 0;
-    }
-    if !p.is_sized(file.len(), buffer.len()) {
-        return 0;
-    }
-    if b < 1 {
-        return 0;
-    }
-    if p.n < b {
+    if !s.shows(file.len(), buffer.len(), b) {
         return 0;
     }
     if b == s.current {
         return IN_BUFFER;
     }
-    in_file(p, b)
+    in_file(s.desc, b)
 }

@@ -33,14 +33,19 @@ pub fn parameters_in(words: &[u32]) -> Description
     requires { ⌜ length (now words) ≡ 73 ⌝ }
     ensures { λ r. ⌜ r ≡ parametersIn (was words) ⌝ }
 {
-    Description {
-        wpb: words::word_at(words, 0),
-        wpr: words::word_at(words, 1),
-        k: words::word_at(words, 2),
-        space: words::word_at(words, 3),
-        control: words::word_at(words, 4),
-        n: words::word_at(words, 5),
-    }
+    let wpb = words::word_at(words, 0);
+    let wpr = words::word_at(words, 1);
+    let k = words::word_at(words, 2);
+    let space = words::word_at(words, 3);
+    let control = words::word_at(words, 4);
+    let n = words::word_at(words, 5);
+    Description::new()
+        .with_wpb(wpb)
+        .with_wpr(wpr)
+        .with_k(k)
+        .with_space(space)
+        .with_control(control)
+        .with_n(n)
 }
 
 // The session that the words are.

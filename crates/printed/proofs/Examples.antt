@@ -2,7 +2,7 @@
 use Prim.Native.Nat.{ℕ}
 use mathlib.Core.Path.{_≡_, refl}
 use mathlib.Core.List.{List, [], _∷_}
-use Rattle.rules.specs.Computing.{computing}
+use Rattle.rules.proofs.Computing.{computing}
 use Rattle.texts.specs.Texts.{bytes, digits, places, decimal, octal, listed}
 use Rattle.texts.specs.Results.{spelling, resultText, refusedText, badLine, tooLarge}
 use Rattle.lines.specs.Lines.{isBlank, isLineFeed, leading, pieces, filled, wordsOf, ended, linesOf, isDigit, allDigits, valueFrom, valueOf, isNumber, allNumbers, values, kinds, namedIn, named, carries, withNumbers, parsedWords, parse, firstNamed, described, parameters}

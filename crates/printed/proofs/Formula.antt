@@ -30,7 +30,7 @@ use Rattle.printed.specs.declared.Start.{Start}
 use Rattle.printed.specs.Output.{played, callLines, startText, following, outputOf, output}
 use Rattle.printed.specs.Rows.{Asked, askedFirst, asked, endFirst, endText, does, Result, results, leaves, requests, resultTexts}
 use Rattle.printed.specs.Rows.{Row, rows, rowOf, sum, ofNamed, counts, shares, M}
-use Rattle.printed.specs.Formula.{PrintsResults, making, SessionInput, PrintsRows, Keeps, PrintedFormula}
+use Rattle.printed.specs.Formula.{PrintsResults, making, SessionInput, PrintsRows, KeepsFormula, PrintedFormula}
 use Rattle.printed.proofs.Whole.{Fit, start-fits}
 use Rattle.printed.proofs.Rows.{AllSmall, rows-read, end-rows}
 use Rattle.printed.proofs.Small.{Room, rooms}
@@ -229,14 +229,14 @@ module _ (input : List ℕ) (p : Description) (ls : List (List ℕ)) (i : Sessio
   counted : counts (rows (output input)) ≡ rule.allTransfers st qs
   counted = ap counts rows-are ∙ made-rows p good (asked p ls) .0 ∙ counts-are (asked p ls) st (i .others)
 
-  keeps : Keeps p (rows (output input)) (rule.S st qs) (rule.s st qs) (rule.X st qs) (rule.x st qs)
+  keeps : KeepsFormula p (rows (output input)) (rule.S st qs) (rule.s st qs) (rule.X st qs) (rule.x st qs)
   keeps =
       let w : rule.Within st qs = within p good qs in
       let s : shares (rows (output input)) ≡ rule.shares st qs
       = ap shares rows-are ∙ made-rows p good (asked p ls) .1 ∙ shares-are (asked p ls) st (i .others) in
       let m : M (rows (output input)) ≡ rule.M st qs
       = ap M rows-are ∙ made-rows p good (asked p ls) .2 ∙ M-is (asked p ls) st (i .others) in
-      subst (λ (d : Description). Keeps d (rows (output input)) (rule.S st qs) (rule.s st qs) (rule.X st qs) (rule.x st qs)) st-desc (record {
+      subst (λ (d : Description). KeepsFormula d (rows (output input)) (rule.S st qs) (rule.s st qs) (rule.X st qs) (rule.x st qs)) st-desc (record {
         splits = rw m (w .splits);
         starts = rw m (w .starts);
         index-splits = w .index-splits;

@@ -24,7 +24,7 @@ use Rattle.lines.specs.declared.Reading.{Reading}
 use Rattle.lines.specs.Lines.{kinds, namedIn, named, carries}
 use Rattle.lines.specs.Reading.{callIn, callOf, parsedAs}
 use Rattle.printed.specs.Output.{Played, played}
-use Rattle.printed.specs.Promise.{Shown, told, shownAt}
+use Rattle.printed.specs.Promise.{Shown, toldLine, shownAt}
 
 -- what holds of a call, if there is one
 abbrev Of : (Call → Type 0) → Option Call → Type 0
@@ -77,13 +77,13 @@ module _ (ws : List ℕ) (st : State) (key-given : desc st .k ≤ length ws) (re
   -- what was performed is what the line plays, and leaves the parameters as they were
   pub line-played : (m : List ℕ) → length m ≡ desc st .n → (r : Reading) (name : List ℕ) (c : Call) → some c ≡ callOf (desc st) r name
       → (o : Counted) → o ≡ counted (done ws st m c .outcome)
-      → (_≡_ {A = Played} (record { over = false; after = o .after; text = told c (o .number) (o .transfers) (o .after .work) }) (played st (parsedAs (desc st) (callOf (desc st) r name) ws)))
+      → (_≡_ {A = Played} (record { over = false; after = o .after; text = toldLine c (o .number) (o .transfers) (o .after .work) }) (played st (parsedAs (desc st) (callOf (desc st) r name) ws)))
       × (desc (o .after) ≡ desc st)
-  unfolding parsedAs played told lineOf
+  unfolding parsedAs played toldLine lineOf
   line-played m l r name c e o q =
       let f : Fits ws st c = subst (Of (Fits ws st)) (sym e) (fits r name) in
       let z : o ≡ counted (perform (part 0 (carries (desc st) c) ws) st c) = q ∙ ap counted (done-printed ws st m c l (f .1) ∙ sym (f .0)) in (
-        ap (λ (x : Counted). record { over = false; after = x .after; text = told c (x .number) (x .transfers) (x .after .work) }) z
+        ap (λ (x : Counted). record { over = false; after = x .after; text = toldLine c (x .number) (x .transfers) (x .after .work) }) z
             ∙ ap (λ (x : Option Call). played st (parsedAs (desc st) x ws)) e,
         ap (λ (x : Counted). desc (x .after)) z ∙ same-description (part 0 (carries (desc st) c) ws) st c,
       )

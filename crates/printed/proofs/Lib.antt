@@ -5,3 +5,5 @@ pub mod Rows
 pub mod Small
 pub mod Formula
 pub mod Found
+pub mod Starting
+pub mod Telling

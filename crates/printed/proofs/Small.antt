@@ -18,8 +18,8 @@ use Rattle.drum.specs.Blocks.{blockAt, sections}
 use Rattle.rules.specs.State.{State, Outcome, desc}
 use Rattle.rules.specs.Open.{openFile}
 use Rattle.rules.specs.Requests.{Request, opening, closing, seeking, advancing, inserting, deleting, updating, extending, answer, left}
-use Rattle.rules.specs.Answering.{openRefuses, plainRefuses, keyedRefuses, finds, advances, inserts, extends, canAnswer}
-use Rattle.rules.proofs.Answering.{can-answer}
+use Rattle.demands.specs.Answering.{openRefuses, plainRefuses, keyedRefuses, finds, advances, inserts, extends, canAnswer}
+use Rattle.demands.proofs.Answering.{can-answer}
 use Rattle.demands.specs.Formula.{detailsUnder, detailBlocks, indexBlocks, newDetails, newIndexes, share, CallWithin}
 use Rattle.demands.proofs.Demands.{call-bound}
 use Rattle.demands.proofs.Promised.{after-open, words-small}

@@ -48,7 +48,7 @@ PrintsRows =
 
 -- "hD·S ≤ M, FD·X ≤ M, hI·s ≤ S+X, FI·x ≤ S+X, and the sum of transfers is at most 3·(SEEK+UPDAT+NSERT) + 5·ADV + 6·DLETE + 4·XTEND + CLOSE
 -- + 4·(S+X) + s + x": with M, the sum and the calls as the rows have them
-pub record Keeps (p : Description) (printed : List Row) (S s X x : ℕ) : Type 0 where
+pub record KeepsFormula (p : Description) (printed : List Row) (S s X x : ℕ) : Type 0 where
   pub splits : hD p * S ≤ M printed
   pub starts : FD p * X ≤ M printed
   pub index-splits : hI p * s ≤ S + X
@@ -62,4 +62,4 @@ PrintedFormula =
     → let st = leaves (begun p) making in
     let qs = requests st (asked p ls) in
     let printed = rows (output input) in
-    (leaves st (asked p ls) ≡ left st qs) × (counts printed ≡ allTransfers st qs) × Keeps p printed (S st qs) (s st qs) (X st qs) (x st qs)
+    (leaves st (asked p ls) ≡ left st qs) × (counts printed ≡ allTransfers st qs) × KeepsFormula p printed (S st qs) (s st qs) (X st qs) (x st qs)

@@ -44,5 +44,5 @@ said r out = record { over = r .over; out = out; at = r .at }
 
 -- what `lineOf` shows, of number, count and workspace: "prints call, number as six octal digits, transfers, and for SEEK and ADV answering 0 or
 -- 030002 the workspace"
-unfoldable pub told : Call → ℕ → ℕ → List ℕ → List ℕ
-told c number count work = resultText c (record { number = number; count = count; shown = cond (shows c number) work [] })
+unfoldable pub toldLine : Call → ℕ → ℕ → List ℕ → List ℕ
+toldLine c number count work = resultText c (record { number = number; count = count; shown = cond (shows c number) work [] })

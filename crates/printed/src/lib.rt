@@ -18,7 +18,7 @@ ghost use Rattle.searchfile.specs.Promise.{given};
 ghost use Rattle.lines.specs.Lines.{named};
 ghost use Rattle.lines.specs.Reading.{callOf, parsedAs, parametersIn};
 ghost use Rattle.printed.specs.Output.{startWith, startOf, startText, played, refusal};
-ghost use Rattle.printed.specs.Promise.{told, shown, shownAt, said, saidAt};
+ghost use Rattle.printed.specs.Promise.{toldLine, shown, shownAt, said, saidAt};
 ghost use Rattle.words.specs.Slices.{was, became};
 
 // What the first line makes of the program.
@@ -134,8 +134,8 @@ fn shows(call: Call, number: u32) -> bool
 fn tell(call: Call, number: u32, transfers: usize, work: &[u32], out: &mut [u8], at: usize) -> usize
     requires { ⌜ at + 35 + 21 * length (now work) ≤ length (now out) ⌝ }
     ensures { λ r. ⌜
-        (became out ≡ put (was out) at (told call number transfers (was work)))
-        × (r ≡ at + length (told call number transfers (was work)))
+        (became out ≡ put (was out) at (toldLine call number transfers (was work)))
+        × (r ≡ at + length (toldLine call number transfers (was work)))
         × (r ≤ at + 35 + 21 * length (was work))
         ⌝ }
 {

@@ -1,33 +1,29 @@
--- From a call's refusals and steps to the answer of its method: one law for all calls that are lent a workspace.
+-- A call that is lent a workspace is its refusals and then its steps. The laws speak as its method does: s is the session, n the number of the
+-- first refusal, d what the steps gave, r the answer, and f₁, b₁, w₁ are the words left.
 use mathlib.Core.Path.{_≡_, refl, sym, ap, _∙_}
-use mathlib.Core.Bool.{Bool, true, false, cond, not, _&&_}
-use mathlib.Core.List.{List, []}
-use Prim.Native.Nat.{ℕ, zero, suc}
-use lib.Dec.{eqb}
+use mathlib.Core.Bool.{Bool, true, cond}
+use mathlib.Core.List.{List}
+use Prim.Native.Nat.{ℕ, zero, suc, _≤_}
+use native.Mathlib.Omega.{arith}
 use lib.ListN.{length}
-use Rattle.numbers.specs.Numbers.{wrongSize, isClosed, wrongKey}
-use Rattle.numbers.specs.Checked.{Checked, passed, refused, _>>=_, _>>_, require}
-use Rattle.words.specs.Words.{part, allWords}
-use Rattle.words.specs.Keys.{isOnes}
-use borrow.Author.Tests.{eqb-true}
+use borrow.Author.Needs.{needs}
+use Rattle.numbers.specs.Checked.{Checked, passed, refused, _>>_}
 use Rattle.drum.specs.declared.Description.{Description}
-use Rattle.drum.specs.Params.{sized, goodParams, fileSize}
-use Rattle.drum.proofs.Good.{sized-facts}
-use Rattle.numbers.proofs.Passed.{Passed, chain, required}
+use Rattle.drum.specs.Params.{goodParams}
+use Rattle.drum.specs.Blocks.{Fitting}
+use Rattle.drum.proofs.Good.{caps}
 use Rattle.rules.specs.declared.Done.{Done}
-use Rattle.rules.specs.State.{Session, State, Effect, Outcome, lent, desc, texts, keyIn, holding, positioned, outcome, unchanged, settle}
-use Rattle.rules.specs.Checks.{sizesOk, workOk, isOpen, keyOk}
+use Rattle.rules.specs.State.{Session, State, Effect, Outcome, lent, texts, keyIn, holding, positioned, outcome, unchanged, settle}
 use Rattle.rules.specs.Told.{Told, gave, told}
-use Rattle.searchfile.specs.Promise.{Counted, counted, refusing}
+use Rattle.searchfile.specs.declared.Session as code
+use Rattle.searchfile.specs.declared.Answer.{Answer}
+use Rattle.searchfile.specs.Promise.{Counted, held, given, counted, answered, refusing, next}
 use Rattle.searchfile.specs.Checks.{plainChecks, keyedChecks}
+use Rattle.searchfile.proofs.Refusing.{refusing-some, refusing-none, Lent, keyed-lent, plain-lent}
 
--- a number that refuses, and 0, which does not
-pub refusing-some : (n : ℕ) → (n ≡ 0 → ⊥) → refusing n ≡ refused n
-refusing-some zero h = absurd (h refl)
-refusing-some (suc n) h = refl
-
-pub refusing-none : (n : ℕ) → n ≡ 0 → refusing n ≡ passed true
-refusing-none n e = rw e
+-- a call: what it refuses, and then its steps
+pub record Chain (call : State → Outcome) (checks : State → Checked Bool) (steps : State → Checked Effect) : Type 0 where
+  pub is : (st : State) → call st ≡ settle st (checks st >> steps st)
 
 -- what a caller sees of steps that tell this
 abbrev seenOf : Session → Told → Counted
@@ -41,111 +37,90 @@ seenOf s t = record {
       (t .work);
 }
 
-told-seen : (st : State) (c : Checked Effect)
-    → seenOf (st .session) (told (texts st) (st .session .flag) (st .work) c) ≡ counted (settle st c)
+told-seen : (st : State) (c : Checked Effect) → seenOf (st .session) (told (texts st) (st .session .flag) (st .work) c) ≡ counted (settle st c)
 unfolding settle outcome holding
 told-seen st (refused n) = refl
 told-seen st (passed e) = refl
 
--- the answer of a method whose steps gave d and left f, b and w, with this session
-pub finished : (st : State) (c : Checked Effect) (d : Done) (f b w : List ℕ) (s : Session) (number transfers : ℕ)
-    → gave d f b w ≡ told (texts st) (st .session .flag) (st .work) c
-    → number ≡ d .number
-    → transfers ≡ d .transfers
-    → s ≡ cond (d .keyed) (positioned (keyIn (st .session .desc) w) (holding (d .current) (d .flag) (st .session))) (holding (d .current) (d .flag) (st .session))
-    → _≡_ {A = Counted} (record { number = number; transfers = transfers; after = lent s f b w }) (counted (settle st c))
-finished st c d f b w s number transfers e n t h =
-    (λ j. record { number = n j; transfers = t j; after = lent (h j) f b w })
-    ∙ ap (seenOf (st .session)) e
-    ∙ told-seen st c
+-- a refusal leaves all unchanged
+refused-by : (st : State) (m : Checked Bool) (n : ℕ) (steps : Checked Effect) → m ≡ refused n → counted (settle st (m >> steps)) ≡ counted (unchanged st n)
+unfolding settle
+refused-by st m n steps e = ap (λ (x : Checked Bool). counted (settle st (x >> steps))) e
 
--- the refusals of the table, told one by one or together
-three : {A : Type 0} (a b c : Bool) (x y z : ℕ) (rest : Checked A)
-    → require a x >> (require b y >> (require c z >> rest)) ≡ (require a x >> (require b y >> require c z)) >> rest
-three false b c x y z rest = refl
-three true false c x y z rest = refl
-three true true false x y z rest = refl
-three true true true x y z rest = refl
+-- the answer of a call that is refused
+pub call-refused : {call : State → Outcome} {checks : State → Checked Bool} {steps : State → Checked Effect} → Chain call checks steps
+    → (s : code.Session) (f b w : List ℕ) (n : ℕ) (r : Answer) → r ≡ record { number = n; transfers = 0; session = s }
+    → refusing n ≡ checks (given s f b w) → (n ≡ 0 → ⊥) → answered r f b w ≡ counted (call (given s f b w))
+call-refused {call} {checks} {steps} chain s f b w n r e h z =
+    let st = given s f b w in
+    (λ j. answered (e j) f b w)
+    ∙ sym (ap counted (chain .is st) ∙ refused-by st (checks st) n (steps st) (sym h ∙ refusing-some n z))
 
-then-after : {A : Type 0} (m : Checked Bool) (t : Bool) (x : ℕ) (rest : Checked A) → m >> (require t x >> rest) ≡ (m >> require t x) >> rest
-then-after (refused n) t x rest = refl
-then-after (passed a) t x rest = refl
+-- the answer of a call whose steps are made
+pub call-told : {call : State → Outcome} {checks : State → Checked Bool} {steps : State → Checked Effect} → Chain call checks steps
+    → (s : code.Session) (f b w f₁ b₁ w₁ : List ℕ) (n : ℕ) (d : Done) (r : Answer)
+    → gave d f₁ b₁ w₁ ≡ told (texts (given s f b w)) (s .flag) w (steps (given s f b w))
+    → (r .number ≡ d .number) × (r .transfers ≡ d .transfers) × (held (r .session) ≡ next (held s) d w₁)
+    → refusing n ≡ checks (given s f b w) → n ≡ 0 → answered r f₁ b₁ w₁ ≡ counted (call (given s f b w))
+call-told {call} {checks} {steps} chain s f b w f₁ b₁ w₁ n d r e a h z =
+    let st = given s f b w in
+    let c : checks st ≡ passed true = sym h ∙ refusing-none n z in
+    (λ j. record { number = a .0 j; transfers = a .1 j; after = lent (a .2 j) f₁ b₁ w₁ })
+    ∙ ap (seenOf (held s)) e
+    ∙ told-seen st (steps st)
+    ∙ sym (ap counted (chain .is st ∙ ap (λ (x : Checked Bool). settle st (x >> steps st)) c))
 
-module _ (st : State) where
-  abbrev plain : Checked Bool
-  plain = plainChecks (desc st) (st .session .opened) (length (st .file)) (length (st .buffer)) (length (st .work))
+-- what refusals that passed tell: all that the steps and the answer ask for
+lent-fitting : (p : Description) (f b : List ℕ) (work : ℕ) → Lent p (length f) (length b) work → Fitting p f b
+lent-fitting p f b work h = record { good = h .good; file-is = h .file-is; buffer-is = h .buffer-is }
 
-  abbrev keyed : ℕ → Checked Bool
-  keyed reads = keyedChecks (desc st) (st .session .opened) (length (st .file)) (length (st .buffer)) (st .work) reads
+lent-most : (p : Description) (file buffer work : ℕ) → Lent p file buffer work → p .k ≤ 63
+lent-most p file buffer work h = caps p (h .good) .facts .k-most
 
-  pub plain-chain : (steps : Checked Effect) → sizesOk st >> (workOk st >> (isOpen st >> steps)) ≡ plain >> steps
-  unfolding sizesOk workOk isOpen plainChecks
-  plain-chain steps = three (sized (desc st) (length (st .file)) (length (st .buffer))) (eqb (length (st .work)) (desc st .wpr)) (st .session .opened) wrongSize wrongSize isClosed steps
+lent-room : (p : Description) (file buffer work : ℕ) → Lent p file buffer work → p .k ≤ work
+lent-room p file buffer work h = let g = caps p (h .good) in let l = h .work-is in omega arith
 
-  pub keyed-chain : (reads : ℕ) (steps : Checked Effect) → sizesOk st >> (workOk st >> (isOpen st >> (keyOk reads st >> steps))) ≡ keyed reads >> steps
-  unfolding keyOk keyedChecks
-  keyed-chain reads steps =
-      plain-chain (keyOk reads st >> steps)
-      ∙ then-after plain (allWords (part 0 reads (st .work)) && not (isOnes (keyIn (desc st) (st .work)))) wrongKey steps
+module _ (p : Description) (opened : Bool) (f b w : List ℕ) (reads n : ℕ) (e : refusing n ≡ keyedChecks p opened (length f) (length b) w reads)
+    (z : n ≡ 0) where
+  keyed-passed : Lent p (length f) (length b) (length w)
+  keyed-passed = keyed-lent p opened (length f) (length b) w reads n e z
 
-  -- a refusal leaves all unchanged; with none the steps are made
-  pub refused-by : (m : Checked Bool) (n : ℕ) (steps : Checked Effect) → m ≡ refused n → counted (settle st (m >> steps)) ≡ counted (unchanged st n)
-  unfolding settle
-  refused-by m n steps e = ap (λ (x : Checked Bool). counted (settle st (x >> steps))) e
+  pub keyed-fitting : Fitting p f b
+  keyed-fitting = lent-fitting p f b (length w) keyed-passed
 
-  pub passed-by : (m : Checked Bool) (steps : Checked Effect) → m ≡ passed true → settle st (m >> steps) ≡ settle st steps
-  passed-by m steps e = ap (λ (x : Checked Bool). settle st (x >> steps)) e
+  pub keyed-whole : length w ≡ p .wpr
+  keyed-whole = keyed-passed .work-is
 
--- what passed refusals tell: good parameters, and the lengths
-pub record PlainFits (p : Description) (file buffer work : ℕ) : Type 0 where
-  pub good : goodParams p ≡ true
-  pub file-is : file ≡ fileSize p
-  pub buffer-is : buffer ≡ p .wpb
-  pub work-is : work ≡ p .wpr
+  pub keyed-most : p .k ≤ 63
+  keyed-most = lent-most p (length f) (length b) (length w) keyed-passed
 
-plain-lines : (p : Description) (file buffer work : ℕ) (x y : Bool)
-    → require (sized p file buffer) wrongSize ≡ passed x → require (eqb work (p .wpr)) wrongSize ≡ passed y → PlainFits p file buffer work
-plain-lines p file buffer work x y h k =
-    let s = sized-facts p file buffer (required _ _ _ h) in
-    record { good = s .good; file-is = s .file-is; buffer-is = s .buffer-is; work-is = eqb-true _ _ (required _ _ _ k) }
+  pub keyed-room : (m : ℕ) → m ≡ length w → p .k ≤ m
+  keyed-room m i = rw i (lent-room p (length f) (length b) (length w) keyed-passed)
 
-plain-passed : (p : Description) (opened : Bool) (file buffer work : ℕ) → Passed (λ (x : Bool). PlainFits p file buffer work) (plainChecks p opened file buffer work)
-unfolding plainChecks
-plain-passed p opened file buffer work = search (chain, plain-lines) depth 9
+module _ (p : Description) (opened : Bool) (f b w : List ℕ) (n : ℕ) (e : refusing n ≡ plainChecks p opened (length f) (length b) (length w)) (z : n ≡ 0) where
+  plain-passed : Lent p (length f) (length b) (length w)
+  plain-passed = plain-lent p opened (length f) (length b) (length w) n e z
 
-pub plain-fits : (p : Description) (opened : Bool) (file buffer work : ℕ) → plainChecks p opened file buffer work ≡ passed true → PlainFits p file buffer work
-plain-fits p opened file buffer work e = plain-passed p opened file buffer work .holds true e
+  pub plain-fitting : Fitting p f b
+  plain-fitting = lent-fitting p f b (length w) plain-passed
 
--- the same of a keyed call's refusals
-pub keyed-fits : (st : State) (reads : ℕ) → keyed st reads ≡ passed true → PlainFits (desc st) (length (st .file)) (length (st .buffer)) (length (st .work))
-unfolding keyedChecks
-keyed-fits st reads e = keyed-passed .holds true e
-  where
-    lines : (x : Bool) → plain st ≡ passed x → PlainFits (desc st) (length (st .file)) (length (st .buffer)) (length (st .work))
-    lines x h = plain-passed (desc st) (st .session .opened) (length (st .file)) (length (st .buffer)) (length (st .work)) .holds x h
+  pub plain-whole : length w ≡ p .wpr
+  plain-whole = plain-passed .work-is
 
-    keyed-passed : Passed (λ (x : Bool). PlainFits (desc st) (length (st .file)) (length (st .buffer)) (length (st .work))) (keyed st reads)
-    keyed-passed = search (chain, lines) depth 9
+  pub plain-most : p .k ≤ 63
+  plain-most = lent-most p (length f) (length b) (length w) plain-passed
 
-module _ (st : State) (steps : Checked Effect) (n : ℕ) where
-  -- a call refused by its first checks
-  pub plain-refused : refusing n ≡ plain st → (n ≡ 0 → ⊥)
-      → counted (unchanged st n) ≡ counted (settle st (sizesOk st >> (workOk st >> (isOpen st >> steps))))
-  plain-refused e h =
-      sym (ap (λ (x : Checked Effect). counted (settle st x)) (plain-chain st steps) ∙ refused-by st (plain st) n steps (sym e ∙ refusing-some n h))
+  pub plain-room : (m : ℕ) → m ≡ length w → p .k ≤ m
+  plain-room m i = rw i (lent-room p (length f) (length b) (length w) plain-passed)
 
-  pub keyed-refused : (reads : ℕ) → refusing n ≡ keyed st reads → (n ≡ 0 → ⊥)
-      → counted (unchanged st n) ≡ counted (settle st (sizesOk st >> (workOk st >> (isOpen st >> (keyOk reads st >> steps)))))
-  keyed-refused reads e h =
-      sym (ap (λ (x : Checked Effect). counted (settle st x)) (keyed-chain st reads steps) ∙ refused-by st (keyed st reads) n steps (sym e ∙ refusing-some n h))
+  pub position-room : (m : ℕ) → m ≡ 63 → p .k ≤ m
+  position-room m i = rw i plain-most
 
-  -- a call that is not
-  pub plain-passes : refusing n ≡ plain st → n ≡ 0
-      → counted (settle st steps) ≡ counted (settle st (sizesOk st >> (workOk st >> (isOpen st >> steps))))
-  plain-passes e h =
-      sym (ap counted (ap (settle st) (plain-chain st steps) ∙ passed-by st (plain st) steps (sym e ∙ refusing-none n h)))
+-- a keyed call reads no more words than a record has
+pub key-in-record : (p : Description) → goodParams p ≡ true → p .k ≤ p .wpr
+key-in-record p h = caps p h .facts .key
 
-  pub keyed-passes : (reads : ℕ) → refusing n ≡ keyed st reads → n ≡ 0
-      → counted (settle st steps) ≡ counted (settle st (sizesOk st >> (workOk st >> (isOpen st >> (keyOk reads st >> steps)))))
-  keyed-passes reads e h =
-      sym (ap counted (ap (settle st) (keyed-chain st reads steps) ∙ passed-by st (keyed st reads) steps (sym e ∙ refusing-none n h)))
+-- what the methods of these calls name
+pub ruleset keyed-call = (needs, keyed-fitting, keyed-whole, keyed-most, keyed-room)
+
+pub ruleset plain-call = (needs, plain-fitting, plain-whole, plain-most, plain-room, position-room)

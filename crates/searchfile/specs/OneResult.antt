@@ -4,12 +4,12 @@ use mathlib.Core.Path.{_≡_}
 use mathlib.Core.List.{List}
 use denote.Ref.{ptr, now}
 use Rattle.rules.specs.State.{Session, Outcome}
-use Rattle.rules.specs.Open.{Opened, Created}
+use Rattle.rules.specs.Open.{Opened}
 use Rattle.searchfile.specs.declared.Answer.{Answer}
-use Rattle.searchfile.specs.Promise.{counted, countedOpen, answered, answeredOpen, made}
+use Rattle.searchfile.specs.Promise.{counted, countedOpen, answered, answeredOpen}
 use Rattle.searchfile.specs.Parts.{Borrowed, partOf, viewPart}
 
--- SEEK, ADV, NSERT, DLETE, UPDAT, XTEND, CLOSE: the answer with its session, and every word lent
+-- CREATE, SEEK, ADV, NSERT, DLETE, UPDAT, XTEND, CLOSE: the answer with its session, and every word lent
 abbrev pub OneAnswer : Type 0
 OneAnswer =
     (o : Outcome) (r s : Answer) (f g b d w u : List ℕ) → answered r f b w ≡ counted o → answered s g d u ≡ counted o
@@ -20,10 +20,6 @@ abbrev pub OneOpen : Type 0
 OneOpen =
     (o : Opened) (r s : Answer) (f g b d m n : List ℕ) → answeredOpen r f b m ≡ countedOpen o → answeredOpen s g d n ≡ countedOpen o
     → (r ≡ s) × (f ≡ g) × (b ≡ d) × (m ≡ n)
-
--- CREATE: its number, and the file
-abbrev pub OneCreated : Type 0
-OneCreated = (c : Created) (n m : ℕ) (f g : List ℕ) → made n f ≡ c → made m g ≡ c → (n ≡ m) × (f ≡ g)
 
 -- VIEW: where the part lies that is lent back, and its words
 abbrev pub OneView : Type 0

@@ -1,11 +1,13 @@
 -- The form of the public promises: one equation between what a method gives back, with the words it leaves, and document 01's outcome.
 use Prim.Native.Nat.{ℕ, zero, suc}
-use mathlib.Core.Bool.{Bool, true}
+use mathlib.Core.Bool.{Bool, true, cond}
 use mathlib.Core.List.{List, []}
 use lib.ListN.{length}
 use Rattle.numbers.specs.Checked.{Checked, passed, refused}
-use Rattle.rules.specs.State.{Session, State, Outcome, lent}
-use Rattle.rules.specs.Open.{Opened, Created}
+use Rattle.rules.specs.declared.Done.{Done}
+use Rattle.rules.specs.State.{Session, State, Outcome, desc, lent, keyIn, holding, positioned}
+use Rattle.rules.specs.Open.{Opened, create}
+use Rattle.rules.specs.Run.{createdOutcome}
 use Rattle.searchfile.specs.declared.Session as code
 use Rattle.searchfile.specs.declared.Answer.{Answer}
 
@@ -51,9 +53,16 @@ countedOpen o = record { outcome = counted (o .outcome); marks = o .marks }
 abbrev pub answeredOpen : Answer → List ℕ → List ℕ → List ℕ → CountedOpen
 answeredOpen r f b m = record { outcome = answered r f b []; marks = m }
 
--- what CREATE gives back, with the file it leaves
-abbrev pub made : ℕ → List ℕ → Created
-made r f = record { number = r; file = f }
+-- CREATE with the session's parameters: it "has no session", which stays as it is, and costs no transfer [S8, T2]
+unfoldable pub creating : State → Outcome
+creating st = createdOutcome st (create (desc st) (st .file))
+
+-- the session of an answer: with the current block and flag that the steps leave, and position the key that stands first in the workspace where
+-- they say so [C33]
+abbrev pub next : Session → Done → List ℕ → Session
+next s d w =
+    let here = holding (d .current) (d .flag) s in
+    cond (d .keyed) (positioned (keyIn (s .desc) w) here) here
 
 -- a number as the answer of a step: 0 refuses nothing
 abbrev pub refusing : ℕ → Checked Bool

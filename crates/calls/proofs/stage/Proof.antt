@@ -5,33 +5,6 @@ use borrow.Author.Needs.{needs}
 use Rattle.calls.proofs.stage.Statement.{statement}
 use Rattle.calls.proofs.stage.Tie as tie
 
-returns : tie.Need-returns
-returns c = search create-staged
-
-returns-2 : tie.Need-returns-2
-returns-2 c = search open-staged
-
-returns-3 : tie.Need-returns-3
-returns-3 c = search close-staged
-
-returns-4 : tie.Need-returns-4
-returns-4 c = search seek-staged
-
-returns-5 : tie.Need-returns-5
-returns-5 c = search adv-staged
-
-returns-6 : tie.Need-returns-6
-returns-6 c = search nsert-staged
-
-returns-7 : tie.Need-returns-7
-returns-7 c = search dlete-staged
-
-returns-8 : tie.Need-returns-8
-returns-8 c = search updat-staged
-
-returns-9 : tie.Need-returns-9
-returns-9 c = search xtend-staged
-
 pub stage-spec : {M : Type 1} → statement M
 stage-spec =
     tie.close
@@ -50,17 +23,17 @@ stage-spec =
     (λ c κs. search needs)
     (λ c. search needs)
     (λ c κs. search needs)
-    returns
-    returns-2
-    returns-3
+    (λ c. search create-staged)
+    (λ c. search open-staged)
+    (λ c. search close-staged)
     (λ c. search needs)
-    returns-4
-    returns-5
+    (λ c. search seek-staged)
+    (λ c. search adv-staged)
     (λ c. search needs)
-    returns-6
+    (λ c. search nsert-staged)
     (λ c. search needs)
-    returns-7
+    (λ c. search dlete-staged)
     (λ c. search needs)
-    returns-8
+    (λ c. search updat-staged)
     (λ c. search needs)
-    returns-9)
+    (λ c. search xtend-staged))

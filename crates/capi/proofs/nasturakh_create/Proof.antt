@@ -1,5 +1,5 @@
--- `capi::nasturakh_create` meets its contract: the words are no session's, or CREATE's promise with the parameters that stand in them.
-use Rattle.capi.proofs.Told.{asked-whole, called-none, create-called}
+-- `capi::nasturakh_create` meets its contract: the words are no session's, or CREATE's promise is told in words.
+use Rattle.capi.proofs.Told.{asked-whole, called-none, create-called, create-few}
 use borrow.Author.Needs.{needs}
 use Rattle.capi.proofs.nasturakh_create.Statement.{statement}
 use Rattle.capi.proofs.nasturakh_create.Tie as tie
@@ -13,6 +13,6 @@ nasturakh-create-spec =
     (λ c. search called-none)
     (λ c κs. search asked-whole)
     (λ c κs. search needs)
-    (λ c κs. search needs)
+    (λ c κs. search create-few)
     (λ c. search needs)
     (λ c. search create-called))

@@ -6,18 +6,9 @@ use borrow.Author.Needs.{needs}
 use Rattle.capi.proofs.session.packed.Statement.{statement}
 use Rattle.capi.proofs.session.packed.Tie as tie
 
-mul-result : tie.Need-mul-result
-mul-result c = search needs
-
-wide-requires : tie.Need-wide-requires
-wide-requires c κs = search needs
-
-add-result : tie.Need-add-result
-add-result c = search needs
-
 returns : tie.Need-returns
 unfolding packed
 returns c = ap (λ (n : ℕ). c .before .args .transfers * 4294967296 + n) (c .wide .ensures)
 
 pub packed-spec : {M : Type 1} → statement M
-packed-spec = tie.close (tie.spec mul-result wide-requires add-result returns)
+packed-spec = tie.close (tie.spec (λ c. search needs) (λ c κs. search needs) (λ c. search needs) returns)

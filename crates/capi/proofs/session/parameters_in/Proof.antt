@@ -1,8 +1,30 @@
--- `capi::session::parameters_in` meets its contract: six words read.
+-- `capi::session::parameters_in` meets its contract: six words read, each step handing the description on.
+use Rattle.drum.proofs.Setup.{set-up}
 use Rattle.capi.proofs.Words.{parameters-by}
 use borrow.Author.Needs.{needs}
 use Rattle.capi.proofs.session.parameters_in.Statement.{statement}
 use Rattle.capi.proofs.session.parameters_in.Tie as tie
+
+-- the description after the last step, and before it the steps and the words read
+returns : tie.Need-returns
+returns c =
+    let c1 = c .before in
+    let c2 = c1 .before in
+    let c3 = c2 .before in
+    let c4 = c3 .before in
+    let c5 = c4 .before in
+    let c6 = c5 .before in
+    let c7 = c6 .before in
+    let c8 = c7 .before in
+    let c9 = c8 .before in
+    let c10 = c9 .before in
+    let c11 = c10 .before in
+    let c12 = c11 .before in
+    let steps =
+    set-up (c6 .new .result) _ _ _ _ _ _ _ _ _ _ _ _ (c .with-n .ensures) (c1 .with-control .ensures) (c2 .with-space .ensures)
+    (c3 .with-k .ensures) (c4 .with-wpr .ensures) (c5 .with-wpb .ensures) in
+    parameters-by _ _ _ _ _ _ _ _ steps (c12 .word-at .ensures) (c11 .word-at2 .ensures) (c10 .word-at3 .ensures) (c9 .word-at4 .ensures)
+    (c8 .word-at5 .ensures) (c7 .word-at6 .ensures)
 
 pub parameters-in-spec : {M : Type 1} → statement M
 parameters-in-spec =
@@ -14,4 +36,11 @@ parameters-in-spec =
     (λ c κs. search needs)
     (λ c κs. search needs)
     (λ c κs. search needs)
-    (λ c. search parameters-by))
+    (λ c κs. search needs)
+    (λ c κs. search needs)
+    (λ c κs. search needs)
+    (λ c κs. search needs)
+    (λ c κs. search needs)
+    (λ c κs. search needs)
+    (λ c κs. search needs)
+    returns)

@@ -1,0 +1,15 @@
+-- `searchfile::refused_plain` meets its contract: each early return is the first line of the chain that refuses.
+use borrow.Author.Needs.{needs}
+use Rattle.searchfile.proofs.Refusing.{plain-sizes, plain-work, plain-shut, plain-none}
+use Rattle.searchfile.proofs.refusals.refused_plain.Statement.{statement}
+use Rattle.searchfile.proofs.refusals.refused_plain.Tie as tie
+
+pub refused-plain-spec : {M : Type 1} → statement M
+refused-plain-spec =
+    tie.close
+    (tie.spec
+    (λ c κs. search needs)
+    (λ c. search plain-sizes)
+    (λ c. search plain-work)
+    (λ c. search plain-shut)
+    (λ c. search plain-none))
