@@ -4,15 +4,23 @@ use mathlib.Core.Path.{_≡_}
 use mathlib.Core.Bool.{true}
 use mathlib.Core.List.{List}
 use lib.ListN.{length}
-use Rattle.drum.specs.Params.{goodParams}
+use Rattle.drum.specs.declared.Description.{Description}
+use Rattle.drum.specs.Params.{goodParams, fileSize}
 use Rattle.terminal.specs.declared.input.Place.{Place}
-use Rattle.terminal.specs.declared.turns.Going.{Going}
 
--- "reads", "prints": the place stands within so many bytes of the input, with at most so many bytes to be written
-abbrev pub Within : Place → ℕ → ℕ → Type 0
-Within p input most = (p .at ≤ p .end) × (p .end ≤ input) × (p .filled ≤ most)
+-- "reads", "prints": the place stands within the 65,536 bytes of the input, and what is to be written leaves room for the text of another line
+pub record Ready (p : Place) : Type 0 where
+  pub behind : p .at ≤ p .end
+  pub within : p .end ≤ 65536
+  pub room : p .filled ≤ 16384
 
--- "Workspace: WPR. OPEN is also lent N marks": as much is lent to a session whose parameters are good
-abbrev pub Lent : Going → List ℕ → List ℕ → Type 0
-Lent g work marks =
-    (goodParams (g .session .desc) ≡ true) × (length work ≡ g .session .desc .wpr) × (length marks ≡ g .session .desc .n)
+-- parameters with which calls are played: they are good, and a file "above 8192 words" is none of theirs
+pub record Playable (p : Description) : Type 0 where
+  pub good : goodParams p ≡ true
+  pub small : fileSize p ≤ 8192
+
+-- words for the largest file, block and record of such parameters
+pub record Roomy (file buffer work : List ℕ) : Type 0 where
+  pub file-room : 8192 ≤ length file
+  pub block-room : 4096 ≤ length buffer
+  pub record-room : 2048 ≤ length work

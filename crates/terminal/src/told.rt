@@ -1,12 +1,11 @@
-// How a session ends, and what standard error is told of it.
+// What standard error is told of a line that ends a session, or of parameters out of range.
 use super::Ending;
-use super::input::Place;
-use super::input::write_filled;
+use super::input::Found;
+use super::output::write_filled;
+use super::output::write_first;
 use drum::Description;
 use faults::Fault;
-use faults::Watch;
 use lines::Reading;
-ghost use mathlib.Core.Path.{_≡_};
 ghost use Prim.Native.Nat.{_≤_};
 ghost use lib.ListN.{length};
 
@@ -20,88 +19,52 @@ fn kept(r: Reading) -> usize
     8
 }
 
-// Writes what is to be written, and then to standard error what is wrong with the line that was read last.
-fn tell(place: Place, filled: usize, word: &[u8], fault: Fault, out: &mut [u8]) -> Place
-    requires { ⌜ (filled ≤ length (now out)) × (160 ≤ length (now out)) × (length (now word) ≤ 8) ⌝ }
-    ensures { λ r. ⌜ (r .at ≡ place .at) × (r .end ≡ place .end) × (r .filled ≡ 0) ⌝ }
+// Writes what is to be written, and then to standard error what is wrong with line number `line`.
+fn tell(line: usize, word: &[u8], fault: Fault, filled: usize, out: &mut [u8; 65536]) -> Ending
+    requires { ⌜ (filled ≤ 65536) × (length (now word) ≤ 8) ⌝ }
 {
     let is_written = write_filled(out, filled);
-    let n = faults::put_sentence(out, place.line, word, fault);
-    io::write_all(2, &out[..n]);
-    Place {
-        at: place.at,
-        end: place.end,
-        filled: 0,
-        line: place.line,
-        failed: !is_written,
+    let n = faults::put_sentence(out, line, word, fault);
+    write_first(2, out, n);
+    if !is_written {
+        return Ending::Failed;
     }
+    Ending::Wrong
 }
 
 // A first line with which no call is played.
 pub fn tell_first(
-    place: Place,
+    line: Found,
     filled: usize,
-    r: Reading,
-    w: Watch,
     numbers: &[u32; 2048],
     out: &mut [u8; 65536],
-) -> Place
+) -> Ending
     requires { ⌜ filled ≤ 65536 ⌝ }
-    ensures { λ r. ⌜ (r .at ≡ place .at) × (r .end ≡ place .end) × (r .filled ≡ 0) ⌝ }
 {
-    let given = lines::parameters_of(r, numbers);
-    let fault = faults::first_fault(w, given);
-    tell(place, filled, b"", fault, out)
+    let place = line.place;
+    let given = lines::parameters_of(line.reading, numbers);
+    let fault = faults::first_fault(line.watch, given);
+    tell(place.line, b"", fault, filled, out)
 }
 
 // A line of calls that is no such call.
-pub fn tell_call(
-    place: Place,
-    filled: usize,
-    p: Description,
-    r: Reading,
-    w: Watch,
-    name: &[u8],
-    out: &mut [u8],
-) -> Place
-    requires { ⌜ (filled ≤ length (now out)) × (160 ≤ length (now out)) × (8 ≤ length (now name)) ⌝ }
-    ensures { λ r. ⌜ (r .at ≡ place .at) × (r .end ≡ place .end) × (r .filled ≡ 0) ⌝ }
+pub fn tell_call(line: Found, p: Description, filled: usize, out: &mut [u8; 65536]) -> Ending
+    requires { ⌜ filled ≤ 65536 ⌝ }
 {
-    let n = kept(r);
-    let fault = faults::call_fault(p, w, &name[..n]);
-    tell(place, filled, &name[..n], fault, out)
+    let place = line.place;
+    let name = line.name;
+    let n = kept(line.reading);
+    let fault = faults::call_fault(p, line.watch, &name[..n]);
+    tell(place.line, &name[..n], fault, filled, out)
 }
 
 // A line that names no call.
-pub fn tell_name(
-    place: Place,
-    filled: usize,
-    r: Reading,
-    w: Watch,
-    name: &[u8],
-    out: &mut [u8],
-) -> Place
-    requires { ⌜ (filled ≤ length (now out)) × (160 ≤ length (now out)) × (8 ≤ length (now name)) ⌝ }
-    ensures { λ r. ⌜ (r .at ≡ place .at) × (r .end ≡ place .end) × (r .filled ≡ 0) ⌝ }
+pub fn tell_name(line: Found, filled: usize, out: &mut [u8; 65536]) -> Ending
+    requires { ⌜ filled ≤ 65536 ⌝ }
 {
-    let n = kept(r);
-    let fault = faults::name_fault(w, &name[..n]);
-    tell(place, filled, &name[..n], fault, out)
-}
-
-// The end: what is left to be written is written.
-pub fn ended(place: Place, bad: bool, out: &[u8; 65536]) -> Ending
-    requires { ⌜ place .filled ≤ 65536 ⌝ }
-{
-    let is_written = write_filled(out, place.filled);
-    if !is_written {
-        return Ending::Failed;
-    }
-    if place.failed {
-        return Ending::Failed;
-    }
-    if bad {
-        return Ending::Wrong;
-    }
-    Ending::Well
+    let place = line.place;
+    let name = line.name;
+    let n = kept(line.reading);
+    let fault = faults::name_fault(line.watch, &name[..n]);
+    tell(place.line, &name[..n], fault, filled, out)
 }

@@ -1,136 +1,114 @@
 // The lines of calls.
 use super::Ending;
-use super::input::Found;
 use super::input::Place;
-use super::input::left_after;
 use super::input::next_line;
-use super::input::with_room;
-use super::told::ended;
+use super::output::ended;
+use super::output::with_room;
 use super::told::tell_call;
+use lines::Reading;
+use printed::Turn;
 use searchfile::Session;
-ghost use mathlib.Core.Path.{_≡_};
-ghost use Prim.Native.Nat.{_<_};
-ghost use Rattle.terminal.specs.Places.{Within, Lent};
+ghost use Prim.Native.Nat.{_≤_};
+ghost use Rattle.terminal.specs.Places.{Ready, Playable, Roomy};
 
-// What follows a line of calls: whether it was a bad one, and at most `left` lines more.
-pub struct Going {
-    pub place: Place,
-    pub session: Session,
-    pub bad: bool,
-    pub left: u64,
+// What was kept of a line of calls; `filled` bytes are not written yet; and the session that it is played in.
+struct Here {
+    name: [u8; 8],
+    filled: usize,
+    reading: Reading,
+    session: Session,
 }
 
-// A line of calls of which everything was read.
-fn call_read(
-    line: Found,
-    going: Going,
+// A line of calls of which everything was read, its words cut to the sizes that the parameters ask for.
+// A record fills at most half a block, and a file of 8,192 words has at most 4,096 blocks.
+fn call_cut(
+    here: Here,
     file: &mut [u32],
     buffer: &mut [u32],
     work: &mut [u32],
-    marks: &mut [u8],
-    name: &[u8; 8],
     numbers: &[u32; 2048],
     out: &mut [u8; 65536],
-) -> Going
-    requires { ⌜ (Within (line .place) 65536 16384) × (Lent going (now work) (now marks)) × (0 < going .left) ⌝ }
-    ensures { λ g. ⌜
-        (Within (g .place) 65536 16384) × (g .session .desc ≡ going .session .desc) × (g .left < going .left)
-        ⌝ }
+) -> Turn
+    requires { ⌜ (here .filled ≤ 16384) × (Playable (here .session .desc)) × (Roomy (now file) (now buffer) (now work)) ⌝ }
+    ensures { λ t. ⌜ (Playable (t .session .desc)) × (t .at ≤ 65536) ⌝ }
 {
-    let mut place = line.place;
-    let session = going.session;
-    let reading = line.reading;
-    let turn = printed::call_line(
-        reading,
-        name,
+    let mut marks = io::buffer();
+    let name = here.name;
+    let session = here.session;
+    let p = session.desc;
+    let size = p.file_size();
+    let wpb = p.wpb;
+    let wpr = p.wpr;
+    let n = p.n;
+    printed::call_line(
+        here.reading,
+        &name,
         numbers,
         session,
-        file,
-        buffer,
-        work,
-        marks,
+        &mut file[..size],
+        &mut buffer[..wpb],
+        &mut work[..wpr],
+        &mut marks[..n],
         out,
-        place.filled,
-    );
-    let after = turn.session;
-    if turn.over {
-        let over = tell_call(place, turn.at, session.desc, reading, line.watch, name, out);
-        return Going {
-            place: over,
-            session: after,
-            bad: true,
-            left: 0,
-        };
-    }
-    place.filled = turn.at;
-    let next = with_room(out, place);
-    Going {
-        place: next,
-        session: after,
-        bad: false,
-        left: left_after(next.failed, going.left),
-    }
+        here.filled,
+    )
 }
 
-// A line of calls.
-fn call_turn(
-    fd: i32,
-    going: Going,
-    file: &mut [u32],
-    buffer: &mut [u32],
-    work: &mut [u32],
-    marks: &mut [u8],
-    input: &mut [u8; 65536],
-    name: &mut [u8; 8],
-    numbers: &mut [u32; 2048],
+// The same, with words for the largest file, block and record.
+fn call_read(
+    here: Here,
+    file: &mut [u32; 8192],
+    buffer: &mut [u32; 4096],
+    work: &mut [u32; 2048],
+    numbers: &[u32; 2048],
     out: &mut [u8; 65536],
-) -> Going
-    requires { ⌜ (Within (going .place) 65536 16384) × (Lent going (now work) (now marks)) × (0 < going .left) ⌝ }
-    ensures { λ g. ⌜
-        (Within (g .place) 65536 16384) × (g .session .desc ≡ going .session .desc) × (g .left < going .left)
-        ⌝ }
+) -> Turn
+    requires { ⌜ (here .filled ≤ 16384) × (Playable (here .session .desc)) ⌝ }
+    ensures { λ t. ⌜ (Playable (t .session .desc)) × (t .at ≤ 65536) ⌝ }
 {
-    let line = next_line(fd, going.place, input, name, numbers, out);
-    if !line.is_line {
-        let place = line.place;
-        let mut next = going;
-        next.place = place;
-        next.left = 0;
-        return next;
-    }
-    call_read(line, going, file, buffer, work, marks, name, numbers, out)
+    call_cut(here, file, buffer, work, numbers, out)
 }
 
-// All lines of calls.
-pub fn call_lines(
-    fd: i32,
-    start: Going,
-    file: &mut [u32],
-    buffer: &mut [u32],
-    work: &mut [u32],
-    marks: &mut [u8],
+// All lines of calls, over a file of zeros.
+pub fn play_calls(
+    start: Place,
+    opening: Session,
     input: &mut [u8; 65536],
-    name: &mut [u8; 8],
     numbers: &mut [u32; 2048],
     out: &mut [u8; 65536],
 ) -> Ending
-    requires { ⌜ (Within (start .place) 65536 16384) × (Lent start (now work) (now marks)) ⌝ }
+    requires { ⌜ (Ready start) × (Playable (opening .desc)) ⌝ }
 {
-    let mut going = start;
-    while 0 < going.left {
-        going = call_turn(
-            fd,
-            going,
-            file,
-            buffer,
-            work,
-            marks,
-            input,
+    let mut file = [0; 8192];
+    let mut buffer = [0; 4096];
+    let mut work = [0; 2048];
+    let mut place = start;
+    let mut session = opening;
+    let mut turns = u64::MAX;
+    while 0 < turns {
+        turns -= 1;
+        let line = next_line(place, input, numbers, out);
+        place = line.place;
+        if !line.is_line {
+            return ended(place, out);
+        }
+        let name = line.name;
+        let reading = line.reading;
+        let here = Here {
             name,
-            numbers,
-            out,
-        );
+            filled: place.filled,
+            reading,
+            session,
+        };
+        let turn = call_read(here, &mut file, &mut buffer, &mut work, numbers, out);
+        session = turn.session;
+        if turn.over {
+            return tell_call(line, session.desc, turn.at, out);
+        }
+        place = with_room(place, turn.at, out);
+        if place.failed {
+            return Ending::Failed;
+        }
     }
-    let place = going.place;
-    ended(place, going.bad, out)
+    ended(place, out)
 }

@@ -1,31 +1,16 @@
--- `terminal::refused::refuse_lines` meets its contract: between turns the place stays within the lent bytes. The measure is the lines left.
--- Assumes nothing.
+-- Between turns the place is ready; the measure is the turns left.
+use mathlib.Core.Path.{_≡_}
 use native.Mathlib.Omega.{arith}
-use Rattle.terminal.specs.Places.{Within}
 use borrow.Author.Needs.{needs}
+use Rattle.terminal.specs.Places.{Ready}
 use Rattle.terminal.proofs.refused.refuse_lines.Statement.{statement}
 use Rattle.terminal.proofs.refused.refuse_lines.Tie as tie
 
 abbrev Inv-loop : tie.InvT-loop
-Inv-loop fd input₀ name₀ numbers₀ out₀ refusing₀ input name numbers out refusing = Within (refusing .place) 65536 16384
+Inv-loop input₀ numbers₀ out₀ place₀ turns₀ input numbers out place turns = Ready place
 
 abbrev μ-loop : tie.MeasureT-loop
-μ-loop fd input₀ name₀ numbers₀ out₀ refusing₀ input name numbers out refusing = refusing .left
-
-loop-holds : tie.Need-loop-holds Inv-loop μ-loop
-loop-holds c = c .pre
-
-refuse-turn-requires : tie.Need-refuse-turn-requires Inv-loop μ-loop
-refuse-turn-requires c κs = (c .before .before .before .before .before .before .loop .inv, c .before .before .before .before .if1 .taken)
-
-loop-less : tie.Need-loop-less Inv-loop μ-loop
-loop-less c = c .refuse-turn .ensures .1
-
-loop-again : tie.Need-loop-again Inv-loop μ-loop
-loop-again c = c .refuse-turn .ensures .0
-
-ended-requires : tie.Need-ended-requires Inv-loop μ-loop
-ended-requires c κs = omega (arith, c .before .before .before .before .loop .inv)
+μ-loop input₀ numbers₀ out₀ place₀ turns₀ input numbers out place turns = turns
 
 pub refuse-lines-spec : {M : Type 1} → statement M
 refuse-lines-spec =
@@ -33,9 +18,17 @@ refuse-lines-spec =
     (tie.spec
     Inv-loop
     μ-loop
-    loop-holds
-    refuse-turn-requires
-    loop-less
-    loop-again
-    ended-requires
+    (λ c. search)
+    (λ c. omega arith)
+    (λ c κs. search)
+    (λ c κs. search)
+    (λ c. search needs)
+    (λ c κs. search)
+    (λ c κs. search)
+    (λ c. search needs)
+    (λ c κs. (search, search))
+    (λ c. search needs)
+    (λ c. omega arith)
+    (λ c. search)
+    (λ c κs. search)
     (λ c. search needs))

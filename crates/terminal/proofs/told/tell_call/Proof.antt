@@ -1,27 +1,18 @@
--- `terminal::told::tell_call` meets its contract: at most eight bytes of the first word are kept. Assumes nothing.
-use native.Mathlib.Omega.{arith}
-use lib.ListN.{length-take}
+-- At most eight bytes of the first word are kept.
 use borrow.Author.Needs.{needs}
+use Rattle.terminal.proofs.Takes.{within-name, name-part, name-few}
 use Rattle.terminal.proofs.told.tell_call.Statement.{statement}
 use Rattle.terminal.proofs.told.tell_call.Tie as tie
-
-slice-aggregate-call-fault : tie.Need-slice-aggregate-call-fault
-slice-aggregate-call-fault c = simp length-take (omega arith)
-
-slice-aggregate-tell : tie.Need-slice-aggregate-tell
-slice-aggregate-tell c = simp length-take (omega arith)
-
-tell-requires : tie.Need-tell-requires
-tell-requires c κs = (c .before .before .before .before .before .before .before .pre .0, c .before .before .before .before .before .before .before .pre .1, simp length-take (omega arith))
 
 pub tell-call-spec : {M : Type 1} → statement M
 tell-call-spec =
     tie.close
     (tie.spec
     (λ c κs. search needs)
-    slice-aggregate-call-fault
+    (λ c. search (needs, within-name))
+    (λ c. search (needs, name-part))
     (λ c κs. search needs)
-    slice-aggregate-tell
-    tell-requires
-    (λ c. search needs)
+    (λ c. search (needs, within-name))
+    (λ c. search (needs, name-part))
+    (λ c κs. (search, search name-few))
     (λ c. search needs))

@@ -1,4 +1,0 @@
-// No input at all.
-fn main() {
-    terminal::play(0);
-}
