@@ -83,10 +83,10 @@ pub record Caps (p : Description) : Type 0 where
   pub fi-is : FI p ≡ I p - p .space
   pub fd-least : 2 ≤ FD p
   pub fi-least : 2 ≤ FI p
-  pub sections-most : p .control * (p .k + 1) ≤ 262080
+  pub sections-most : p .control * (p .k + 1) ≤ 1048512
   pub sections-fit : 3 + p .control * (p .k + 1) ≤ masterSize p
   pub master-is : masterSize p ≤ 4 + p .control * (p .k + 1)
-  pub master-most : masterSize p ≤ 262084
+  pub master-most : masterSize p ≤ 1048516
   pub blocks-most : p .n * p .wpb ≤ 1073733632
   pub file-is : fileSize p ≡ masterSize p + p .n * p .wpb
 
@@ -101,7 +101,7 @@ caps p h =
     let d : (p .wpb - 1) / p .wpr ≤ p .wpb - 1 = div-le-self (p .wpb - 1) (p .wpr) in
     let i : (p .wpb - 1) / (p .k + 1) ≤ p .wpb - 1 = div-le-self (p .wpb - 1) (p .k + 1) in
     let e64 : p .k + 1 ≤ 64 = omega arith in
-    let s : p .control * (p .k + 1) ≤ 4095 * 64 = mul-le-mul (g .control-most) e64 in
+    let s : p .control * (p .k + 1) ≤ 16383 * 64 = mul-le-mul (g .control-most) e64 in
     let b : p .n * p .wpb ≤ 262142 * 4096 = mul-le-mul (g .n-most) (g .wpb-most) in
     let sd = g .space-records in
     let si = g .space-entries in

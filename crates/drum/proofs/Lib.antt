@@ -6,3 +6,4 @@ pub mod Sizes
 pub mod Examples
 pub mod Lending
 pub mod Setup
+pub mod Older

@@ -35,7 +35,7 @@ module _ (p : Description) (good : goodParams p ≡ true) where
   pub entries-few : I p ≤ 4096
   entries-few = caps p good .i-most
 
-  pub sections-few : p .control ≤ 4095
+  pub sections-few : p .control ≤ 16383
   sections-few = caps p good .facts .control-most
 
   -- the number of a block fits into a word

@@ -41,7 +41,7 @@ every (t ∷ ts) = t && every ts
 
 -- "Parameters", the most sections that CONTROL may allow [P7]
 abbrev pub mostSections : ℕ
-mostSections = 4095
+mostSections = 16383
 
 -- the table of ranges, a line each, with "D .. and I .., each at least 2" [P1, P2, P3, P4, P5, P6, P7, P8]
 unfoldable pub goodParams : Description → Bool

@@ -32,7 +32,7 @@ impl Description {
 
     pub const MOST_K: usize = 63;
 
-    pub const MOST_CONTROL: usize = 4095;
+    pub const MOST_CONTROL: usize = 16383;
 
     pub const MOST_N: usize = 262142;
 

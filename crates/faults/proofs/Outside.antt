@@ -46,7 +46,7 @@ space-facts p h = go (leb (D p) (I p)) refl h
 
 -- all six within their ranges make good parameters
 all-within : (p : Description) → wpbGood (p .wpb) ≡ true → within 1 (p .k) (mostKey p) ≡ true → within (p .k) (p .wpr) (half p) ≡ true
-    → within 0 (p .space) (mostSpace p) ≡ true → within 1 (p .control) 4095 ≡ true → within 2 (p .n) 262142 ≡ true → goodParams p ≡ true
+    → within 0 (p .space) (mostSpace p) ≡ true → within 1 (p .control) 16383 ≡ true → within 2 (p .n) 262142 ≡ true → goodParams p ≡ true
 unfolding D I
 all-within p w k r s c n =
     let (even, w₁, w₂) = wpb-facts (p .wpb) w in
@@ -54,7 +54,7 @@ all-within p w k r s c n =
     let (k₃, k₄) = key-facts p k₂ k₁ in
     let (r₁, r₂) = within-both (p .k) (p .wpr) (half p) r in
     let (s₁, s₂) = space-facts p (within-both 0 (p .space) (mostSpace p) s .1) in
-    let (c₁, c₂) = within-both 1 (p .control) 4095 c in
+    let (c₁, c₂) = within-both 1 (p .control) 16383 c in
     let (n₁, n₂) = within-both 2 (p .n) 262142 n in
     good-yes
     p
@@ -93,10 +93,10 @@ range-outside p bad = go (wpbGood (p .wpb)) refl
     last true e f = let z : _≡_ {A = Bool} true false = sym (f e) ∙ bad in e ∙ z
 
     go : (t : Bool) → wpbGood (p .wpb) ≡ t
-        → Outside (cond t (ranged K (p .k) 1 (mostKey p) (ranged Wpr (p .wpr) (p .k) (half p) (ranged Space (p .space) 0 (mostSpace p) (ranged Control (p .control) 1 4095 (outFault N (p .n) 2 262142))))) (outFault Wpb (p .wpb) 6 4096))
+        → Outside (cond t (ranged K (p .k) 1 (mostKey p) (ranged Wpr (p .wpr) (p .k) (half p) (ranged Space (p .space) 0 (mostSpace p) (ranged Control (p .control) 1 16383 (outFault N (p .n) 2 262142))))) (outFault Wpb (p .wpb) 6 4096))
     go false w = w
     go true w =
         told K (p .k) 1 (mostKey p) _ (λ e. e) λ k.
         told Wpr (p .wpr) (p .k) (half p) _ (λ e. e) λ r.
         told Space (p .space) 0 (mostSpace p) _ (λ e. e) λ s.
-        told Control (p .control) 1 4095 _ (λ e. e) λ c. last (within 2 (p .n) 262142) refl (all-within p w k r s c)
+        told Control (p .control) 1 16383 _ (λ e. e) λ c. last (within 2 (p .n) 262142) refl (all-within p w k r s c)

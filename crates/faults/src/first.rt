@@ -100,7 +100,7 @@ fn range_fault(p: Description) -> Fault
         return out_fault(Parameter::Wpb, p.wpb, 6, 4096);
     }
     let blocks = out_fault(Parameter::N, p.n, 2, 262142);
-    let control = ranged(Parameter::Control, p.control, 1, 4095, blocks);
+    let control = ranged(Parameter::Control, p.control, 1, 16383, blocks);
     let space = ranged(Parameter::Space, p.space, 0, most_space(p), control);
     let record = ranged(Parameter::Wpr, p.wpr, p.k, half(p), space);
     ranged(Parameter::K, p.k, 1, most_key(p), record)

@@ -160,7 +160,7 @@ module _ (p : Description) (cur : ℕ) (f b : List ℕ) (w : Path) where
         let r = master-row p (fit .good) (w .section - 1) (omega arith) in
         omega arith
 
-    file-most : length f ≤ 1074000000
+    file-most : length f ≤ 1074782148
     file-most =
         let g = caps p (fit .good) in
         let l = fit .file-is in

@@ -15,7 +15,7 @@ fn draw(r: &mut Random) -> Description {
     let d = if wpr == 0 { 0 } else { (wpb - 1) / wpr };
     let i = (wpb - 1) / (k + 1);
     let space = r.one_of(&[0, 0, 0, 1, d.saturating_sub(2), i.saturating_sub(2), d.saturating_sub(1), i.saturating_sub(1)]);
-    let control = r.one_of(&[0, 1, 1, 2, 4094, 4095, 4096]);
+    let control = r.one_of(&[0, 1, 1, 2, 4095, 4096, 16382, 16383, 16384]);
     let n = r.one_of(&[0, 1, 2, 2, 3, 3, 4, 262142, 262143, u32::MAX]);
     Description { wpb, wpr, k, space, control, n }
 }

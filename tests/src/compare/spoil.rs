@@ -74,7 +74,7 @@ pub fn spoil_sizes(state: &mut State, r: &mut Random) {
 fn spoil_parameters(state: &mut State, r: &mut Random) {
     let at = r.below(6);
     state.words[at] = match r.below(4) {
-        0 => r.one_of(&[0, 1, 2, 5, 63, 64, 4095, 4096, 4097, 4098, 262142, 262143, u32::MAX]),
+        0 => r.one_of(&[0, 1, 2, 5, 63, 64, 4095, 4096, 4097, 4098, 16383, 16384, 262142, 262143, u32::MAX]),
         1 => state.words[at].wrapping_sub(1),
         _ => state.words[at].wrapping_add(r.between(1, 2)),
     };

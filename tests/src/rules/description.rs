@@ -19,7 +19,7 @@ impl Description {
             && (6..=4096).contains(&self.wpb)
             && (1..=63).contains(&self.k)
             && self.wpr >= self.k
-            && (1..=4095).contains(&self.control)
+            && (1..=16383).contains(&self.control)
             && (2..=262142).contains(&self.n);
         ranges && self.d() >= 2 && self.i() >= 2 && self.space as usize <= self.d() - 2 && self.space as usize <= self.i() - 2
     }
