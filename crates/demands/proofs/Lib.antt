@@ -117,3 +117,4 @@ pub mod When
 pub mod Position
 pub mod Answering
 pub mod Occurs
+pub mod Copies

@@ -29,3 +29,4 @@ pub mod When
 pub mod Position
 pub mod Answering
 pub mod Names
+pub mod Copies

@@ -45,7 +45,7 @@ pub record Begins (p : Description) : Type 0 where
   pub two : 2 ≤ p .n
   pub rest : p .n * p .wpb ≡ p .wpb + (p .wpb + (p .n - 2) * p .wpb)
   pub file : fileSize p ≡ masterSize p + p .n * p .wpb
-  pub file-most : fileSize p ≤ 1073995716
+  pub file-most : fileSize p ≤ 1074782148
 
 pub begins : (p : Description) → goodParams p ≡ true → Begins p
 unfolding start

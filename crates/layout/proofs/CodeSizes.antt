@@ -75,7 +75,7 @@ module _ (n most stride w s z : ℕ) (room : 1 + most * stride ≤ w) (few : n �
 
 -- what good parameters say of the file, of a block's words, of a key and of counts
 module _ (p : Description) (f : List ℕ) (w : Fit p f) where
-  pub file-short : length f ≤ 1073995716
+  pub file-short : length f ≤ 1074782148
   unfolding fileSize
   file-short = let c = caps p (w .good) in omega (arith, w .size)
 
@@ -122,7 +122,7 @@ module _ (p : Description) (f : List ℕ) (w : Fit p f) where
 
 -- the entries of the master
 module _ (p : Description) (f : List ℕ) (n : ℕ) (w : Fit p f) (some : 1 ≤ n) (few : n ≤ p .control) where
-  entries-in : (3 + n * (p .k + 1) ≤ masterSize p) × (masterSize p ≤ length f) × (masterSize p ≤ 262084)
+  entries-in : (3 + n * (p .k + 1) ≤ masterSize p) × (masterSize p ≤ length f) × (masterSize p ≤ 1048516)
   unfolding fileSize
   entries-in =
       let c = caps p (w .good) in

@@ -7,6 +7,7 @@ pub mod CodeSizes
 pub mod CodeSteps
 pub mod CodeWhole
 pub mod Complete
+pub mod Copied
 pub mod Decode
 pub mod Exact
 pub mod Facts
@@ -17,6 +18,7 @@ pub mod Lists
 pub mod Made
 pub mod Marked
 pub mod Marks
+pub mod OneFile
 pub mod Order
 pub mod Passing
 pub mod Pieces

@@ -3,3 +3,4 @@ pub mod Inspect
 pub mod Tree
 pub mod Holds
 pub mod Inspected
+pub mod Copied

@@ -7,3 +7,4 @@ pub mod DleteKept
 pub mod NsertKept
 pub mod XtendKept
 pub mod Computing
+pub mod Copies

@@ -9,6 +9,8 @@ pub mod Free
 -- The calls.
 pub mod Open
 pub mod Close
+pub mod Copy
+pub mod Copies
 pub mod Seek
 pub mod Adv
 pub mod Nsert
