@@ -36,7 +36,7 @@ enum {
   NASTURAKH_WPR = 1,      /* words per record: K or more; a block holds D = (WPB-1)/WPR of them, at least 2 */
   NASTURAKH_K = 2,        /* words per key: 1..63; an index block holds I = (WPB-1)/(K+1) entries, at least 2 */
   NASTURAKH_SPACE = 3,    /* places that XTEND leaves free in a block: 0..D-2 and 0..I-2 */
-  NASTURAKH_CONTROL = 4,  /* most index blocks in use: 1..4095 */
+  NASTURAKH_CONTROL = 4,  /* most index blocks in use: 1..16383 */
   NASTURAKH_N = 5,        /* blocks: 2..262142 */
   NASTURAKH_OPEN = 6,     /* 0 closed, 1 open */
   NASTURAKH_CURRENT = 7,  /* the block in the buffer, 0 none */
@@ -52,13 +52,13 @@ enum {
 #define NASTURAKH_OUT_OF_SEQUENCE 000005u /* XTEND: the key is not above the highest key of the last block; where only the end record is
                                            * there, not above the bound before that block, which can be a key since taken out */
 #define NASTURAKH_WRONG_SIZE 020007u      /* a parameter or a slice's length is wrong, or session word 6, 8 or 9 is above 1; all unchanged */
-#define NASTURAKH_ALREADY_OPEN 020006u    /* OPEN of an open session; all unchanged */
+#define NASTURAKH_ALREADY_OPEN 020006u    /* OPEN or COPY of an open session; all unchanged */
 #define NASTURAKH_IS_CLOSED 020005u       /* another call on a closed session; all unchanged */
 #define NASTURAKH_WRONG_KEY 030001u       /* a workspace word above 262143, or the reserved key; all unchanged */
 #define NASTURAKH_AT_END 030002u          /* ADV: no record is left; the end record is in the workspace, the position stays */
 #define NASTURAKH_NONE_FREE 070001u       /* stored; but the record's block is now full and no block is free */
 #define NASTURAKH_NO_ROOM 070002u         /* NSERT, XTEND: not stored, too few blocks or sections are free */
-#define NASTURAKH_BAD_FILE 070003u        /* OPEN: not a good file; else a bad number in file or buffer; all unchanged but OPEN's marks */
+#define NASTURAKH_BAD_FILE 070003u        /* OPEN, COPY: not a good file; else a bad number in file or buffer; all unchanged but the marks */
 
 /* The two parts of an answer. */
 static inline uint32_t nasturakh_number(uint64_t answer) { return (uint32_t)answer; }
@@ -116,6 +116,14 @@ uint64_t nasturakh_xtend(uint32_t *session, size_t session_words, uint32_t *file
 #define NASTURAKH_IN_BUFFER ((uint64_t)1 << 33)
 uint64_t nasturakh_view(const uint32_t *session, size_t session_words, const uint32_t *file, size_t file_words,
                         const uint32_t *buffer, size_t buffer_words, size_t block);
+
+/* COPY: writes the session's file, which must be closed and good, into a second one whose parameters are the session's but for CONTROL,
+ * every word of it: the same records in the same blocks, the same free chain, and 0 where the master is not in use. So a file gets more
+ * sections, or fewer. The second file has the nasturakh_file_words(..) of a session with the new CONTROL, and is then used with such a
+ * session; this session and its file stay as they are. 0, with OPEN's marks; 020007, also where the new CONTROL is not 1..16383 or is below
+ * word 0 of the file, its sections in use; 020006; or 070003 with all marks 0. Each refusal leaves the second file. No transfers. */
+uint64_t nasturakh_copy(const uint32_t *session, size_t session_words, const uint32_t *file, size_t file_words, uint32_t *second,
+                        size_t second_words, size_t control, uint8_t *marks, size_t marks_bytes);
 
 /* The words of a plan: the most calls of each kind, refused ones counted, and the most records that NSERT and XTEND are to put in
  * (answers 0 and 070001). OPEN and VIEW cost no transfer. */

@@ -9,3 +9,4 @@ pub mod Unpacked
 pub mod Stepped
 pub mod Runs
 pub mod OneResult
+pub mod CopyTold

@@ -4,3 +4,4 @@ pub mod View
 pub mod Plan
 pub mod OneResult
 pub mod Runs
+pub mod Copying

@@ -1,5 +1,6 @@
 // The calls for programs in other languages. A session is lent as 73 words (module `session`), every slice is a pointer and a length, and
 // a call's answer is one number: its transfers times 2^32, plus its number. A session slice that is none answers 020007 and changes nothing.
+mod copying;
 mod place;
 mod plan;
 mod session;

@@ -6,3 +6,4 @@ pub mod Opening
 pub mod Creating
 pub mod OneResult
 pub mod Viewing
+pub mod CopyTold

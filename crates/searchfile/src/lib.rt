@@ -1,5 +1,6 @@
 // The routine's face: a session on one search file. Every call takes the session by value and hands it back in its answer; no call has a
 // condition on what it is given. What is refused, and by which number, is document 01's table "Numbers returned".
+mod copying;
 mod files;
 mod records;
 mod refusals;

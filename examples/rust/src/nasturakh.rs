@@ -12,7 +12,7 @@ pub const NOT_FOUND: u32 = 1;
 pub const OUT_OF_SEQUENCE: u32 = 5;
 /// A parameter or a slice's length is wrong.
 pub const WRONG_SIZE: u32 = 0o020007;
-/// OPEN of an open session.
+/// OPEN or COPY of an open session.
 pub const ALREADY_OPEN: u32 = 0o020006;
 /// Another call on a closed session.
 pub const IS_CLOSED: u32 = 0o020005;
@@ -24,7 +24,7 @@ pub const AT_END: u32 = 0o030002;
 pub const NONE_FREE: u32 = 0o070001;
 /// Not stored: too few blocks or sections are free.
 pub const NO_ROOM: u32 = 0o070002;
-/// OPEN: not a good file; else a bad number in file or buffer.
+/// OPEN, COPY: not a good file; else a bad number in file or buffer.
 pub const BAD_FILE: u32 = 0o070003;
 
 const WORDS: usize = 73;
@@ -65,6 +65,17 @@ mod raw {
             buffer: *const u32,
             buffer_words: usize,
             block: usize,
+        ) -> u64;
+        pub fn nasturakh_copy(
+            session: *const u32,
+            session_words: usize,
+            file: *const u32,
+            file_words: usize,
+            second: *mut u32,
+            second_words: usize,
+            control: usize,
+            marks: *mut u8,
+            marks_bytes: usize,
         ) -> u64;
         pub fn nasturakh_most_transfers(
             session: *const u32,
@@ -112,7 +123,7 @@ pub struct Parameters {
     pub k: u32,
     /// Places that XTEND leaves free in a block.
     pub space: u32,
-    /// Most index blocks in use: 1..=4095.
+    /// Most index blocks in use: 1..=16383.
     pub control: u32,
     /// Blocks: 2..=262142.
     pub n: u32,
@@ -255,6 +266,31 @@ impl Session {
             IN_BUFFER => buffer,
             at => &file[(at - IN_FILE) as usize..][..buffer.len()],
         }
+    }
+
+    /// COPY: writes the file, which must be closed and good, into a second one with another CONTROL. Session and file stay as they are; the
+    /// second file is used with a session of its own, `Session::new(Parameters { control, .. })`.
+    pub fn copy(
+        &self,
+        file: &[u32],
+        second: &mut [u32],
+        control: usize,
+        marks: &mut [u8],
+    ) -> Answer {
+        // SAFETY: as for the other calls; session and file are only read.
+        Answer::of(unsafe {
+            raw::nasturakh_copy(
+                self.words.as_ptr(),
+                WORDS,
+                file.as_ptr(),
+                file.len(),
+                second.as_mut_ptr(),
+                second.len(),
+                control,
+                marks.as_mut_ptr(),
+                marks.len(),
+            )
+        })
     }
 
     /// The most transfers that a session with these parameters can make which keeps to the plan, from CREATE and OPEN on; none where a

@@ -1,0 +1,3 @@
+pub mod Sizes
+pub mod Laid
+pub mod Ways
