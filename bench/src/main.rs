@@ -12,6 +12,7 @@ mod names;
 mod nasturakh;
 mod ours;
 mod report;
+mod sections;
 mod tree;
 
 use engine::{run, Times};
@@ -91,6 +92,9 @@ fn one_run(name: &str, work: &Work, counts: &mut [Count; 5]) -> Times {
 fn main() {
     let words: Vec<String> = std::env::args().skip(1).collect();
     let rounds = words.iter().find_map(|w| w.parse().ok()).unwrap_or(7);
+    if words.iter().any(|w| w == "sections") {
+        return sections::report(rounds);
+    }
     let only = words.iter().any(|w| w == "ours");
     let work = Work::new(words.iter().any(|w| w == "alike"));
     let mut lanes = lanes();

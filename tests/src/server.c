@@ -5,7 +5,7 @@
 #include <stdio.h>
 #include <stdlib.h>
 
-enum { CREATE, OPEN, CLOSE, SEEK, ADV, NSERT, DLETE, UPDAT, XTEND, VIEW, MOST };
+enum { CREATE, OPEN, CLOSE, SEEK, ADV, NSERT, DLETE, UPDAT, XTEND, VIEW, MOST, COPY };
 enum { OF_SESSION, OF_FILE, OF_BUFFER, OF_WORKSPACE, OF_MARKS, SLICES };
 
 struct call {
@@ -48,6 +48,8 @@ static uint64_t perform(const struct call *c, void **slices) {
     return nasturakh_view(s, n[OF_SESSION], f, n[OF_FILE], b, n[OF_BUFFER], c->block);
   case MOST: /* the plan comes as the workspace */
     return nasturakh_most_transfers(s, n[OF_SESSION], slices[OF_WORKSPACE], n[OF_WORKSPACE]);
+  case COPY: /* the second file comes as the buffer, the new CONTROL as the block */
+    return nasturakh_copy(s, n[OF_SESSION], f, n[OF_FILE], b, n[OF_BUFFER], c->block, slices[OF_MARKS], n[OF_MARKS]);
   default:
     return on_record(c, s, f, b, slices[OF_WORKSPACE]);
   }

@@ -17,6 +17,7 @@ extern "C" {
     fn nasturakh_updat(session: *mut u32, words: usize, file: *mut u32, file_words: usize, buffer: *mut u32, buffer_words: usize, workspace: *mut u32, record: usize) -> u64;
     fn nasturakh_xtend(session: *mut u32, words: usize, file: *mut u32, file_words: usize, buffer: *mut u32, buffer_words: usize, workspace: *mut u32, record: usize) -> u64;
     fn nasturakh_view(session: *const u32, words: usize, file: *const u32, file_words: usize, buffer: *const u32, buffer_words: usize, block: usize) -> u64;
+    fn nasturakh_copy(session: *const u32, words: usize, file: *const u32, file_words: usize, second: *mut u32, second_words: usize, control: usize, marks: *mut u8, bytes: usize) -> u64;
     fn nasturakh_most_transfers(session: *const u32, words: usize, plan: *const u32, plan_words: usize) -> u64;
 }
 
@@ -87,4 +88,23 @@ pub fn view(s: &State, block: usize) -> u64 {
 pub fn most_transfers(session: &[u32], plan: &[u32]) -> u64 {
     // SAFETY: as above; both are only read.
     unsafe { nasturakh_most_transfers(session.as_ptr(), session.len(), plan.as_ptr(), plan.len()) }
+}
+
+/// Copies the state's file into the second one; the answer is the number.
+pub fn copy(s: &mut State, second: &mut [u32], control: usize) -> u64 {
+    let (w, l) = (&s.words, &mut s.lent);
+    // SAFETY: as above; session and file are only read.
+    unsafe {
+        nasturakh_copy(
+            w.as_ptr(),
+            w.len(),
+            l.file.as_ptr(),
+            l.file.len(),
+            second.as_mut_ptr(),
+            second.len(),
+            control,
+            l.marks.as_mut_ptr(),
+            l.marks.len(),
+        )
+    }
 }

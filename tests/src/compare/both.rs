@@ -4,7 +4,7 @@ use crate::state::State;
 use nasturakh_tests::rules::{Answer, Event, Kind};
 use std::collections::BTreeMap;
 
-/// How often each number and each event occurred, each part of VIEW, and each answer to a plan.
+/// How often each number and each event occurred, each part of VIEW, and each answer to a plan and to a copy.
 #[derive(Default)]
 pub struct Tally {
     pub calls: u64,
@@ -12,6 +12,7 @@ pub struct Tally {
     pub events: BTreeMap<Event, u64>,
     pub views: BTreeMap<&'static str, u64>,
     pub plans: BTreeMap<&'static str, u64>,
+    pub copies: BTreeMap<u32, u64>,
 }
 
 /// A difference, described.

@@ -2,9 +2,11 @@
 #[cfg_attr(not(target_arch = "x86_64"), path = "served.rs")]
 mod archive;
 mod both;
+mod copies;
 mod fabricated;
 mod fifteen;
 mod keys;
+mod known;
 mod limits;
 mod loose;
 mod plans;
@@ -37,13 +39,18 @@ fn round(seed: u64, tally: &mut report::Tallies) -> Result<(), Differs> {
     for _ in 0..20 {
         plans::compare(&mut r, &mut tally.limits)?;
     }
-    limits::compare(&mut r, &mut tally.limits)
+    limits::compare(&mut r, &mut tally.limits)?;
+    for _ in 0..60 {
+        copies::compare(&kept[r.below(kept.len())].1, &mut r, &mut tally.copies)?;
+    }
+    Ok(())
 }
 
 fn all(rounds: u64) -> Result<report::Tallies, Differs> {
     let mut tallies = report::Tallies::default();
     fifteen::compare(&mut Tally::default())?;
     limits::most_blocks(&mut tallies.limits)?;
+    known::compare(&mut tallies.copies)?;
     for seed in 0..rounds {
         round(seed, &mut tallies).map_err(|differs| format!("seed {seed}: {differs}"))?;
     }

@@ -1,4 +1,4 @@
-//! What was tried: how often each number, each kind of split, each part of VIEW and each answer to a plan occurred.
+//! What was tried: how often each number, each kind of split, each part of VIEW and each answer to a plan and a copy occurred.
 use crate::both::Tally;
 use nasturakh_tests::rules::{Event, Kind};
 
@@ -10,9 +10,12 @@ pub struct Tallies {
     pub loose: Tally,
     pub made_up: Tally,
     pub limits: Tally,
+    pub copies: Tally,
 }
 
 const NUMBERS: [u32; 11] = [0, 0o1, 0o5, 0o020005, 0o020006, 0o020007, 0o030001, 0o030002, 0o070001, 0o070002, 0o070003];
+
+const COPIES: [u32; 4] = [0, 0o020006, 0o020007, 0o070003];
 
 const EVENTS: [Event; 9] = [
     Event::DetailSplit,
@@ -44,10 +47,14 @@ fn show(title: &str, tally: &Tally) {
     if !tally.plans.is_empty() {
         println!("  plans {:?}", tally.plans);
     }
+    if !tally.copies.is_empty() {
+        let numbers: Vec<String> = tally.copies.iter().map(|(number, count)| format!("{number:06o} {count}")).collect();
+        println!("  copies {}", numbers.join(", "));
+    }
 }
 
-/// What never occurred: whole sessions must show every event and every number but 020007, which states spoilt must show, and what plans
-/// can answer.
+/// What never occurred: whole sessions must show every event and every number but 020007, which states spoilt must show, what plans
+/// can answer, and what a copy can.
 fn missing(tallies: &Tallies) -> Vec<String> {
     let mut lacking = Vec::new();
     for number in NUMBERS {
@@ -58,6 +65,7 @@ fn missing(tallies: &Tallies) -> Vec<String> {
     }
     let plans = [(&tallies.limits, "bound"), (&tallies.limits, "no plan"), (&tallies.sessions, "kept")];
     lacking.extend(plans.iter().filter(|(tally, kind)| !tally.plans.contains_key(kind)).map(|(_, kind)| kind.to_string()));
+    lacking.extend(COPIES.iter().filter(|number| !tallies.copies.copies.contains_key(number)).map(|number| format!("a copy with {number:06o}")));
     lacking.extend(EVENTS.iter().filter(|e| !tallies.sessions.events.contains_key(e)).map(|e| format!("{e:?}")));
     lacking
 }
@@ -69,6 +77,7 @@ pub fn print(rounds: u64, tallies: &Tallies) {
     show("words in range, blocks at random", &tallies.loose);
     show("words made up", &tallies.made_up);
     show("parameters at their limits", &tallies.limits);
+    show("files copied under another CONTROL", &tallies.copies);
     let lacking = missing(tallies);
     if !lacking.is_empty() {
         println!("NEVER OCCURRED: {}", lacking.join(", "));

@@ -8,6 +8,7 @@ use std::sync::Mutex;
 
 const VIEW: u64 = 9;
 const MOST: u64 = 10;
+const COPY: u64 = 11;
 
 struct Server {
     to: BufWriter<ChildStdin>,
@@ -103,5 +104,16 @@ pub fn most_transfers(session: &[u32], plan: &[u32]) -> u64 {
     let mut left = s.clone();
     let answer = asked(MOST, 0, &mut left);
     assert!(left == s, "a word was changed");
+    answer
+}
+
+/// Copies the state's file into the second one; the answer is the number. The second file travels as the buffer, the new CONTROL as the block.
+pub fn copy(s: &mut State, second: &mut [u32], control: usize) -> u64 {
+    let mut lent = State { words: s.words.clone(), lent: Lent { buffer: second.to_vec(), workspace: Vec::new(), ..s.lent.clone() } };
+    let answer = asked(COPY, control as u64, &mut lent);
+    second.copy_from_slice(&lent.lent.buffer);
+    s.words = lent.words;
+    s.lent.file = lent.lent.file;
+    s.lent.marks = lent.lent.marks;
     answer
 }

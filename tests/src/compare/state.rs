@@ -27,6 +27,12 @@ impl State {
         answer
     }
 
+    /// The rendering's copy into a second file.
+    pub fn copy(&mut self, second: &mut [u32], control: usize) -> Answer {
+        let Some(session) = decode(&self.words) else { return Answer::refused(WRONG_SIZE) };
+        session.copy(&self.lent.file, second, control, &mut self.lent.marks)
+    }
+
     pub fn view(&self, block: usize) -> u64 {
         let Some(session) = decode(&self.words) else { return WRONG_SIZE as u64 };
         match session.view(&self.lent, block) {

@@ -1,9 +1,10 @@
-//! The ten calls of document 01.
+//! The ten calls of document 01, and the copying call.
 //!
 //! Each call first makes a plan from the words as they stood when it began, and only then stores:
 //! a plan that fails leaves everything as it was.
 mod adv;
 mod answer;
+mod copy;
 mod description;
 mod dlete;
 mod free;
