@@ -15,6 +15,10 @@ alreadyOpen = 0o020006
 abbrev pub isClosed : ℕ
 isClosed = 0o020005
 
+-- "a record too large or a length of 0" [R9]
+abbrev pub wrongLength : ℕ
+wrongLength = 0o020012
+
 -- "keyed call: workspace word it reads above 262143, or key ONES" [N4]
 abbrev pub wrongKey : ℕ
 wrongKey = 0o030001
