@@ -1,4 +1,5 @@
-/* Nasturakh: search files of fixed records in order of their keys. The functions of the archive libcapi.a, for C and C++.
+/* Nasturakh: search files of fixed records in order of their keys, and sequential files. The functions of the archive libcapi.a, for C and
+ * C++.
  *
  * WORDS. A word is a number 0..262143 in a uint32_t. A record is WPR words, its key the first K. Keys compare word by word, the first
  * word heaviest. The key whose words are all 262143 is reserved: it ends the file.
@@ -11,6 +12,7 @@
  *   workspace  exactly WPR words: the record, or for SEEK and DLETE the key in its first K words (the others are not read)
  *   marks      exactly N bytes
  *   plan       exactly 8 words, see nasturakh_most_transfers
+ *   row        exactly 7 words, see nasturakh_put; file and workspace there have lengths of their own
  * A slice whose length is wrong is refused by 020007; so no length reads or writes outside what it says.
  *
  * SESSION. 73 words of the caller: set 0..5 to the parameters and 6..72 to 0, then hand in to each call what the last one left.
@@ -52,12 +54,14 @@ enum {
 #define NASTURAKH_OUT_OF_SEQUENCE 000005u /* XTEND: the key is not above the highest key of the last block; where only the end record is
                                            * there, not above the bound before that block, which can be a key since taken out */
 #define NASTURAKH_WRONG_SIZE 020007u      /* a parameter or a slice's length is wrong, or session word 6, 8 or 9 is above 1; all unchanged */
+#define NASTURAKH_WRONG_LENGTH 020012u    /* PUT, GET: the record is of length 0, or larger than the data area; all unchanged */
 #define NASTURAKH_ALREADY_OPEN 020006u    /* OPEN or COPY of an open session; all unchanged */
 #define NASTURAKH_IS_CLOSED 020005u       /* another call on a closed session; all unchanged */
 #define NASTURAKH_WRONG_KEY 030001u       /* a workspace word above 262143, or the reserved key; all unchanged */
-#define NASTURAKH_AT_END 030002u          /* ADV: no record is left; the end record is in the workspace, the position stays */
+#define NASTURAKH_AT_END 030002u          /* ADV: no record is left; the end record is in the workspace, the position stays. GET: none is
+                                           * left, or no block; all unchanged */
 #define NASTURAKH_NONE_FREE 070001u       /* stored; but the record's block is now full and no block is free */
-#define NASTURAKH_NO_ROOM 070002u         /* NSERT, XTEND: not stored, too few blocks or sections are free */
+#define NASTURAKH_NO_ROOM 070002u         /* NSERT, XTEND: not stored, too few blocks or sections are free. PUT: no block is left */
 #define NASTURAKH_BAD_FILE 070003u        /* OPEN, COPY: not a good file; else a bad number in file or buffer; all unchanged but the marks */
 
 /* The two parts of an answer. */
@@ -145,6 +149,36 @@ enum {
  * word 6, 8 or 9 above 1, a parameter out of range, or a plan of another length. Nothing is written. */
 #define NASTURAKH_NO_PLAN UINT64_MAX
 uint64_t nasturakh_most_transfers(const uint32_t *session, size_t session_words, const uint32_t *plan, size_t plan_words);
+
+/* SEQUENTIAL FILES, for lists as they are delivered. A file is whole blocks of WPB words, without a master; a block is its leader words,
+ * which are the caller's, and then the data area of WPB - LEADERS words. Fixed records stand one behind the other, as many whole ones as
+ * the data area holds. A variable record begins with its length in words, that word counted, and a zero word stands behind it unless it
+ * ends with the block. Words are any 32-bit numbers here. There is no session: layout, place and count are a row of 7 words, which the
+ * caller sets once (a new list: BLOCK, AT and, to PUT, LEFT 0; to be read: BLOCK and AT 0, LEFT the number put) and then hands in as the
+ * last call left it. */
+enum {
+  NASTURAKH_ROW_WPB = 0,     /* words per block: even, 6..4096 */
+  NASTURAKH_ROW_LEADERS = 1, /* leader words of a block: 0..63, fewer than WPB */
+  NASTURAKH_ROW_KIND = 2,    /* 0 fixed, 1 variable */
+  NASTURAKH_ROW_WPR = 3,     /* words per fixed record; not looked at for variable ones */
+  NASTURAKH_ROW_BLOCK = 4,   /* the place: a block, counted from 0 */
+  NASTURAKH_ROW_AT = 5,      /* and a word of its data area, counted from 0 */
+  NASTURAKH_ROW_LEFT = 6,    /* GET: how many of those put are still to be read; PUT does not look at it */
+  NASTURAKH_ROW = 7          /* words in all */
+};
+
+/* PUT: the record in the workspace is written at the place, or at the start of the next block where it has no room there, and the place
+ * behind it is left in the row. The workspace has exactly WPR words, or for variable records exactly those of the data area, the record
+ * in its first ones. 0; 020007 (row, file or workspace wrong, or more than 2^32 - 1 blocks), 020012 or 070002, all unchanged. No
+ * transfers are counted. */
+uint64_t nasturakh_put(uint32_t *row, size_t row_words, uint32_t *file, size_t file_words, const uint32_t *workspace,
+                       size_t workspace_words);
+
+/* GET: the record at the place, or the first of the next block where none is left in this one, is put into the first words of the
+ * workspace; the place behind it and one less LEFT are left in the row. 0; 020007, 020012, or 030002 where none is left, all
+ * unchanged. */
+uint64_t nasturakh_get(uint32_t *row, size_t row_words, const uint32_t *file, size_t file_words, uint32_t *workspace,
+                       size_t workspace_words);
 
 #ifdef __cplusplus
 }

@@ -3,6 +3,7 @@
 mod copying;
 mod place;
 mod plan;
+mod rows;
 mod session;
 
 use numbers::WRONG_SIZE;

@@ -12,22 +12,25 @@ pub const NOT_FOUND: u32 = 1;
 pub const OUT_OF_SEQUENCE: u32 = 5;
 /// A parameter or a slice's length is wrong.
 pub const WRONG_SIZE: u32 = 0o020007;
+/// PUT, GET: the record is of length 0, or larger than the data area.
+pub const WRONG_LENGTH: u32 = 0o020012;
 /// OPEN or COPY of an open session.
 pub const ALREADY_OPEN: u32 = 0o020006;
 /// Another call on a closed session.
 pub const IS_CLOSED: u32 = 0o020005;
 /// A word of the workspace above 262143, or the reserved key.
 pub const WRONG_KEY: u32 = 0o030001;
-/// ADV: no record is left.
+/// ADV, GET: no record is left.
 pub const AT_END: u32 = 0o030002;
 /// Stored; but the record's block is now full and no block is free.
 pub const NONE_FREE: u32 = 0o070001;
-/// Not stored: too few blocks or sections are free.
+/// Not stored: too few blocks or sections are free; PUT: no block is left.
 pub const NO_ROOM: u32 = 0o070002;
 /// OPEN, COPY: not a good file; else a bad number in file or buffer.
 pub const BAD_FILE: u32 = 0o070003;
 
 const WORDS: usize = 73;
+const ROW: usize = 7;
 const IN_FILE: u64 = 1 << 32;
 const IN_BUFFER: u64 = 1 << 33;
 
@@ -82,6 +85,22 @@ mod raw {
             session_words: usize,
             plan: *const u32,
             plan_words: usize,
+        ) -> u64;
+        pub fn nasturakh_put(
+            row: *mut u32,
+            row_words: usize,
+            file: *mut u32,
+            file_words: usize,
+            work: *const u32,
+            work_words: usize,
+        ) -> u64;
+        pub fn nasturakh_get(
+            row: *mut u32,
+            row_words: usize,
+            file: *const u32,
+            file_words: usize,
+            work: *mut u32,
+            work_words: usize,
         ) -> u64;
     }
 
@@ -326,5 +345,66 @@ impl Session {
         updat, nasturakh_updat, &[u32], as_ptr;
         /// XTEND: the workspace's record put in behind all others.
         xtend, nasturakh_xtend, &[u32], as_ptr;
+    }
+}
+
+/// The records of a sequential file: all of the same number of words, or each led by its length.
+#[derive(Clone, Copy, Debug, PartialEq, Eq)]
+pub enum Records {
+    Fixed(u32),
+    Variable,
+}
+
+/// A place in a sequential file, from which records are put or read one after the other.
+#[derive(Clone, Debug, PartialEq, Eq)]
+pub struct Row {
+    words: [u32; ROW],
+}
+
+impl Row {
+    /// The start of a file of blocks of so many words, with so many leader words; `left` records have been put and are to be read.
+    pub fn new(wpb: u32, leaders: u32, records: Records, left: u32) -> Self {
+        let (kind, wpr) = match records {
+            Records::Fixed(wpr) => (0, wpr),
+            Records::Variable => (1, 0),
+        };
+        Self {
+            words: [wpb, leaders, kind, wpr, 0, 0, left],
+        }
+    }
+
+    /// How many are still to be read.
+    pub fn left(&self) -> u32 {
+        self.words[6]
+    }
+
+    /// PUT: the workspace's record behind the last one.
+    pub fn put(&mut self, file: &mut [u32], work: &[u32]) -> Answer {
+        // SAFETY: as for the calls of a session; the workspace is only read.
+        Answer::of(unsafe {
+            raw::nasturakh_put(
+                self.words.as_mut_ptr(),
+                ROW,
+                file.as_mut_ptr(),
+                file.len(),
+                work.as_ptr(),
+                work.len(),
+            )
+        })
+    }
+
+    /// GET: the next record to the workspace.
+    pub fn get(&mut self, file: &[u32], work: &mut [u32]) -> Answer {
+        // SAFETY: as for the calls of a session; the file is only read.
+        Answer::of(unsafe {
+            raw::nasturakh_get(
+                self.words.as_mut_ptr(),
+                ROW,
+                file.as_ptr(),
+                file.len(),
+                work.as_mut_ptr(),
+                work.len(),
+            )
+        })
     }
 }
