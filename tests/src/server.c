@@ -5,7 +5,7 @@
 #include <stdio.h>
 #include <stdlib.h>
 
-enum { CREATE, OPEN, CLOSE, SEEK, ADV, NSERT, DLETE, UPDAT, XTEND, VIEW, MOST, COPY };
+enum { CREATE, OPEN, CLOSE, SEEK, ADV, NSERT, DLETE, UPDAT, XTEND, VIEW, MOST, COPY, PUT, GET };
 enum { OF_SESSION, OF_FILE, OF_BUFFER, OF_WORKSPACE, OF_MARKS, SLICES };
 
 struct call {
@@ -50,6 +50,10 @@ static uint64_t perform(const struct call *c, void **slices) {
     return nasturakh_most_transfers(s, n[OF_SESSION], slices[OF_WORKSPACE], n[OF_WORKSPACE]);
   case COPY: /* the second file comes as the buffer, the new CONTROL as the block */
     return nasturakh_copy(s, n[OF_SESSION], f, n[OF_FILE], b, n[OF_BUFFER], c->block, slices[OF_MARKS], n[OF_MARKS]);
+  case PUT: /* the row comes as the session */
+    return nasturakh_put(s, n[OF_SESSION], f, n[OF_FILE], slices[OF_WORKSPACE], n[OF_WORKSPACE]);
+  case GET:
+    return nasturakh_get(s, n[OF_SESSION], f, n[OF_FILE], slices[OF_WORKSPACE], n[OF_WORKSPACE]);
   default:
     return on_record(c, s, f, b, slices[OF_WORKSPACE]);
   }

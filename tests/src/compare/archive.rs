@@ -18,6 +18,8 @@ extern "C" {
     fn nasturakh_xtend(session: *mut u32, words: usize, file: *mut u32, file_words: usize, buffer: *mut u32, buffer_words: usize, workspace: *mut u32, record: usize) -> u64;
     fn nasturakh_view(session: *const u32, words: usize, file: *const u32, file_words: usize, buffer: *const u32, buffer_words: usize, block: usize) -> u64;
     fn nasturakh_copy(session: *const u32, words: usize, file: *const u32, file_words: usize, second: *mut u32, second_words: usize, control: usize, marks: *mut u8, bytes: usize) -> u64;
+    fn nasturakh_put(row: *mut u32, words: usize, file: *mut u32, file_words: usize, workspace: *mut u32, record: usize) -> u64;
+    fn nasturakh_get(row: *mut u32, words: usize, file: *mut u32, file_words: usize, workspace: *mut u32, record: usize) -> u64;
     fn nasturakh_most_transfers(session: *const u32, words: usize, plan: *const u32, plan_words: usize) -> u64;
 }
 
@@ -107,4 +109,16 @@ pub fn copy(s: &mut State, second: &mut [u32], control: usize) -> u64 {
             l.marks.len(),
         )
     }
+}
+
+/// PUT of a sequential file.
+pub fn put(row: &mut [u32], file: &mut [u32], workspace: &mut [u32]) -> u64 {
+    // SAFETY: as above.
+    unsafe { nasturakh_put(row.as_mut_ptr(), row.len(), file.as_mut_ptr(), file.len(), workspace.as_mut_ptr(), workspace.len()) }
+}
+
+/// GET of a sequential file.
+pub fn get(row: &mut [u32], file: &mut [u32], workspace: &mut [u32]) -> u64 {
+    // SAFETY: as above.
+    unsafe { nasturakh_get(row.as_mut_ptr(), row.len(), file.as_mut_ptr(), file.len(), workspace.as_mut_ptr(), workspace.len()) }
 }

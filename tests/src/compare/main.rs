@@ -12,6 +12,7 @@ mod loose;
 mod plans;
 mod random;
 mod report;
+mod sequential;
 mod sessions;
 mod spoil;
 mod state;
@@ -43,12 +44,17 @@ fn round(seed: u64, tally: &mut report::Tallies) -> Result<(), Differs> {
     for _ in 0..60 {
         copies::compare(&kept[r.below(kept.len())].1, &mut r, &mut tally.copies)?;
     }
+    for _ in 0..100 {
+        sequential::list(&mut r, &mut tally.sequential)?;
+        sequential::made_up(&mut r, &mut tally.sequential)?;
+    }
     Ok(())
 }
 
 fn all(rounds: u64) -> Result<report::Tallies, Differs> {
     let mut tallies = report::Tallies::default();
     fifteen::compare(&mut Tally::default())?;
+    sequential::stored(&mut sequential::Tally::default())?;
     limits::most_blocks(&mut tallies.limits)?;
     known::compare(&mut tallies.copies)?;
     for seed in 0..rounds {

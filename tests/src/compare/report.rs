@@ -1,5 +1,6 @@
 //! What was tried: how often each number, each kind of split, each part of VIEW and each answer to a plan and a copy occurred.
 use crate::both::Tally;
+use crate::sequential;
 use nasturakh_tests::rules::{Event, Kind};
 
 #[derive(Default)]
@@ -11,11 +12,15 @@ pub struct Tallies {
     pub made_up: Tally,
     pub limits: Tally,
     pub copies: Tally,
+    pub sequential: sequential::Tally,
 }
 
 const NUMBERS: [u32; 11] = [0, 0o1, 0o5, 0o020005, 0o020006, 0o020007, 0o030001, 0o030002, 0o070001, 0o070002, 0o070003];
 
 const COPIES: [u32; 4] = [0, 0o020006, 0o020007, 0o070003];
+/// What PUT and GET can answer.
+const SEQUENTIAL: [(&str, u32); 8] =
+    [("Put", 0), ("Put", 0o020007), ("Put", 0o020012), ("Put", 0o070002), ("Get", 0), ("Get", 0o020007), ("Get", 0o020012), ("Get", 0o030002)];
 
 const EVENTS: [Event; 9] = [
     Event::DetailSplit,
@@ -66,6 +71,8 @@ fn missing(tallies: &Tallies) -> Vec<String> {
     let plans = [(&tallies.limits, "bound"), (&tallies.limits, "no plan"), (&tallies.sessions, "kept")];
     lacking.extend(plans.iter().filter(|(tally, kind)| !tally.plans.contains_key(kind)).map(|(_, kind)| kind.to_string()));
     lacking.extend(COPIES.iter().filter(|number| !tallies.copies.copies.contains_key(number)).map(|number| format!("a copy with {number:06o}")));
+    let rows = SEQUENTIAL.iter().filter(|answer| !tallies.sequential.contains_key(answer));
+    lacking.extend(rows.map(|(kind, number)| format!("{kind} {number:06o}")));
     lacking.extend(EVENTS.iter().filter(|e| !tallies.sessions.events.contains_key(e)).map(|e| format!("{e:?}")));
     lacking
 }
@@ -78,6 +85,10 @@ pub fn print(rounds: u64, tallies: &Tallies) {
     show("words made up", &tallies.made_up);
     show("parameters at their limits", &tallies.limits);
     show("files copied under another CONTROL", &tallies.copies);
+    println!("records in a row");
+    for ((kind, number), count) in &tallies.sequential {
+        println!("  {number:06o}  {kind} {count}");
+    }
     let lacking = missing(tallies);
     if !lacking.is_empty() {
         println!("NEVER OCCURRED: {}", lacking.join(", "));

@@ -9,6 +9,8 @@ use std::sync::Mutex;
 const VIEW: u64 = 9;
 const MOST: u64 = 10;
 const COPY: u64 = 11;
+const PUT: u64 = 12;
+const GET: u64 = 13;
 
 struct Server {
     to: BufWriter<ChildStdin>,
@@ -116,4 +118,25 @@ pub fn copy(s: &mut State, second: &mut [u32], control: usize) -> u64 {
     s.lent.file = lent.lent.file;
     s.lent.marks = lent.lent.marks;
     answer
+}
+
+/// A call of a sequential file. The row travels as the session.
+fn in_a_row(kind: u64, row: &mut [u32], file: &mut [u32], workspace: &mut [u32]) -> u64 {
+    let lent = Lent { file: file.to_vec(), buffer: Vec::new(), workspace: workspace.to_vec(), marks: Vec::new() };
+    let mut s = State { words: row.to_vec(), lent };
+    let answer = asked(kind, 0, &mut s);
+    row.copy_from_slice(&s.words);
+    file.copy_from_slice(&s.lent.file);
+    workspace.copy_from_slice(&s.lent.workspace);
+    answer
+}
+
+/// PUT of a sequential file.
+pub fn put(row: &mut [u32], file: &mut [u32], workspace: &mut [u32]) -> u64 {
+    in_a_row(PUT, row, file, workspace)
+}
+
+/// GET of a sequential file.
+pub fn get(row: &mut [u32], file: &mut [u32], workspace: &mut [u32]) -> u64 {
+    in_a_row(GET, row, file, workspace)
 }

@@ -1,4 +1,4 @@
-//! The ten calls of document 01, and the copying call.
+//! The ten calls of document 01, and of document 02 the copying call, PUT and GET.
 //!
 //! Each call first makes a plan from the words as they stood when it began, and only then stores:
 //! a plan that fails leaves everything as it was.
@@ -14,6 +14,7 @@ mod lookup;
 mod nsert;
 mod plan;
 mod rows;
+pub mod sequential;
 mod session;
 mod texts;
 mod xtend;
@@ -33,6 +34,7 @@ pub const OUT_OF_SEQUENCE: u32 = 0o5;
 pub const CLOSED: u32 = 0o020005;
 pub const ALREADY_OPEN: u32 = 0o020006;
 pub const WRONG_SIZE: u32 = 0o020007;
+pub const WRONG_LENGTH: u32 = 0o020012;
 pub const BAD_WORD: u32 = 0o030001;
 pub const END_REACHED: u32 = 0o030002;
 pub const STORED_FULL: u32 = 0o070001;
