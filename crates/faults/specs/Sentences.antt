@@ -13,7 +13,7 @@ use Rattle.faults.specs.declared.Fault.the-variants as faults
 use Rattle.faults.specs.declared.Parameter.{Parameter}
 use Rattle.faults.specs.declared.Parameter.the-variants.{Wpb, Wpr, K, Space, Control, N}
 
--- a byte that can be shown, and ? for any other
+-- a byte that can be shown, and a question mark for any other
 unfoldable pub visible : ℕ → ℕ
 visible b = cond (leb 33 b && leb b 126) b 63
 
