@@ -71,7 +71,7 @@ stored-accepted p n f = go (eqb n (D p) && eqb (freeCount f) 0)
     go true = refl
     go false = refl
 
-not-done : (n : ℕ) → accepted n ≡ false → eqb n done ≡ false
+pub not-done : (n : ℕ) → accepted n ≡ false → eqb n done ≡ false
 not-done n e = go (eqb n done) e
   where
     go : (t : Bool) → (t || eqb n noneFree) ≡ false → t ≡ false
@@ -169,7 +169,8 @@ calm st ss f (advancing w) e = (refl, refl)
 calm st ss f (inserting w) e = (ap (λ (t : Bool). cond t (history.stored w ∷ []) []) e, (accepts (answer st (inserting w)) false e, refl, refl))
 calm st ss f (deleting w) e = (ap (λ (t : Bool). cond t (history.removed (keyIn (desc st) w) ∷ []) []) (not-done (answer st (deleting w) .number) e), refl)
 calm st ss f (updating w) e = (ap (λ (t : Bool). cond t (history.stored w ∷ []) []) e, refl)
-calm st ss f (extending w) e = (ap (λ (t : Bool). cond t (history.stored w ∷ []) []) e, (accepts (answer st (extending w)) false e, refl, refl))
+calm st ss f (extending w) e =
+    (ap (λ (t : Bool). cond t (history.stored w ∷ []) []) e, (accepts (answer st (extending w)) false e, refl, refl, omega arith, omega arith))
 
 -- ---- refusals: the state is as it was given
 
@@ -311,14 +312,16 @@ module _ (st : State) (ss : List Section) (f : Free) where
         go L (x.too-low-alone e l g) = none-step (extending w) w outOfSequence 4 g refl (omega arith)
         go L (x.no-room l m g) = none-step (extending w) w noRoom 4 g refl (omega arith)
         go L (x.room l g) =
-            put-step (extending w) w refl kw _ 4 aRecord g (stored-accepted (desc st) _ f) (λ b. (b, refl, refl)) (omega arith)
+            put-step (extending w) w refl kw _ 4 aRecord g (stored-accepted (desc st) _ f) (λ b. (b, refl, refl, omega arith, omega arith)) (omega arith)
             (record-blocks (lending w st) ss f L) (λ e d h. record-filled (lending w st) ss f L h l)
         go L (x.started l m s g) =
-            put-step (extending w) w refl kw _ 7 aStart g (stored-accepted (desc st) _ (taken f)) (λ b. (b, refl, refl)) (omega arith)
+            put-step (extending w) w refl kw _ 7 aStart g (stored-accepted (desc st) _ (taken f)) (λ b. (b, refl, refl, omega arith, omega arith))
+            (omega arith)
             (start-blocks (lending w st) ss f L)
             (λ e d z. start-filled (lending w st) ss f L z (h .kept .good) l m)
         go L (x.both l m s c g) =
-            put-step (extending w) w refl kw _ 8 bothStart g (stored-accepted (desc st) _ (taken (taken f))) (λ b. (b, refl, refl)) (omega arith)
+            put-step (extending w) w refl kw _ 8 bothStart g (stored-accepted (desc st) _ (taken (taken f))) (λ b. (b, refl, refl, omega arith, omega arith))
+            (omega arith)
             (start-both-blocks (lending w st) ss f L)
             (λ e d z. start-both-filled (lending w st) ss f L z (h .kept .good) l m)
 

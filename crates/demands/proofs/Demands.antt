@@ -81,7 +81,7 @@ create-file p f = go (goodParams p && eqb (length f) (fileSize p))
     go true e = refl
     go false e = absurd (omega arith)
 
-fresh-counts : (p : Description) → (counts (leavesIn (freshTree p .sections)) ≡ 1 ∷ []) × (sizes (freshTree p .sections) ≡ 1 ∷ [])
+pub fresh-counts : (p : Description) → (counts (leavesIn (freshTree p .sections)) ≡ 1 ∷ []) × (sizes (freshTree p .sections) ≡ 1 ∷ [])
 unfolding counts sizes freshTree freshSection freshLeaf
 fresh-counts p = (refl, refl)
 

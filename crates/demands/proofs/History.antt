@@ -52,7 +52,7 @@ module _ {A : Type 0} (key : A → ℕ) where
 
   module _ (x top : ℕ) (xs : List A) (h : Asc key 0 xs top) (u : x < top) where
     -- the list, cut around x
-    cut : below key x xs ++ (hit key x xs ++ from key (suc x) xs) ≡ xs
+    pub cut : below key x xs ++ (hit key x xs ++ from key (suc x) xs) ≡ xs
     unfolding hit
     cut =
         ap (λ (z : List A). below key x xs ++ z)

@@ -118,3 +118,9 @@ pub mod Position
 pub mod Answering
 pub mod Occurs
 pub mod Copies
+pub mod OnlyNserts
+pub mod Lost
+pub mod HalfFull
+pub mod Full
+pub mod JustFull
+pub mod Space

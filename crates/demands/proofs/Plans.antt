@@ -17,7 +17,7 @@ use Rattle.demands.proofs.Within.{ran-within, ran-good}
 use Rattle.demands.proofs.Demands.{after-create}
 
 -- so many at a price of a, out of m or fewer
-bought : (a n m most : ℕ) → 0 < a → a * n ≤ m → m ≤ most → n ≤ most / a
+pub bought : (a n m most : ℕ) → 0 < a → a * n ≤ m → m ≤ most → n ≤ most / a
 bought a n m most p h l = le-div-iff-mul-le p .1 (omega (arith, mul-comm a n))
 
 -- the shares of a run, kind by kind

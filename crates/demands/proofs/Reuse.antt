@@ -90,10 +90,25 @@ larger-left a b l = go (decLe a b)
     go (yes e) = larger-right a b e ∙ omega arith
     go (no n) = unfold larger in simp (lt-leb a b (omega arith))
 
-larger-least : (a b c : ℕ) → a ≤ c → b ≤ c → larger a b ≤ c
+pub larger-least : (a b c : ℕ) → a ≤ c → b ≤ c → larger a b ≤ c
 larger-least a b c l m = go (decLe a b)
   where
     go : Dec (a ≤ b) → larger a b ≤ c
+    go (yes e) = omega (arith, larger-right a b e)
+    go (no n) = omega (arith, larger-left a b (omega arith))
+
+-- it is no less than either
+pub larger-first : (a b : ℕ) → a ≤ larger a b
+larger-first a b = go (decLe a b)
+  where
+    go : Dec (a ≤ b) → a ≤ larger a b
+    go (yes e) = omega (arith, larger-right a b e)
+    go (no n) = omega (arith, larger-left a b (omega arith))
+
+pub larger-second : (a b : ℕ) → b ≤ larger a b
+larger-second a b = go (decLe a b)
+  where
+    go : Dec (a ≤ b) → b ≤ larger a b
     go (yes e) = omega (arith, larger-right a b e)
     go (no n) = omega (arith, larger-left a b (omega arith))
 
@@ -179,7 +194,7 @@ peak-run (q ∷ qs) st ss f h =
     (r .1) (below-words st′ (z .sections) (z .free) (z .sound)) (peak-most st′ qs)
 
 -- OPEN leaves the file as it is
-opened-file : (st : State) (marks : List ℕ) → openFile st marks .outcome .after .file ≡ st .file
+pub opened-file : (st : State) (marks : List ℕ) → openFile st marks .outcome .after .file ≡ st .file
 unfolding openFile openDone openLayout
 opened-file st marks = go (openChecks st marks)
   where

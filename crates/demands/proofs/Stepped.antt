@@ -23,7 +23,7 @@ use Rattle.demands.proofs.History.{Change, puts, drops, happened}
 use Rattle.demands.proofs.Moves.{treeIn}
 use Rattle.demands.proofs.Growth.{Growth, nothing, Grows}
 
--- what a call may bring: NSERT splits and XTEND starts, with a record where it is accepted; the others bring nothing
+-- what a call may bring: NSERT splits and XTEND starts, with a record where it is accepted; XTEND that is not, and the others, bring nothing
 abbrev pub Brought : Request → Outcome → Growth → Type 0
 Brought (opening marks) o g = g ≡ nothing
 Brought closing o g = g ≡ nothing
@@ -32,7 +32,8 @@ Brought (advancing w) o g = g ≡ nothing
 Brought (inserting w) o g = (g .records ≡ acceptedBy o) × (g .starts ≡ 0) × (g .index-starts ≡ 0)
 Brought (deleting w) o g = g ≡ nothing
 Brought (updating w) o g = g ≡ nothing
-Brought (extending w) o g = (g .records ≡ acceptedBy o) × (g .splits ≡ 0) × (g .index-splits ≡ 0)
+Brought (extending w) o g =
+    (g .records ≡ acceptedBy o) × (g .splits ≡ 0) × (g .index-splits ≡ 0) × (g .starts ≤ acceptedBy o) × (g .index-starts ≤ acceptedBy o)
 
 -- the transfers that a call may make which brings g
 abbrev pub most : Request → Growth → ℕ

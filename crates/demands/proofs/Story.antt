@@ -74,7 +74,7 @@ module _ (st : State) (ss : List Section) (f : Free) (h : Sound st ss f) where
       (asc-rows (desc (o .after)) _ _ ss′ f′ (g .sound .kept .holds)) in
       ap (λ (n : ℕ). hit K n rows) (sym (work-key p w)) ∙ ins-fresh K 0 w rows end (subst (λ (z : List (List ℕ)). Asc K 0 z end) (g .contents-is) up)
 
-  nsert-fresh : (w : List ℕ) → accepted (answer st (inserting w) .number) ≡ true → hit K (val (keyIn p w)) rows ≡ []
+  pub nsert-fresh : (w : List ℕ) → accepted (answer st (inserting w) .number) ≡ true → hit K (val (keyIn p w)) rows ≡ []
   unfolding answer lending nsert
   nsert-fresh w a = go (gate (lending w st) ss f (lent-sound w st ss f h) (p .wpr))
     where
@@ -107,7 +107,7 @@ module _ (st : State) (ss : List Section) (f : Free) (h : Sound st ss f) where
           impossible (sym a ∙ ap (λ (o : Outcome). accepted (o .number)) (e (xtendSteps (texts (lending w st)) (st .session .flag) w)) ∙ ac)
       go (ready r) = let z = x.xtend-right (lending w st) ss f r in by (z .0) (z .1)
 
-  updat-there : (w : List ℕ) → accepted (answer st (updating w) .number) ≡ true → (y : List ℕ) × (hit K (val (keyIn p w)) rows ≡ y ∷ [])
+  pub updat-there : (w : List ℕ) → accepted (answer st (updating w) .number) ≡ true → (y : List ℕ) × (hit K (val (keyIn p w)) rows ≡ y ∷ [])
   unfolding answer lending updat
   updat-there w a = go (gate (lending w st) ss f (lent-sound w st ss f h) (p .wpr))
     where

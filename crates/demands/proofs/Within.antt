@@ -27,12 +27,12 @@ use Rattle.demands.proofs.Stepped.{Brought, Stepped}
 -- ---- one call
 
 -- what it brought can be seen from the call, its answer and the file's words
-record Seen (st : State) (q : Request) (o : Outcome) (g : Growth) : Type 0 where
-  records : ofNsert (acceptedBy o) q + ofXtend (acceptedBy o) q ≡ g .records
-  splits : ofNsert (newDetails st o) q ≡ g .splits
-  index-splits : ofNsert (newIndexes st o) q ≡ g .index-splits
-  starts : ofXtend (newDetails st o) q ≡ g .starts
-  index-starts : ofXtend (newIndexes st o) q ≡ g .index-starts
+pub record Seen (st : State) (q : Request) (o : Outcome) (g : Growth) : Type 0 where
+  pub records : ofNsert (acceptedBy o) q + ofXtend (acceptedBy o) q ≡ g .records
+  pub splits : ofNsert (newDetails st o) q ≡ g .splits
+  pub index-splits : ofNsert (newIndexes st o) q ≡ g .index-splits
+  pub starts : ofXtend (newDetails st o) q ≡ g .starts
+  pub index-starts : ofXtend (newIndexes st o) q ≡ g .index-starts
 
 sees : (st : State) (q : Request) (o : Outcome) (g : Growth) → Brought q o g → newDetails st o ≡ g .splits + g .starts
     → newIndexes st o ≡ g .index-splits + g .index-starts
@@ -68,7 +68,7 @@ module _ (st : State) (ss : List Section) (f : Free) (h : Sound st ss f) (q : Re
   pub call-within : CallWithin st q
   call-within = rw (new-details, new-indexes) (z .cost)
 
-  seen : Seen st q (answer st q) (z .growth)
+  pub seen : Seen st q (answer st q) (z .growth)
   seen = sees st q (answer st q) (z .growth) (z .brought) new-details new-indexes
 
 -- ---- a run of calls
@@ -77,7 +77,7 @@ module _ (st : State) (ss : List Section) (f : Free) (h : Sound st ss f) (q : Re
 abbrev pub brings : State → List Request → Growth
 brings st qs = grown (M st qs) (S st qs) (X st qs) (s st qs) (x st qs)
 
-tally-same : (p : Description) (ss : List Section) (g h : Growth) → g .records ≡ h .records → g .splits ≡ h .splits → g .starts ≡ h .starts
+pub tally-same : (p : Description) (ss : List Section) (g h : Growth) → g .records ≡ h .records → g .splits ≡ h .splits → g .starts ≡ h .starts
     → g .index-splits ≡ h .index-splits → g .index-starts ≡ h .index-starts → Tally p ss g → Tally p ss h
 tally-same p ss g h a b c d e t = record {
   leaves = paid-same (D p) (FD p) _ _ _ _ _ _ _ _ refl a b c (t .leaves);

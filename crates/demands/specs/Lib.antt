@@ -30,3 +30,5 @@ pub mod Position
 pub mod Answering
 pub mod Names
 pub mod Copies
+pub mod Full
+pub mod Space
