@@ -19,8 +19,8 @@
  *
  * THREADS. Any thread may call, and any number at once, as long as no two calls share a slice: one call at a time on one session.
  *
- * ANSWERS. Every function but nasturakh_view and nasturakh_most_transfers returns transfers * 2^32 + number. Numbers are octal; the first
- * that applies is given.
+ * ANSWERS. Every function but nasturakh_view and the three nasturakh_most_.. returns transfers * 2^32 + number. Numbers are octal; the
+ * first that applies is given.
  */
 #ifndef NASTURAKH_H
 #define NASTURAKH_H
@@ -149,6 +149,15 @@ enum {
  * word 6, 8 or 9 above 1, a parameter out of range, or a plan of another length. Nothing is written. */
 #define NASTURAKH_NO_PLAN UINT64_MAX
 uint64_t nasturakh_most_transfers(const uint32_t *session, size_t session_words, const uint32_t *plan, size_t plan_words);
+
+/* The space of so many names that NSERT puts in, in any order: the most blocks that they take, detail and index blocks together, and the
+ * most sections. From a CREATE and then an OPEN that both answer 0, with this session's WPB, WPR and K, as long as no DLETE and no XTEND is
+ * accepted, no more are in use; and with N and CONTROL no less, no NSERT answers 070002 before so many were accepted. The session's own N
+ * and CONTROL must be in range (2 and 1 will do), and are not looked at else. Plain numbers, not transfers * 2^32 + number.
+ * NASTURAKH_NO_PLAN, which no number of names takes: a session slice of another length, its word 6, 8 or 9 above 1, or a parameter out of
+ * range. Nothing is written. */
+uint64_t nasturakh_most_blocks(const uint32_t *session, size_t session_words, uint32_t names);
+uint64_t nasturakh_most_sections(const uint32_t *session, size_t session_words, uint32_t names);
 
 /* SEQUENTIAL FILES, for lists as they are delivered. A file is whole blocks of WPB words, without a master; a block is its leader words,
  * which are the caller's, and then the data area of WPB - LEADERS words. Fixed records stand one behind the other, as many whole ones as

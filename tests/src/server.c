@@ -5,7 +5,7 @@
 #include <stdio.h>
 #include <stdlib.h>
 
-enum { CREATE, OPEN, CLOSE, SEEK, ADV, NSERT, DLETE, UPDAT, XTEND, VIEW, MOST, COPY, PUT, GET };
+enum { CREATE, OPEN, CLOSE, SEEK, ADV, NSERT, DLETE, UPDAT, XTEND, VIEW, MOST, COPY, PUT, GET, BLOCKS, SECTIONS };
 enum { OF_SESSION, OF_FILE, OF_BUFFER, OF_WORKSPACE, OF_MARKS, SLICES };
 
 struct call {
@@ -48,6 +48,10 @@ static uint64_t perform(const struct call *c, void **slices) {
     return nasturakh_view(s, n[OF_SESSION], f, n[OF_FILE], b, n[OF_BUFFER], c->block);
   case MOST: /* the plan comes as the workspace */
     return nasturakh_most_transfers(s, n[OF_SESSION], slices[OF_WORKSPACE], n[OF_WORKSPACE]);
+  case BLOCKS: /* the names come as the block */
+    return nasturakh_most_blocks(s, n[OF_SESSION], (uint32_t)c->block);
+  case SECTIONS:
+    return nasturakh_most_sections(s, n[OF_SESSION], (uint32_t)c->block);
   case COPY: /* the second file comes as the buffer, the new CONTROL as the block */
     return nasturakh_copy(s, n[OF_SESSION], f, n[OF_FILE], b, n[OF_BUFFER], c->block, slices[OF_MARKS], n[OF_MARKS]);
   case PUT: /* the row comes as the session */

@@ -10,3 +10,4 @@ pub mod Stepped
 pub mod Runs
 pub mod OneResult
 pub mod CopyTold
+pub mod MostSpace

@@ -43,7 +43,7 @@ module _ (x : Returned) (ok : isSession (x .session) ≡ true) (c : Call) (p : c
   rest-is : {A : Type 0} (g : State → A) (a : A) → a ≡ g (stateIn (c .gave)) → a ≡ g (answer (stateIn x) (c .request) .after)
   rest-is g a e = e ∙ ap g (step-state x ok (c .request) (c .gave) p)
 
-run-session : (cs : List Call) (x : Returned) → isSession (x .session) ≡ true → Promises x cs → isSession (last x cs .session) ≡ true
+pub run-session : (cs : List Call) (x : Returned) → isSession (x .session) ≡ true → Promises x cs → isSession (last x cs .session) ≡ true
 unfolding last
 run-session [] x ok p = ok
 run-session (c ∷ cs) x ok p = run-session cs (c .gave) (step-session x ok (c .request) (c .gave) (p .0)) (p .1)
@@ -55,7 +55,7 @@ run-seen (c ∷ cs) x ok p =
     let n = run-seen cs (c .gave) (step-session x ok (c .request) (c .gave) (p .0)) (p .1) in
     ap₂ (λ (t : Turn) (ts : List Turn). t ∷ ts) (turn-is x ok c (p .0)) (rest-is x ok c (p .0) (λ st. turns st (requests cs)) (seen cs) n)
 
-run-leaves : (cs : List Call) (x : Returned) → isSession (x .session) ≡ true → Promises x cs → stateIn (last x cs) ≡ left (stateIn x) (requests cs)
+pub run-leaves : (cs : List Call) (x : Returned) → isSession (x .session) ≡ true → Promises x cs → stateIn (last x cs) ≡ left (stateIn x) (requests cs)
 unfolding last left requests
 run-leaves [] x ok p = refl
 run-leaves (c ∷ cs) x ok p =
@@ -120,10 +120,10 @@ archive-after-open P h x marks o cs p e ps =
 -- ---- from CREATE and OPEN on
 
 module _ (x made : Returned) (marks : List ℕ) (o : Returned) (b : Begins x made marks o) where
-  abbrev s : Session
+  abbrev pub s : Session
   s = sessionOf (x .session)
 
-  abbrev new : Created
+  abbrev pub new : Created
   new = create (s .desc) (x .file)
 
   create-was : isSession (x .session) ≡ true
@@ -139,26 +139,26 @@ module _ (x made : Returned) (marks : List ℕ) (o : Returned) (b : Begins x mad
       ∙ ap (λ (r : Returned). returned (r .answer) (r .session) (r .file) (x .buffer) (x .work)) (sym c)
       ∙ (λ j. returned (packed 0 (new .number)) (k j) (new .file) (x .buffer) (x .work))
 
-  abbrev fresh : State
+  abbrev pub fresh : State
   fresh = lent s (new .file) (x .buffer) (x .work)
 
   made-state : stateIn made ≡ fresh
   made-state = ap stateIn made-is
 
-  creates : new .number ≡ number-is.done
+  pub creates : new .number ≡ number-is.done
   creates =
       sym (number-unpacked 0 (new .number) (created-small (s .desc) (x .file))) ∙ sym (ap (λ (r : Returned). numberIn (r .answer)) made-is) ∙ b .created
 
-  fresh-opens : openFile fresh marks .outcome .number ≡ number-is.done
+  pub fresh-opens : openFile fresh marks .outcome .number ≡ number-is.done
   fresh-opens = ap (λ (st : State). openFile st marks .outcome .number) (sym made-state) ∙ open-answers made marks o (b .open-file) (b .opened)
 
-  opened-is : stateIn o ≡ openFile fresh marks .outcome .after
+  pub opened-is : stateIn o ≡ openFile fresh marks .outcome .after
   opened-is = open-state made marks o (b .open-file) (b .opened) ∙ ap (λ (st : State). openFile st marks .outcome .after) made-state
 
   within : (qs : List Request) → rule.Within (stateIn o) qs
   within qs = subst (λ (st : State). rule.Within st qs) (sym opened-is) (session-formula s (x .file) (x .buffer) (x .work) marks creates fresh-opens qs)
 
-  good : goodParams (desc (stateIn o)) ≡ true
+  pub good : goodParams (desc (stateIn o)) ≡ true
   good = subst (λ (st : State). goodParams (desc st) ≡ true) (sym opened-is) (opens fresh marks fresh-opens .sound .kept .good)
 
   plan-kept : (qs : List Request) (plan : Plan) → Keeps plan (stateIn o) qs → rule.allTransfers (stateIn o) qs ≤ planned (desc (stateIn o)) plan
@@ -166,7 +166,7 @@ module _ (x made : Returned) (marks : List ℕ) (o : Returned) (b : Begins x mad
       subst (λ (st : State). (plan : Plan) → Keeps plan st qs → rule.allTransfers st qs ≤ planned (desc st) plan) (sym opened-is)
       (plan-holds s (x .file) (x .buffer) (x .work) marks creates fresh-opens qs)
 
-  opened-session : isSession (o .session) ≡ true
+  pub opened-session : isSession (o .session) ≡ true
   opened-session = open-is made marks o (b .open-file) (b .opened)
 
   module _ (cs : List Call) (ps : Promises o cs) where

@@ -5,3 +5,4 @@ pub mod Plan
 pub mod OneResult
 pub mod Runs
 pub mod Copying
+pub mod Space

@@ -5,6 +5,7 @@ mod place;
 mod plan;
 mod rows;
 mod session;
+mod space;
 
 use numbers::WRONG_SIZE;
 use place::place_of;

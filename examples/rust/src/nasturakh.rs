@@ -86,6 +86,12 @@ mod raw {
             plan: *const u32,
             plan_words: usize,
         ) -> u64;
+        pub fn nasturakh_most_blocks(session: *const u32, session_words: usize, names: u32) -> u64;
+        pub fn nasturakh_most_sections(
+            session: *const u32,
+            session_words: usize,
+            names: u32,
+        ) -> u64;
         pub fn nasturakh_put(
             row: *mut u32,
             row_words: usize,
@@ -329,6 +335,20 @@ impl Session {
         let most = unsafe {
             raw::nasturakh_most_transfers(self.words.as_ptr(), WORDS, words.as_ptr(), words.len())
         };
+        (most != u64::MAX).then_some(most)
+    }
+
+    /// The most blocks that so many names take which NSERT puts in, in any order: N for them. None where a parameter is out of range.
+    pub fn most_blocks(&self, names: u32) -> Option<u64> {
+        // SAFETY: as for the other calls; the words are only read.
+        let most = unsafe { raw::nasturakh_most_blocks(self.words.as_ptr(), WORDS, names) };
+        (most != u64::MAX).then_some(most)
+    }
+
+    /// The most sections that they take: CONTROL for them.
+    pub fn most_sections(&self, names: u32) -> Option<u64> {
+        // SAFETY: as for the other calls; the words are only read.
+        let most = unsafe { raw::nasturakh_most_sections(self.words.as_ptr(), WORDS, names) };
         (most != u64::MAX).then_some(most)
     }
 

@@ -21,6 +21,8 @@ extern "C" {
     fn nasturakh_put(row: *mut u32, words: usize, file: *mut u32, file_words: usize, workspace: *mut u32, record: usize) -> u64;
     fn nasturakh_get(row: *mut u32, words: usize, file: *mut u32, file_words: usize, workspace: *mut u32, record: usize) -> u64;
     fn nasturakh_most_transfers(session: *const u32, words: usize, plan: *const u32, plan_words: usize) -> u64;
+    fn nasturakh_most_blocks(session: *const u32, words: usize, names: u32) -> u64;
+    fn nasturakh_most_sections(session: *const u32, words: usize, names: u32) -> u64;
 }
 
 fn closing(f: Closing, s: &mut State) -> u64 {
@@ -90,6 +92,18 @@ pub fn view(s: &State, block: usize) -> u64 {
 pub fn most_transfers(session: &[u32], plan: &[u32]) -> u64 {
     // SAFETY: as above; both are only read.
     unsafe { nasturakh_most_transfers(session.as_ptr(), session.len(), plan.as_ptr(), plan.len()) }
+}
+
+/// The blocks that so many names take at most, or 2^64 - 1.
+pub fn most_blocks(session: &[u32], names: u32) -> u64 {
+    // SAFETY: as above; it is only read.
+    unsafe { nasturakh_most_blocks(session.as_ptr(), session.len(), names) }
+}
+
+/// The sections.
+pub fn most_sections(session: &[u32], names: u32) -> u64 {
+    // SAFETY: as above; it is only read.
+    unsafe { nasturakh_most_sections(session.as_ptr(), session.len(), names) }
 }
 
 /// Copies the state's file into the second one; the answer is the number.

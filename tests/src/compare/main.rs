@@ -14,6 +14,7 @@ mod random;
 mod report;
 mod sequential;
 mod sessions;
+mod space;
 mod spoil;
 mod state;
 
@@ -39,7 +40,9 @@ fn round(seed: u64, tally: &mut report::Tallies) -> Result<(), Differs> {
     }
     for _ in 0..20 {
         plans::compare(&mut r, &mut tally.limits)?;
+        space::compare(&mut r, &mut tally.limits)?;
     }
+    space::filled(&mut r, &mut tally.filled)?;
     limits::compare(&mut r, &mut tally.limits)?;
     for _ in 0..60 {
         copies::compare(&kept[r.below(kept.len())].1, &mut r, &mut tally.copies)?;
@@ -57,6 +60,7 @@ fn all(rounds: u64) -> Result<report::Tallies, Differs> {
     sequential::stored(&mut sequential::Tally::default())?;
     limits::most_blocks(&mut tallies.limits)?;
     known::compare(&mut tallies.copies)?;
+    space::stored(&mut tallies.filled)?;
     for seed in 0..rounds {
         round(seed, &mut tallies).map_err(|differs| format!("seed {seed}: {differs}"))?;
     }

@@ -8,14 +8,14 @@ use crate::state::{State, SESSION_WORDS};
 use nasturakh_tests::rules::{Answer, Description, Kind, Plan, DONE, STORED_FULL};
 
 /// What the archive says where there is no plan.
-const NO_PLAN: u64 = u64::MAX;
+pub const NO_PLAN: u64 = u64::MAX;
 
 /// The plan in the order of the archive's eight words.
 fn words(plan: &Plan) -> Vec<u32> {
     vec![plan.seek, plan.updat, plan.nsert, plan.adv, plan.dlete, plan.xtend, plan.close, plan.records]
 }
 
-fn any_count(r: &mut Random) -> u32 {
+pub fn any_count(r: &mut Random) -> u32 {
     match r.below(4) {
         0 => r.one_of(&[0, 1, u32::MAX - 1, u32::MAX]),
         1 => r.between(0, 100),
@@ -37,7 +37,7 @@ fn any_plan(r: &mut Random) -> Plan {
 }
 
 /// Session words with these parameters, and now and then no session.
-fn session_words(p: Description, r: &mut Random) -> Vec<u32> {
+pub fn session_words(p: Description, r: &mut Random) -> Vec<u32> {
     let mut words: Vec<u32> = [p.wpb, p.wpr, p.k, p.space, p.control, p.n].into_iter().collect();
     words.extend((6..SESSION_WORDS).map(|j| if matches!(j, 6 | 8 | 9) { r.between(0, 1) } else { r.next() as u32 }));
     match r.below(12) {
@@ -49,10 +49,13 @@ fn session_words(p: Description, r: &mut Random) -> Vec<u32> {
     words
 }
 
+pub fn is_session(session: &[u32]) -> bool {
+    session.len() == SESSION_WORDS && [6, 8, 9].iter().all(|&j| session[j] <= 1)
+}
+
 /// The rendering's bound, where there is a session, parameters in range and a plan of eight words.
 fn expected(session: &[u32], plan: &Plan, length: usize) -> Option<u128> {
-    let is_session = session.len() == SESSION_WORDS && [6, 8, 9].iter().all(|&j| session[j] <= 1);
-    if !is_session || length != 8 {
+    if !is_session(session) || length != 8 {
         return None;
     }
     let p = Description::from_words(session);

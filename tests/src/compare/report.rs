@@ -12,6 +12,7 @@ pub struct Tallies {
     pub made_up: Tally,
     pub limits: Tally,
     pub copies: Tally,
+    pub filled: Tally,
     pub sequential: sequential::Tally,
 }
 
@@ -68,7 +69,15 @@ fn missing(tallies: &Tallies) -> Vec<String> {
             lacking.push(format!("{number:06o}"));
         }
     }
-    let plans = [(&tallies.limits, "bound"), (&tallies.limits, "no plan"), (&tallies.sessions, "kept")];
+    let plans = [
+        (&tallies.limits, "bound"),
+        (&tallies.limits, "no plan"),
+        (&tallies.sessions, "kept"),
+        (&tallies.limits, "space"),
+        (&tallies.limits, "no space"),
+        (&tallies.filled, "half full"),
+        (&tallies.filled, "half full, sections"),
+    ];
     lacking.extend(plans.iter().filter(|(tally, kind)| !tally.plans.contains_key(kind)).map(|(_, kind)| kind.to_string()));
     lacking.extend(COPIES.iter().filter(|number| !tallies.copies.copies.contains_key(number)).map(|number| format!("a copy with {number:06o}")));
     let rows = SEQUENTIAL.iter().filter(|answer| !tallies.sequential.contains_key(answer));
@@ -85,6 +94,7 @@ pub fn print(rounds: u64, tallies: &Tallies) {
     show("words made up", &tallies.made_up);
     show("parameters at their limits", &tallies.limits);
     show("files copied under another CONTROL", &tallies.copies);
+    show("names in just their space", &tallies.filled);
     println!("records in a row");
     for ((kind, number), count) in &tallies.sequential {
         println!("  {number:06o}  {kind} {count}");

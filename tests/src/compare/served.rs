@@ -11,6 +11,8 @@ const MOST: u64 = 10;
 const COPY: u64 = 11;
 const PUT: u64 = 12;
 const GET: u64 = 13;
+const BLOCKS: u64 = 14;
+const SECTIONS: u64 = 15;
 
 struct Server {
     to: BufWriter<ChildStdin>,
@@ -101,12 +103,26 @@ pub fn view(s: &State, block: usize) -> u64 {
 
 /// A bound for the plan, or 2^64 - 1. The plan travels as the workspace.
 pub fn most_transfers(session: &[u32], plan: &[u32]) -> u64 {
+    planned(MOST, 0, session, plan)
+}
+
+fn planned(kind: u64, names: u64, session: &[u32], plan: &[u32]) -> u64 {
     let lent = Lent { file: Vec::new(), buffer: Vec::new(), workspace: plan.to_vec(), marks: Vec::new() };
     let s = State { words: session.to_vec(), lent };
     let mut left = s.clone();
-    let answer = asked(MOST, 0, &mut left);
+    let answer = asked(kind, names, &mut left);
     assert!(left == s, "a word was changed");
     answer
+}
+
+/// The blocks that so many names take at most, or 2^64 - 1. The names travel as the block.
+pub fn most_blocks(session: &[u32], names: u32) -> u64 {
+    planned(BLOCKS, u64::from(names), session, &[])
+}
+
+/// The sections.
+pub fn most_sections(session: &[u32], names: u32) -> u64 {
+    planned(SECTIONS, u64::from(names), session, &[])
 }
 
 /// Copies the state's file into the second one; the answer is the number. The second file travels as the buffer, the new CONTROL as the block.

@@ -16,6 +16,7 @@ mod plan;
 mod rows;
 pub mod sequential;
 mod session;
+mod space;
 mod texts;
 mod xtend;
 
@@ -24,6 +25,7 @@ pub use description::Description;
 pub use layout::inspect;
 pub use plan::Plan;
 pub use session::{create, Session};
+pub use space::Space;
 
 /// The largest word, and each word of the key ONES.
 pub const ONES: u32 = 262143;
