@@ -1,0 +1,10 @@
+pub mod Rows
+pub mod Turns
+pub mod Refusing
+pub mod OneResult
+pub mod Blind
+pub mod Singles
+pub mod Refused
+pub mod TraySingles
+pub mod Runs
+pub mod Demands

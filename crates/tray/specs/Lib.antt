@@ -1,0 +1,4 @@
+pub mod Tray
+pub mod Promise
+pub mod Singles
+pub mod Runs
