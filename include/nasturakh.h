@@ -12,6 +12,7 @@
  *   workspace  exactly WPR words: the record, or for SEEK and DLETE the key in its first K words (the others are not read)
  *   marks      exactly N bytes
  *   plan       exactly 8 words, see nasturakh_most_transfers
+ *   tray       exactly 1 + count * WPR words, see nasturakh_nsert_tray; told there: exactly 2 numbers of 64 bits
  *   row        exactly 7 words, see nasturakh_put; file and workspace there have lengths of their own
  * A slice whose length is wrong is refused by 020007; so no length reads or writes outside what it says.
  *
@@ -19,8 +20,8 @@
  *
  * THREADS. Any thread may call, and any number at once, as long as no two calls share a slice: one call at a time on one session.
  *
- * ANSWERS. Every function but nasturakh_view and the three nasturakh_most_.. returns transfers * 2^32 + number. Numbers are octal; the
- * first that applies is given.
+ * ANSWERS. Every function but nasturakh_view, the three nasturakh_most_.. and nasturakh_nsert_tray returns transfers * 2^32 + number;
+ * nasturakh_nsert_tray returns the number alone. Numbers are octal; the first that applies is given.
  */
 #ifndef NASTURAKH_H
 #define NASTURAKH_H
@@ -100,6 +101,33 @@ uint64_t nasturakh_adv(uint32_t *session, size_t session_words, uint32_t *file, 
 /* NSERT: the workspace's record is put in, unless its key is there. 0, 1, 070001, 070002, or a refusal. */
 uint64_t nasturakh_nsert(uint32_t *session, size_t session_words, uint32_t *file, size_t file_words, uint32_t *buffer,
                          size_t buffer_words, const uint32_t *workspace, size_t workspace_words);
+
+/* A tray: NSERT of each of its records in turn, up to the first answer that is neither 0 nor 070001; what was stored stays. Word 0 of the
+ * tray says how many records follow, each of WPR words, in any order. Returns the number of the last NSERT, 0 where there is no record;
+ * 070001 on the way is not told if a later record is stored with 0. told[NASTURAKH_TOLD_TRANSFERS] is the transfers of all its NSERTs,
+ * told[NASTURAKH_TOLD_STORED] how many were stored. File, buffer and session are as the single NSERTs would leave them, and each NSERT
+ * made counts as one in a plan. 020007, also where the tray's length is not 1 + word 0 * WPR; 020005; both with told 0 and 0. Where the
+ * session slice is none, or told has not 2 numbers, 020007 and told is left as it is.
+ *
+ * Forty names in one call:
+ *
+ *   uint32_t tray[1 + 40 * 3];            // WPR is 3
+ *   uint64_t told[NASTURAKH_TOLD];
+ *   tray[0] = 40;
+ *   for (size_t i = 0; i < 40; i++)
+ *     memcpy(tray + 1 + i * 3, names[i], 3 * sizeof(uint32_t));
+ *   uint64_t number = nasturakh_nsert_tray(session, NASTURAKH_SESSION, file, file_words, buffer, buffer_words, tray, 1 + 40 * 3, told,
+ *                                          NASTURAKH_TOLD);
+ *   if (number != NASTURAKH_DONE && number != NASTURAKH_NONE_FREE)
+ *     report(names[told[NASTURAKH_TOLD_STORED]], number);   // the one that stopped it; those behind it were not tried
+ */
+enum {
+  NASTURAKH_TOLD_TRANSFERS = 0,
+  NASTURAKH_TOLD_STORED = 1,
+  NASTURAKH_TOLD = 2 /* numbers in all */
+};
+uint64_t nasturakh_nsert_tray(uint32_t *session, size_t session_words, uint32_t *file, size_t file_words, uint32_t *buffer,
+                              size_t buffer_words, const uint32_t *tray, size_t tray_words, uint64_t *told, size_t told_words);
 
 /* DLETE: the record with the workspace's key is taken out. 0, 1, or a refusal. */
 uint64_t nasturakh_dlete(uint32_t *session, size_t session_words, uint32_t *file, size_t file_words, uint32_t *buffer,

@@ -13,6 +13,7 @@ mod nasturakh;
 mod ours;
 mod report;
 mod sections;
+mod trays;
 mod tree;
 
 use engine::{run, Times};
@@ -94,6 +95,9 @@ fn main() {
     let rounds = words.iter().find_map(|w| w.parse().ok()).unwrap_or(7);
     if words.iter().any(|w| w == "sections") {
         return sections::report(rounds);
+    }
+    if words.iter().any(|w| w == "trays") {
+        return trays::report(rounds);
     }
     let only = words.iter().any(|w| w == "ours");
     let work = Work::new(words.iter().any(|w| w == "alike"));

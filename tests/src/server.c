@@ -5,7 +5,7 @@
 #include <stdio.h>
 #include <stdlib.h>
 
-enum { CREATE, OPEN, CLOSE, SEEK, ADV, NSERT, DLETE, UPDAT, XTEND, VIEW, MOST, COPY, PUT, GET, BLOCKS, SECTIONS };
+enum { CREATE, OPEN, CLOSE, SEEK, ADV, NSERT, DLETE, UPDAT, XTEND, VIEW, MOST, COPY, PUT, GET, BLOCKS, SECTIONS, TRAY };
 enum { OF_SESSION, OF_FILE, OF_BUFFER, OF_WORKSPACE, OF_MARKS, SLICES };
 
 struct call {
@@ -58,6 +58,9 @@ static uint64_t perform(const struct call *c, void **slices) {
     return nasturakh_put(s, n[OF_SESSION], f, n[OF_FILE], slices[OF_WORKSPACE], n[OF_WORKSPACE]);
   case GET:
     return nasturakh_get(s, n[OF_SESSION], f, n[OF_FILE], slices[OF_WORKSPACE], n[OF_WORKSPACE]);
+  case TRAY: /* the tray comes as the workspace, what is told as the marks */
+    return nasturakh_nsert_tray(s, n[OF_SESSION], f, n[OF_FILE], b, n[OF_BUFFER], slices[OF_WORKSPACE], n[OF_WORKSPACE],
+                                slices[OF_MARKS], n[OF_MARKS] / sizeof(uint64_t));
   default:
     return on_record(c, s, f, b, slices[OF_WORKSPACE]);
   }

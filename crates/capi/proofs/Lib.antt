@@ -11,3 +11,4 @@ pub mod Runs
 pub mod OneResult
 pub mod CopyTold
 pub mod MostSpace
+pub mod TrayTold

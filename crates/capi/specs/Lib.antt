@@ -6,3 +6,4 @@ pub mod OneResult
 pub mod Runs
 pub mod Copying
 pub mod Space
+pub mod Tray

@@ -6,6 +6,7 @@ mod plan;
 mod rows;
 mod session;
 mod space;
+mod trays;
 
 use numbers::WRONG_SIZE;
 use place::place_of;

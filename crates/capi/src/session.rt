@@ -73,7 +73,7 @@ fn bit(x: bool) -> u32
 }
 
 // Writes a session over the words of one with the same parameters.
-fn put_session(words: &mut [u32], s: Session)
+pub fn put_session(words: &mut [u32], s: Session)
     requires { ⌜ (length (now words) ≡ 73) × (parametersIn (now words) ≡ s .desc) × (s .current ≤ mostWord) ⌝ }
     ensures { λ _. ⌜ became words ≡ wordsOf (held s) ⌝ }
 {
@@ -85,7 +85,7 @@ fn put_session(words: &mut [u32], s: Session)
     words[9] = bit(s.placed);
 }
 
-fn wide(x: u32) -> u64
+pub fn wide(x: u32) -> u64
     ensures { λ r. ⌜ r ≡ x ⌝ }
 {
     x as u64

@@ -80,6 +80,18 @@ mod raw {
             marks: *mut u8,
             marks_bytes: usize,
         ) -> u64;
+        pub fn nasturakh_nsert_tray(
+            session: *mut u32,
+            session_words: usize,
+            file: *mut u32,
+            file_words: usize,
+            buffer: *mut u32,
+            buffer_words: usize,
+            tray: *const u32,
+            tray_words: usize,
+            told: *mut u64,
+            told_words: usize,
+        ) -> u64;
         pub fn nasturakh_most_transfers(
             session: *const u32,
             session_words: usize,
@@ -179,6 +191,24 @@ impl Answer {
     }
 
     /// Whether the call did what it was asked to do: 0, or 070001, which stored as well.
+    pub fn is_done(self) -> bool {
+        self.number == DONE || self.number == NONE_FREE
+    }
+}
+
+/// What a tray comes to.
+#[derive(Clone, Copy, Debug, PartialEq, Eq)]
+pub struct Trayed {
+    /// Records stored: the first ones of the tray.
+    pub stored: u64,
+    /// The number of the last NSERT; 0 where there was none.
+    pub number: u32,
+    /// Block transfers made by all its NSERTs.
+    pub transfers: u64,
+}
+
+impl Trayed {
+    /// Whether every record was stored.
     pub fn is_done(self) -> bool {
         self.number == DONE || self.number == NONE_FREE
     }
@@ -316,6 +346,31 @@ impl Session {
                 marks.len(),
             )
         })
+    }
+
+    /// NSERT of each record of a tray in turn, up to the first that is not stored. Word 0 says how many records follow, each of WPR words.
+    pub fn nsert_tray(&mut self, file: &mut [u32], buffer: &mut [u32], tray: &[u32]) -> Trayed {
+        let mut told = [0; 2];
+        // SAFETY: as for the other calls; the tray is only read.
+        let number = unsafe {
+            raw::nasturakh_nsert_tray(
+                self.words.as_mut_ptr(),
+                WORDS,
+                file.as_mut_ptr(),
+                file.len(),
+                buffer.as_mut_ptr(),
+                buffer.len(),
+                tray.as_ptr(),
+                tray.len(),
+                told.as_mut_ptr(),
+                told.len(),
+            )
+        };
+        Trayed {
+            stored: told[1],
+            number: number as u32,
+            transfers: told[0],
+        }
     }
 
     /// The most transfers that a session with these parameters can make which keeps to the plan, from CREATE and OPEN on; none where a

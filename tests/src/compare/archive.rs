@@ -20,6 +20,7 @@ extern "C" {
     fn nasturakh_copy(session: *const u32, words: usize, file: *const u32, file_words: usize, second: *mut u32, second_words: usize, control: usize, marks: *mut u8, bytes: usize) -> u64;
     fn nasturakh_put(row: *mut u32, words: usize, file: *mut u32, file_words: usize, workspace: *mut u32, record: usize) -> u64;
     fn nasturakh_get(row: *mut u32, words: usize, file: *mut u32, file_words: usize, workspace: *mut u32, record: usize) -> u64;
+    fn nasturakh_nsert_tray(session: *mut u32, words: usize, file: *mut u32, file_words: usize, buffer: *mut u32, buffer_words: usize, tray: *const u32, tray_words: usize, told: *mut u64, told_words: usize) -> u64;
     fn nasturakh_most_transfers(session: *const u32, words: usize, plan: *const u32, plan_words: usize) -> u64;
     fn nasturakh_most_blocks(session: *const u32, words: usize, names: u32) -> u64;
     fn nasturakh_most_sections(session: *const u32, words: usize, names: u32) -> u64;
@@ -135,4 +136,24 @@ pub fn put(row: &mut [u32], file: &mut [u32], workspace: &mut [u32]) -> u64 {
 pub fn get(row: &mut [u32], file: &mut [u32], workspace: &mut [u32]) -> u64 {
     // SAFETY: as above.
     unsafe { nasturakh_get(row.as_mut_ptr(), row.len(), file.as_mut_ptr(), file.len(), workspace.as_mut_ptr(), workspace.len()) }
+}
+
+/// Puts in the records of a tray; the answer is the number alone.
+pub fn tray(s: &mut State, tray: &[u32], told: &mut [u64]) -> u64 {
+    let (w, l) = (&mut s.words, &mut s.lent);
+    // SAFETY: as above; the tray is only read.
+    unsafe {
+        nasturakh_nsert_tray(
+            w.as_mut_ptr(),
+            w.len(),
+            l.file.as_mut_ptr(),
+            l.file.len(),
+            l.buffer.as_mut_ptr(),
+            l.buffer.len(),
+            tray.as_ptr(),
+            tray.len(),
+            told.as_mut_ptr(),
+            told.len(),
+        )
+    }
 }

@@ -17,6 +17,7 @@ mod sessions;
 mod space;
 mod spoil;
 mod state;
+mod trays;
 
 use both::{Differs, Tally};
 use random::Random;
@@ -51,6 +52,11 @@ fn round(seed: u64, tally: &mut report::Tallies) -> Result<(), Differs> {
         sequential::list(&mut r, &mut tally.sequential)?;
         sequential::made_up(&mut r, &mut tally.sequential)?;
     }
+    for _ in 0..100 {
+        let (keys, state) = &kept[r.below(kept.len())];
+        trays::compare(keys, state, &mut r, &mut tally.trays)?;
+        trays::made_up(&mut r, &mut tally.trays)?;
+    }
     Ok(())
 }
 
@@ -58,6 +64,7 @@ fn all(rounds: u64) -> Result<report::Tallies, Differs> {
     let mut tallies = report::Tallies::default();
     fifteen::compare(&mut Tally::default())?;
     sequential::stored(&mut sequential::Tally::default())?;
+    trays::stored()?;
     limits::most_blocks(&mut tallies.limits)?;
     known::compare(&mut tallies.copies)?;
     space::stored(&mut tallies.filled)?;

@@ -1,6 +1,7 @@
-//! What was tried: how often each number, each kind of split, each part of VIEW and each answer to a plan and a copy occurred.
+//! What was tried: how often each number, each kind of split, each part of VIEW and each answer to a plan, a copy and a tray occurred.
 use crate::both::Tally;
 use crate::sequential;
+use crate::trays;
 use nasturakh_tests::rules::{Event, Kind};
 
 #[derive(Default)]
@@ -14,6 +15,7 @@ pub struct Tallies {
     pub copies: Tally,
     pub filled: Tally,
     pub sequential: sequential::Tally,
+    pub trays: trays::Tally,
 }
 
 const NUMBERS: [u32; 11] = [0, 0o1, 0o5, 0o020005, 0o020006, 0o020007, 0o030001, 0o030002, 0o070001, 0o070002, 0o070003];
@@ -22,6 +24,9 @@ const COPIES: [u32; 4] = [0, 0o020006, 0o020007, 0o070003];
 /// What PUT and GET can answer.
 const SEQUENTIAL: [(&str, u32); 8] =
     [("Put", 0), ("Put", 0o020007), ("Put", 0o020012), ("Put", 0o070002), ("Get", 0), ("Get", 0o020007), ("Get", 0o020012), ("Get", 0o030002)];
+
+/// What a tray can answer.
+const TRAYS: [u32; 8] = [0, 0o1, 0o020005, 0o020007, 0o030001, 0o070001, 0o070002, 0o070003];
 
 const EVENTS: [Event; 9] = [
     Event::DetailSplit,
@@ -82,6 +87,7 @@ fn missing(tallies: &Tallies) -> Vec<String> {
     lacking.extend(COPIES.iter().filter(|number| !tallies.copies.copies.contains_key(number)).map(|number| format!("a copy with {number:06o}")));
     let rows = SEQUENTIAL.iter().filter(|answer| !tallies.sequential.contains_key(answer));
     lacking.extend(rows.map(|(kind, number)| format!("{kind} {number:06o}")));
+    lacking.extend(TRAYS.iter().filter(|number| !tallies.trays.contains_key(number)).map(|number| format!("a tray with {number:06o}")));
     lacking.extend(EVENTS.iter().filter(|e| !tallies.sessions.events.contains_key(e)).map(|e| format!("{e:?}")));
     lacking
 }
@@ -99,6 +105,8 @@ pub fn print(rounds: u64, tallies: &Tallies) {
     for ((kind, number), count) in &tallies.sequential {
         println!("  {number:06o}  {kind} {count}");
     }
+    let trays: Vec<String> = tallies.trays.iter().map(|(number, count)| format!("{number:06o} {count}")).collect();
+    println!("trays\n  {}", trays.join(", "));
     let lacking = missing(tallies);
     if !lacking.is_empty() {
         println!("NEVER OCCURRED: {}", lacking.join(", "));

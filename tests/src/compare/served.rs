@@ -13,6 +13,7 @@ const PUT: u64 = 12;
 const GET: u64 = 13;
 const BLOCKS: u64 = 14;
 const SECTIONS: u64 = 15;
+const TRAY: u64 = 16;
 
 struct Server {
     to: BufWriter<ChildStdin>,
@@ -155,4 +156,20 @@ pub fn put(row: &mut [u32], file: &mut [u32], workspace: &mut [u32]) -> u64 {
 /// GET of a sequential file.
 pub fn get(row: &mut [u32], file: &mut [u32], workspace: &mut [u32]) -> u64 {
     in_a_row(GET, row, file, workspace)
+}
+
+/// Puts in the records of a tray; the answer is the number alone. The tray travels as the workspace, what is told as the marks.
+pub fn tray(s: &mut State, tray: &[u32], told: &mut [u64]) -> u64 {
+    let marks = told.iter().flat_map(|figure| figure.to_le_bytes()).collect();
+    let lent = Lent { file: s.lent.file.clone(), buffer: s.lent.buffer.clone(), workspace: tray.to_vec(), marks };
+    let mut asking = State { words: s.words.clone(), lent };
+    let answer = asked(TRAY, 0, &mut asking);
+    assert!(asking.lent.workspace == tray, "a word of the tray was changed");
+    for (figure, eight) in told.iter_mut().zip(asking.lent.marks.chunks_exact(8)) {
+        *figure = u64::from_le_bytes(eight.try_into().expect("eight bytes"));
+    }
+    s.words = asking.words;
+    s.lent.file = asking.lent.file;
+    s.lent.buffer = asking.lent.buffer;
+    answer
 }

@@ -33,6 +33,16 @@ impl State {
         session.copy(&self.lent.file, second, control, &mut self.lent.marks)
     }
 
+    /// The rendering's tray: its number; told are the transfers and how many were stored.
+    pub fn tray(&mut self, tray: &[u32], told: &mut [u64]) -> u32 {
+        let Some(mut session) = decode(&self.words) else { return WRONG_SIZE };
+        let [transfers, stored] = told else { return WRONG_SIZE };
+        let trayed = session.nsert_tray(&mut self.lent, tray);
+        (*transfers, *stored) = (trayed.moves.len() as u64, trayed.stored as u64);
+        self.words = encode(&session);
+        trayed.number
+    }
+
     pub fn view(&self, block: usize) -> u64 {
         let Some(session) = decode(&self.words) else { return WRONG_SIZE as u64 };
         match session.view(&self.lent, block) {

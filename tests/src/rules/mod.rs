@@ -1,4 +1,4 @@
-//! The ten calls of document 01, and of document 02 the copying call, PUT and GET.
+//! The ten calls of document 01, and of document 02 the copying call, PUT and GET, and the tray.
 //!
 //! Each call first makes a plan from the words as they stood when it began, and only then stores:
 //! a plan that fails leaves everything as it was.
@@ -18,6 +18,7 @@ pub mod sequential;
 mod session;
 mod space;
 mod texts;
+mod tray;
 mod xtend;
 
 pub use answer::{Answer, Event, Kind, Lent, Move, Part};
@@ -26,6 +27,7 @@ pub use layout::inspect;
 pub use plan::Plan;
 pub use session::{create, Session};
 pub use space::Space;
+pub use tray::Trayed;
 
 /// The largest word, and each word of the key ONES.
 pub const ONES: u32 = 262143;
