@@ -1,5 +1,5 @@
 -- A full block divided: what its calls ask and leave.
-use mathlib.Core.Path.{_≡_, sym, ap, _∙_}
+use mathlib.Core.Path.{_≡_, ap, _∙_}
 use mathlib.Core.List.{List, [], _∷_, _++_}
 use Prim.Native.Nat.{ℕ, _+_, _-_, _*_, _≤_, _<_}
 use native.Mathlib.Omega.{arith}
@@ -14,12 +14,12 @@ use Rattle.table.specs.Splits.{lowCount, renamed}
 use Rattle.table.proofs.Places.{row-lt}
 use Rattle.table.proofs.Lengths.{low-least, low-most}
 use Rattle.drum.specs.declared.Description.{Description}
-use Rattle.drum.specs.Blocks.{Fitting, Block, blockAt, putBlock}
+use Rattle.drum.specs.Blocks.{Fitting, blockAt, putBlock}
 use Rattle.drum.proofs.Good.{caps}
 use Rattle.split.specs.declared.Cut.{Cut}
 use Rattle.split.specs.Halves.{FullTable, staying, leaving, halved, lowEntry}
 use Rattle.split.specs.Cuts.{Shares, Divides, DividesIn}
-use Rattle.split.proofs.Halves.{Sizes, sizes, full-most, halved-by, low-entry-by}
+use Rattle.split.proofs.Halves.{full-most, halved-by, low-entry-by}
 
 -- the lower half of the rows and one more
 pub rows-most : (x : Cut) (f b : List ℕ) → Divides x f b → x .rows ≤ 4096
@@ -49,18 +49,13 @@ pub still-fits : (p : Description) (f g b t : List ℕ) → length g ≡ length 
 still-fits p f g b t ef eb h = record { good = h .good; file-is = ef ∙ h .file-is; buffer-is = eb ∙ h .buffer-is }
 
 module _ (p : Description) (h : Shape) (n i low : ℕ) (f b : List ℕ) (full : FullTable p h n i) (fit : Fitting p f b) (e : low ≡ lowCount n) where
-  low-sizes : Sizes (h .stride) n low i
-  low-sizes =
-      let two = full .rows-least in
-      sizes (h .stride) n low i (full .stride-least) (full .place-most) (rw e (low-least n)) (rw e (low-most n (omega arith)))
-
   -- the last row that stays lies in the block
   last-end : h .base + (low - 1) * h .stride + h .stride ≤ p .wpb
   last-end =
-      let z = low-sizes in
+      let two = full .rows-least in
       let o = full .base-one in
       let w = full .rows-fit in
-      omega arith
+      omega (arith, row-lt (low - 1) n (h .stride) (omega arith))
 
   pub last-fits : Fits w64 ((low - 1) * h .stride)
   last-fits =

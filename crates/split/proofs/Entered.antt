@@ -1,5 +1,5 @@
 -- An entry that becomes two: in a table, and in an index block where it lies.
-use mathlib.Core.Path.{_≡_, refl, sym, ap, _∙_}
+use mathlib.Core.Path.{_≡_, refl, ap, _∙_}
 use mathlib.Core.List.{List}
 use Prim.Native.Nat.{ℕ, _+_, _≤_, _<_}
 use native.Mathlib.Omega.{arith}
@@ -9,7 +9,7 @@ use Rattle.words.proofs.Parts.{length-part}
 use Rattle.table.specs.declared.Shape.{Shape}
 use Rattle.table.specs.Tables.{count, place, inserted}
 use Rattle.table.specs.Splits.{renamed, entered}
-use Rattle.table.proofs.Places.{row-le, row-lt}
+use Rattle.table.proofs.Places.{row-lt}
 use Rattle.table.proofs.Lengths.{count-renamed, length-renamed, length-entered}
 use Rattle.drum.specs.declared.Description.{Description}
 use Rattle.drum.specs.Params.{I, indexShape}

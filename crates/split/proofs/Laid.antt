@@ -1,73 +1,76 @@
--- Texts laid out, a count and rows and zeros: rows cut off them, and a row put in.
-use mathlib.Core.Path.{_≡_, refl, sym, ap, _∙_}
-use mathlib.Core.List.{List, [], _∷_, _++_, append-assoc, append-nil}
+-- Rows laid over a text from the top down: one more, and all of them.
+use mathlib.Core.Path.{_≡_, sym, ap, _∙_}
+use mathlib.Core.List.{List, [], _∷_, _++_, append-nil}
 use Prim.Native.Nat.{ℕ, suc, _+_, _-_, _*_, _≤_}
 use native.Mathlib.Nat.{not-suc-le-zero}
 use native.Mathlib.Omega.{arith}
-use lib.ListN.{length, take, drop, set, replicate, length-append, length-replicate, length-take, length-drop, drop-of-length-le}
-use lib.Seq.{length-take-le, take-append-le, take-append-add, take-take, take-append-seam, drop-append-le, drop-append-add, drop-drop}
+use lib.ListN.{length, take, drop, set, length-replicate, length-drop, take-append-drop, drop-of-length-le}
+use lib.Seq.{length-take-le, drop-drop}
 use Rattle.words.specs.Words.{part, put, zeros}
-use Rattle.words.proofs.Parts.{drop-take, drop-zeros}
-use Rattle.table.specs.declared.Shape.{Shape}
-use Rattle.table.specs.Tables.{count, place, opened, inserted, laid}
-use Rattle.table.proofs.Places.{row-le}
+use Rattle.words.proofs.Parts.{length-part, length-put, put-none, put-before, part-put, part-put-before, part-add, drop-zeros}
+use Rattle.table.specs.Tables.{laid}
+use Rattle.table.proofs.Places.{row-next}
 
--- rows with the words r put in before word x
-unfoldable pub ins : List ℕ → ℕ → List ℕ → List ℕ
-ins rows x r = take x rows ++ r ++ drop x rows
+-- t with the words of the rows from word y of them on laid over it, behind its count
+unfoldable pub laying : List ℕ → ℕ → List ℕ → List ℕ
+laying t y rows = put t (1 + y) (drop y rows)
 
-pub count-laid : (w c : ℕ) (rows : List ℕ) → count (laid w c rows) ≡ c
-unfolding laid
-count-laid w c rows = refl
+module _ (t rows : List ℕ) (y : ℕ) where
+  pub laying-none : length rows ≤ y → laying t y rows ≡ t
+  unfolding laying
+  laying-none h = rw (drop-of-length-le rows {i = y} h) (put-none t (1 + y))
 
-pub length-ins : (rows : List ℕ) (x : ℕ) (r : List ℕ) → x ≤ length rows → length (ins rows x r) ≡ length rows + length r
-unfolding ins
-length-ins rows x r h = simp (length-append, length-take, length-drop) (omega arith)
+  module _ (h : y ≤ length rows) (k : 1 + length rows ≤ length t) where
+    top-length : length (drop y rows) ≡ length rows - y
+    top-length = length-drop y rows
 
--- the words of rows below word y, and from it on, with r put in at word x
-module _ (rows r : List ℕ) (x y : ℕ) (hx : x ≤ length rows) where
-  head-length : length (take x rows) ≡ x
-  head-length = length-take-le x rows hx
+    pub length-laying : length (laying t y rows) ≡ length t
+    unfolding laying
+    length-laying = length-put t (1 + y) (drop y rows) (omega (arith, top-length))
 
-  pub take-ins-low : y ≤ x → take y (ins rows x r) ≡ take y rows
-  unfolding ins
-  take-ins-low h =
-      let k : y ≤ length (take x rows) = omega (arith, head-length) in
-      simp append-assoc (take-append-le y (take x rows) (r ++ drop x rows) k ∙ take-take y x rows h)
+    -- the words below are as they were
+    pub laying-below : (a n : ℕ) → a + n ≤ 1 + y → part a n (laying t y rows) ≡ part a n t
+    unfolding laying
+    laying-below a n l = part-put-before t (1 + y) (drop y rows) a n l (omega (arith, top-length))
 
-  pub drop-ins-low : y ≤ x → drop y (ins rows x r) ≡ ins (drop y rows) (x - y) r
-  unfolding ins
-  drop-ins-low h =
-      let k : y ≤ length (take x rows) = omega (arith, head-length) in
-      let e : y + (x - y) ≡ x = omega arith in
-      let u : drop y (take x rows) ≡ take (x - y) (drop y rows) = drop-take y x rows h in
-      let v : drop (x - y) (drop y rows) ≡ drop x rows = drop-drop (x - y) y rows ∙ ap (λ (i : ℕ). drop i rows) e in
-      simp append-assoc (drop-append-le y (take x rows) (r ++ drop x rows) k ∙ rw (u, v))
+    -- all rows, where those below stand already
+    pub laying-all : take y rows ≡ part 1 y t → part 1 (length rows) (laying t y rows) ≡ rows
+    unfolding laying
+    laying-all e =
+        let u = laying t y rows in
+        let s : length rows ≡ y + (length rows - y) = omega arith in
+        let d : part (1 + y) (length rows - y) u ≡ drop y rows =
+        ap (λ (n : ℕ). part (1 + y) n u) (sym top-length) ∙ part-put t (1 + y) (drop y rows) (omega (arith, top-length)) in
+        ap (λ (n : ℕ). part 1 n u) s ∙ part-add 1 y (length rows - y) u
+        ∙ ap (λ (x : List ℕ). x ++ part (1 + y) (length rows - y) u) (laying-below 1 y (omega arith) ∙ sym e)
+        ∙ ap (λ (x : List ℕ). take y rows ++ x) d ∙ take-append-drop y rows
 
-  pub take-ins-high : x + length r ≤ y → take y (ins rows x r) ≡ ins (take (y - length r) rows) x r
-  unfolding ins
-  take-ins-high h =
-      let p : List ℕ = take x rows ++ r in
-      let z : ℕ = y - (x + length r) in
-      let n : length p ≡ x + length r = simp length-append (omega (arith, head-length)) in
-      let e : y ≡ length p + z = omega arith in
-      let g : y - length r - x ≡ z = omega arith in
-      let u : take x (take (y - length r) rows) ≡ take x rows = take-take x (y - length r) rows (omega arith) in
-      let v : drop x (take (y - length r) rows) ≡ take z (drop x rows) = drop-take x (y - length r) rows (omega arith)
-      ∙ ap (λ (i : ℕ). take i (drop x rows)) g in
-      ap (λ (i : ℕ). take i (p ++ drop x rows)) e ∙ take-append-add p (drop x rows) z ∙ sym (rw (u, v))
+top-row : (rows : List ℕ) (y s : ℕ) → part y s rows ++ drop (y + s) rows ≡ drop y rows
+unfolding part
+top-row rows y s = ap (λ (x : List ℕ). take s (drop y rows) ++ x) (sym (drop-drop s y rows)) ∙ take-append-drop s (drop y rows)
 
-  pub drop-ins-high : x + length r ≤ y → drop y (ins rows x r) ≡ drop (y - length r) rows
-  unfolding ins
-  drop-ins-high h =
-      let p : List ℕ = take x rows ++ r in
-      let n : length p ≡ x + length r = simp length-append (omega (arith, head-length)) in
-      let e : y ≡ length p + (y - (x + length r)) = omega arith in
-      let g : x + (y - (x + length r)) ≡ y - length r = omega arith in
-      ap (λ (i : ℕ). drop i (p ++ drop x rows)) e
-      ∙ drop-append-add p (drop x rows) (y - (x + length r))
-      ∙ drop-drop (y - (x + length r)) x rows
-      ∙ ap (λ (i : ℕ). drop i rows) g
+-- one row of s words more: row k, those from row j on being there
+pub laying-row : (t rows r : List ℕ) (b s j k : ℕ) → b ≡ 1 → j ≡ k + 1 → r ≡ part (k * s) s rows → j * s ≤ length rows → 1 + length rows ≤ length t
+    → put (laying t (j * s) rows) (b + k * s) r ≡ laying t (k * s) rows
+unfolding laying
+laying-row t rows r b s j k eb ej er h m =
+    let y : ℕ = k * s in
+    let e : j * s ≡ y + s = ap (λ (z : ℕ). z * s) ej ∙ row-next k s in
+    let l : length (part y s rows) ≡ s = length-part y s rows (omega arith) in
+    let a : 1 + j * s ≡ 1 + y + length (part y s rows) = omega arith in
+    ap (λ (z : ℕ). put (put t (1 + j * s) (drop (j * s) rows)) (z + y) r) eb
+    ∙ ap (put (put t (1 + j * s) (drop (j * s) rows)) (1 + y)) er
+    ∙ ap (λ (z : ℕ). put (put t z (drop (j * s) rows)) (1 + y) (part y s rows)) a
+    ∙ put-before t (1 + y) (part y s rows) (drop (j * s) rows) (omega arith)
+    ∙ ap (put t (1 + y)) (ap (λ (z : ℕ). part y s rows ++ drop z rows) e ∙ top-row rows y s)
+
+-- over a count and zeros
+pub laying-laid : (w c : ℕ) (rows : List ℕ) → 1 + length rows ≤ w → laying (laid w c []) 0 rows ≡ laid w c rows
+unfolding laying laid put
+laying-laid w c rows h =
+    let e : w - 1 - 0 ≡ w - 1 = omega arith in
+    let a : 1 + 0 + length rows ≡ suc (length rows) = omega arith in
+    rw (e, a) (ap (λ (x : List ℕ). c ∷ (rows ++ x)) (drop-zeros (length rows) (w - 1)))
 
 -- what is left when the words past the first q of the rows become 0, under the count c
 pub keep-by : (t t₁ t₂ : List ℕ) (q m c : ℕ) → t₁ ≡ put t (1 + q) (zeros m) → t₂ ≡ set t₁ 0 c → 1 + q ≤ length t → m ≡ length t - 1 - q
@@ -82,35 +85,3 @@ keep-by (x ∷ xs) t₁ t₂ q m c e₁ e₂ k em =
     let d : drop (suc q + length z) (x ∷ xs) ≡ [] = drop-of-length-le (x ∷ xs) {i = suc q + length z} (omega arith) in
     let e : length (x ∷ xs) - 1 - length (take q xs) ≡ m = omega arith in
     rw (e₂, e₁, a, d, e) (append-nil _)
-
--- a row put into a text that has room
-open-laid : (w c : ℕ) (rows r : List ℕ) (x : ℕ) → x ≤ length rows → 1 + length rows + length r ≤ w
-    → opened (laid w c rows) (1 + x) (1 + length rows) r ≡ laid w c (ins rows x r)
-unfolding opened put laid part ins
-open-laid w c rows r x h k =
-    let m : ℕ = w - 1 - length rows in
-    let z : List ℕ = zeros m in
-    let a : 1 + x ≡ suc x = omega arith in
-    let b : 1 + length rows - suc x ≡ length rows - x = omega arith in
-    let d : drop x (rows ++ z) ≡ drop x rows ++ z = drop-append-le x rows z h in
-    let e : length rows - x ≡ length (drop x rows) = sym (length-drop x rows) in
-    let f : take (length rows - x) (drop x (rows ++ z)) ≡ drop x rows = rw (d, e) (take-append-seam (drop x rows) z) in
-    let g : take x (rows ++ z) ≡ take x rows = take-append-le x rows z h in
-    let i : length (r ++ drop x rows) ≡ length r + (length rows - x) = simp (length-append, length-drop) in
-    let j : suc x + (length r + (length rows - x)) ≡ suc (length rows + length r) = omega arith in
-    let l : drop (length rows + length r) (rows ++ z) ≡ replicate (m - length r) 0 = drop-append-add rows z (length r) ∙ drop-zeros (length r) m in
-    let n : w - 1 - length (ins rows x r) ≡ m - length r = omega (arith, length-ins rows x r h) in
-    rw (a, b, f, i, j, l, n, g) (simp (append-assoc, append-assoc (take x rows) (r ++ drop x rows)))
-
-pub insert-laid : (h : Shape) (w c i : ℕ) (rows r : List ℕ) → h .base ≡ 1 → length rows ≡ c * h .stride → i ≤ c → 1 + length rows + length r ≤ w
-    → inserted h i r (laid w c rows) ≡ laid w (c + 1) (ins rows (i * h .stride) r)
-unfolding inserted laid
-insert-laid h w c i rows r eb el hi hw =
-    let t : List ℕ = laid w c rows in
-    let x : ℕ = i * h .stride in
-    let a : place h i ≡ 1 + x = ap (λ (y : ℕ). y + x) eb in
-    let e : place h c ≡ 1 + length rows = ap (λ (y : ℕ). y + c * h .stride) eb ∙ ap (λ (y : ℕ). 1 + y) (sym el) in
-    let l = row-le i c (h .stride) hi in
-    ap (λ (y : ℕ). set (opened t y (place h c) r) 0 (c + 1)) a
-    ∙ ap (λ (y : ℕ). set (opened t (1 + x) y r) 0 (c + 1)) e
-    ∙ ap (λ (y : List ℕ). set y 0 (c + 1)) (open-laid w c rows r x (omega arith) hw)

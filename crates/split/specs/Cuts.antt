@@ -1,12 +1,15 @@
 -- What the code of a split asks and leaves, of a cut.
-use Prim.Native.Nat.{ℕ, _+_, _≤_, _<_}
+use Prim.Native.Nat.{ℕ, _+_, _*_, _≤_, _<_}
 use mathlib.Core.Path.{_≡_}
+use mathlib.Core.Bool.{true}
 use mathlib.Core.List.{List}
 use lib.ListN.{length}
+use Rattle.words.specs.Words.{part}
 use Rattle.table.specs.declared.Shape.{Shape}
 use Rattle.table.specs.Tables.{count, place}
+use Rattle.table.specs.Splits.{oneMore}
 use Rattle.drum.specs.declared.Description.{Description}
-use Rattle.drum.specs.Params.{I}
+use Rattle.drum.specs.Params.{I, goodParams}
 use Rattle.drum.specs.Blocks.{Fitting, blockAt}
 use Rattle.drum.specs.Inside.{HasBlock}
 use Rattle.split.specs.declared.Cut.{Cut}
@@ -25,6 +28,22 @@ pub record EntersIn (p : Description) (f : List ℕ) (x i : ℕ) : Type 0 where
   pub held : HasBlock p f x
   pub below : i < count (blockAt p f x)
   pub room : count (blockAt p f x) < I p
+
+-- a full table in the buffer, a row more, and the number of one of all these rows
+pub record HasRow (x : Cut) (j : ℕ) (t row : List ℕ) : Type 0 where
+  pub good : goodParams (x .desc) ≡ true
+  pub full : FullTable (x .desc) (x .shape) (x .rows) (x .place)
+  pub text-is : length t ≡ x .desc .wpb
+  pub row-long : x .shape .stride ≤ length row
+  pub row-most : j ≤ x .rows
+
+-- the words of the rows of t with one more put in, and row j of them [C12]
+abbrev pub allRows : Cut → List ℕ → List ℕ → List ℕ
+allRows x row t = oneMore (x .shape) (x .rows) (x .place) (part 0 (x .shape .stride) row) t
+
+-- row j of them [C12]
+abbrev pub moreRow : Cut → ℕ → List ℕ → List ℕ → List ℕ
+moreRow x j row t = part (j * x .shape .stride) (x .shape .stride) (allRows x row t)
 
 -- a full block in the buffer, of which `low` rows stay, and the block for the others
 pub record Shares (x : Cut) (low : ℕ) (f b : List ℕ) : Type 0 where

@@ -4,14 +4,14 @@ use drum::Description;
 use table::Shape;
 ghost use mathlib.Core.Path.{_≡_};
 ghost use mathlib.Core.List.{[], _∷_, _++_};
-ghost use Prim.Native.Nat.{_+_, _≤_, _<_};
+ghost use Prim.Native.Nat.{_+_, _-_, _≤_, _<_};
 ghost use lib.ListN.{length};
 ghost use Rattle.words.specs.Words.{part};
-ghost use Rattle.table.specs.Tables.{place, laid};
+ghost use Rattle.table.specs.Tables.{place, replaced, laid};
 ghost use Rattle.table.specs.Splits.{lowCount, renamed, entered};
 ghost use Rattle.drum.specs.Params.{indexShape};
 ghost use Rattle.drum.specs.Blocks.{blockAt, putBlock};
-ghost use Rattle.split.specs.Cuts.{EntersIn, Enters, Shares, Divides, DividesIn, lower, upper, halvedBy, entryBy};
+ghost use Rattle.split.specs.Cuts.{EntersIn, Enters, HasRow, moreRow, Shares, Divides, DividesIn, lower, upper, halvedBy, entryBy};
 ghost use Rattle.words.specs.Slices.{was, became};
 
 // A full block of `rows` rows, and a row more that is put in at a place: the lower rows stay in block old, the others go to block new.
@@ -82,55 +82,54 @@ pub fn enter_in(p: Description, file: &mut [u32], x: usize, i: usize, entry: &[u
     drum::inside::insert_in(p, file, x, h, i, entry);
 }
 
-// Of a full buffer and a row put in, the lower `low` rows stay, the row among them; the others go to the new block.
-fn keep_row(cut: Cut, low: usize, file: &mut [u32], buffer: &mut [u32], row: &[u32])
-    requires { ⌜
-        Shares cut low (now file) (now buffer) × (cut .shape .stride ≤ length (now row)) × (cut .place < low)
-        ⌝ }
+// Row j of the full buffer's rows with the row put in: the row itself, or one of the buffer's, which stand one lower behind the row.
+fn row_of<'a>(cut: Cut, j: usize, buffer: &'a [u32], row: &'a [u32]) -> &'a [u32]
+    requires { ⌜ HasRow cut j (now buffer) (now row) ⌝ }
+    ensures { λ r. ⌜ now r ≡ moreRow cut j (was row) (was buffer) ⌝ }
+{
+    let h = cut.shape;
+    let stride = h.stride;
+    let at = h.base + j * stride;
+    if cut.place < j {
+        let below = at - stride;
+        return &buffer[below..at];
+    }
+    if j < cut.place {
+        let end = at + stride;
+        return &buffer[at..end];
+    }
+    &row[0..stride]
+}
+
+// Lays row j of them where it goes in the buffer: the row itself, or the one before row j, which moves up.
+fn raise_row(cut: Cut, j: usize, buffer: &mut [u32], row: &[u32])
+    requires { ⌜ HasRow cut j (now buffer) (now row) × (cut .place ≤ j) × (j < cut .rows) ⌝ }
     ensures { λ _. ⌜
-        (became file
-        ≡ putBlock (cut .desc) (was file) (cut .new)
-        (upper cut low (part 0 (cut .shape .stride) (was row)) (was buffer)))
-        × (became buffer ≡ lower cut low (part 0 (cut .shape .stride) (was row)) (was buffer))
+        became buffer ≡ replaced (cut .shape) j (moreRow cut j (was row) (was buffer)) (was buffer)
         ⌝ }
 {
     let h = cut.shape;
-    let kept = (low - 1) * h.stride;
-    let from = 1 + kept;
-    let end = 1 + cut.rows * h.stride;
-    drum::inside::lay_block(
-        cut.desc,
-        file,
-        cut.new,
-        cut.rows + 1 - low,
-        &buffer[from..end],
-    );
-    keep(buffer, low - 1, kept);
-    table::insert_row(h, buffer, cut.place, row, 0);
+    if cut.place < j {
+        let at = h.base + j * h.stride;
+        words::move_up(buffer, at - h.stride, at, h.stride);
+        return;
+    }
+    table::replace_row(h, buffer, j, row, 0, h.stride);
 }
 
-// The same, the row among the others.
-fn send_row(cut: Cut, low: usize, file: &mut [u32], buffer: &mut [u32], row: &[u32])
-    requires { ⌜
-        Shares cut low (now file) (now buffer) × (cut .shape .stride ≤ length (now row)) × (low ≤ cut .place)
-        ⌝ }
-    ensures { λ _. ⌜
-        (became file
-        ≡ putBlock (cut .desc) (was file) (cut .new)
-        (upper cut low (part 0 (cut .shape .stride) (was row)) (was buffer)))
-        × (became buffer ≡ lower cut low (part 0 (cut .shape .stride) (was row)) (was buffer))
-        ⌝ }
+// The lesser of two numbers.
+fn lesser(a: usize, b: usize) -> usize
+    ensures { λ r. ⌜ r ≡ a - (a - b) ⌝ }
 {
-    let h = cut.shape;
-    let kept = low * h.stride;
-    let from = 1 + kept;
-    let end = 1 + cut.rows * h.stride;
-    drum::inside::lay_block(cut.desc, file, cut.new, cut.rows - low, &buffer[from..end]);
-    drum::inside::insert_in(cut.desc, file, cut.new, h, cut.place - low, row);
-    keep(buffer, low, kept);
+    if a < b {
+        return a;
+    }
+    b
 }
 
-// The same, wherever the row falls. All that moves words in a split is behind this promise.
+// Of a full buffer and a row put in, the lower `low` rows stay, and the others go to the new block: one row after the other, from the top
+// down, so that none is written over before it has moved. Rows below the row that stay are where they were. All that moves words in a split
+// is behind this promise.
 fn share_rows(cut: Cut, low: usize, file: &mut [u32], buffer: &mut [u32], row: &[u32])
     requires { ⌜ Shares cut low (now file) (now buffer) × (cut .shape .stride ≤ length (now row)) ⌝ }
     ensures { λ _. ⌜
@@ -140,11 +139,32 @@ fn share_rows(cut: Cut, low: usize, file: &mut [u32], buffer: &mut [u32], row: &
         × (became buffer ≡ lower cut low (part 0 (cut .shape .stride) (was row)) (was buffer))
         ⌝ }
 {
-    if cut.place < low {
-        keep_row(cut, low, file, buffer, row);
-        return;
+    let h = cut.shape;
+    // rows that are all key: a row is laid into a block as its key would be
+    let whole = Shape {
+        base: h.base,
+        stride: h.stride,
+        width: h.stride,
+    };
+    drum::inside::lay_block(cut.desc, file, cut.new, cut.rows + 1 - low, &row[0..0]);
+    let stop = lesser(cut.place, low);
+    let mut j = cut.rows + 1;
+    while stop < j {
+        j -= 1;
+        if low <= j {
+            drum::inside::set_key_in(
+                cut.desc,
+                file,
+                cut.new,
+                whole,
+                j - low,
+                row_of(cut, j, buffer, row),
+            );
+            continue;
+        }
+        raise_row(cut, j, buffer, row);
     }
-    send_row(cut, low, file, buffer, row);
+    keep(buffer, low, low * h.stride);
 }
 
 // Splits the full block in the buffer, a row put in: the halves are written to their blocks, and the entry of the old one is made, its
