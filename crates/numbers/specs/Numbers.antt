@@ -31,6 +31,10 @@ badFile = 0o070003
 abbrev pub notFound : ℕ
 notFound = 0o000001
 
+-- "a move that the state doesn't allow" [G10]
+abbrev pub notAllowed : ℕ
+notAllowed = 0o030007
+
 -- "XTEND out of sequence" [N7]
 abbrev pub outOfSequence : ℕ
 outOfSequence = 0o000005

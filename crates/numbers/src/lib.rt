@@ -20,6 +20,8 @@ pub const WRONG_KEY: u32 = 0o030001;
 
 pub const AT_END: u32 = 0o030002;
 
+pub const NOT_ALLOWED: u32 = 0o030007;
+
 pub const NONE_FREE: u32 = 0o070001;
 
 pub const NO_ROOM: u32 = 0o070002;

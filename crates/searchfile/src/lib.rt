@@ -6,6 +6,7 @@ mod records;
 mod refusals;
 
 use drum::Description;
+pub use refusals::refused_key;
 use rules::Done;
 ghost use mathlib.Core.Path.{_≡_};
 ghost use mathlib.Core.Bool.{false};

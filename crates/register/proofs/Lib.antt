@@ -1,0 +1,5 @@
+pub mod Costs
+pub mod Refusing
+pub mod Records
+pub mod Guards
+pub mod Moving
