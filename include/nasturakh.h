@@ -61,6 +61,7 @@ enum {
 #define NASTURAKH_WRONG_KEY 030001u       /* a workspace word above 262143, or the reserved key; all unchanged */
 #define NASTURAKH_AT_END 030002u          /* ADV: no record is left; the end record is in the workspace, the position stays. GET: none is
                                            * left, or no block; all unchanged */
+#define NASTURAKH_NOT_ALLOWED 030007u     /* ROMANISE, HOLD, FREE: the name is in another state; its record is in the workspace */
 #define NASTURAKH_NONE_FREE 070001u       /* stored; but the record's block is now full and no block is free */
 #define NASTURAKH_NO_ROOM 070002u         /* NSERT, XTEND: not stored, too few blocks or sections are free. PUT: no block is left */
 #define NASTURAKH_BAD_FILE 070003u        /* OPEN, COPY: not a good file; else a bad number in file or buffer; all unchanged but the marks */
@@ -140,6 +141,39 @@ uint64_t nasturakh_updat(uint32_t *session, size_t session_words, uint32_t *file
 /* XTEND: the workspace's record is put in behind all others. 0, 5, 070001, 070002, or a refusal. */
 uint64_t nasturakh_xtend(uint32_t *session, size_t session_words, uint32_t *file, size_t file_words, uint32_t *buffer,
                          size_t buffer_words, const uint32_t *workspace, size_t workspace_words);
+
+/* THE NAME REGISTER, above the calls: a record's key is a source spelling, its first data word the state, the rest a spelling of WPR-K-1
+ * words. While only these functions, OPEN, CLOSE, SEEK, ADV and VIEW touch the file, no sequence of them changes the spelling of a name that is
+ * romanised or held, and no name is romanised twice. Each is lent the name in the first K words of the workspace and reads no other word
+ * of it. Refusals: 020007, also where WPR is K; 020005; 030001, all unchanged; then the numbers of the call beneath pass through. The names
+ * are listed by nasturakh_adv. */
+enum {
+  NASTURAKH_RAW = 0,       /* entered; the spelling is 0 */
+  NASTURAKH_ROMANISED = 1, /* the spelling was given */
+  NASTURAKH_HELD = 2       /* romanised and held back */
+};
+
+/* ENTER: a raw name is put in, by NSERT. Past 030001 the data words of the workspace are 0, whatever is answered. 0, 1 (the name is
+ * there), 070001, 070002, or a refusal. */
+uint64_t nasturakh_enter(uint32_t *session, size_t session_words, uint32_t *file, size_t file_words, uint32_t *buffer,
+                         size_t buffer_words, uint32_t *workspace, size_t workspace_words);
+
+/* ASK: the name's record is put into the workspace, by SEEK. 0, 1, or a refusal. */
+uint64_t nasturakh_ask(uint32_t *session, size_t session_words, uint32_t *file, size_t file_words, uint32_t *buffer,
+                       size_t buffer_words, uint32_t *workspace, size_t workspace_words);
+
+/* ROMANISE: a raw name becomes romanised with the spelling, exactly WPR-K-1 words (none: any pointer that is not null). 0, 1, 030007 (the
+ * name is not raw), or a refusal; 030001 also for a word of the spelling above 262143. */
+uint64_t nasturakh_romanise(uint32_t *session, size_t session_words, uint32_t *file, size_t file_words, uint32_t *buffer,
+                            size_t buffer_words, uint32_t *workspace, size_t workspace_words, const uint32_t *spelling,
+                            size_t spelling_words);
+
+/* HOLD and FREE: a romanised name becomes held, a held one romanised; the spelling stays. 0, 1, 030007 (the name is in another state), or
+ * a refusal. */
+uint64_t nasturakh_hold(uint32_t *session, size_t session_words, uint32_t *file, size_t file_words, uint32_t *buffer,
+                        size_t buffer_words, uint32_t *workspace, size_t workspace_words);
+uint64_t nasturakh_free_name(uint32_t *session, size_t session_words, uint32_t *file, size_t file_words, uint32_t *buffer,
+                             size_t buffer_words, uint32_t *workspace, size_t workspace_words);
 
 /* VIEW: where the current text of a block is, WPB words. Below NASTURAKH_IN_FILE: nowhere (0: a closed session, wrong sizes, a block
  * outside 1..N; 020007: a session slice of another length, or its word 6, 8 or 9 above 1). NASTURAKH_IN_BUFFER: it is the buffer. Else

@@ -5,7 +5,10 @@
 #include <stdio.h>
 #include <stdlib.h>
 
-enum { CREATE, OPEN, CLOSE, SEEK, ADV, NSERT, DLETE, UPDAT, XTEND, VIEW, MOST, COPY, PUT, GET, BLOCKS, SECTIONS, TRAY };
+enum {
+  CREATE, OPEN, CLOSE, SEEK, ADV, NSERT, DLETE, UPDAT, XTEND, VIEW, MOST, COPY, PUT, GET, BLOCKS, SECTIONS, TRAY,
+  ENTER, ASK, HOLD, FREE, ROMANISE
+};
 enum { OF_SESSION, OF_FILE, OF_BUFFER, OF_WORKSPACE, OF_MARKS, SLICES };
 
 struct call {
@@ -29,6 +32,14 @@ static uint64_t on_record(const struct call *c, uint32_t *s, uint32_t *f, uint32
     return nasturakh_dlete(s, n[OF_SESSION], f, n[OF_FILE], b, n[OF_BUFFER], w, n[OF_WORKSPACE]);
   case UPDAT:
     return nasturakh_updat(s, n[OF_SESSION], f, n[OF_FILE], b, n[OF_BUFFER], w, n[OF_WORKSPACE]);
+  case ENTER:
+    return nasturakh_enter(s, n[OF_SESSION], f, n[OF_FILE], b, n[OF_BUFFER], w, n[OF_WORKSPACE]);
+  case ASK:
+    return nasturakh_ask(s, n[OF_SESSION], f, n[OF_FILE], b, n[OF_BUFFER], w, n[OF_WORKSPACE]);
+  case HOLD:
+    return nasturakh_hold(s, n[OF_SESSION], f, n[OF_FILE], b, n[OF_BUFFER], w, n[OF_WORKSPACE]);
+  case FREE:
+    return nasturakh_free_name(s, n[OF_SESSION], f, n[OF_FILE], b, n[OF_BUFFER], w, n[OF_WORKSPACE]);
   default:
     return nasturakh_xtend(s, n[OF_SESSION], f, n[OF_FILE], b, n[OF_BUFFER], w, n[OF_WORKSPACE]);
   }
@@ -61,6 +72,9 @@ static uint64_t perform(const struct call *c, void **slices) {
   case TRAY: /* the tray comes as the workspace, what is told as the marks */
     return nasturakh_nsert_tray(s, n[OF_SESSION], f, n[OF_FILE], b, n[OF_BUFFER], slices[OF_WORKSPACE], n[OF_WORKSPACE],
                                 slices[OF_MARKS], n[OF_MARKS] / sizeof(uint64_t));
+  case ROMANISE: /* the spelling comes as the marks, four bytes a word */
+    return nasturakh_romanise(s, n[OF_SESSION], f, n[OF_FILE], b, n[OF_BUFFER], slices[OF_WORKSPACE], n[OF_WORKSPACE], slices[OF_MARKS],
+                              n[OF_MARKS] / sizeof(uint32_t));
   default:
     return on_record(c, s, f, b, slices[OF_WORKSPACE]);
   }

@@ -12,3 +12,4 @@ pub mod OneResult
 pub mod CopyTold
 pub mod MostSpace
 pub mod TrayTold
+pub mod Registered

@@ -1,6 +1,7 @@
 // The calls for programs in other languages. A session is lent as 73 words (module `session`), every slice is a pointer and a length, and
 // a call's answer is one number: its transfers times 2^32, plus its number. A session slice that is none answers 020007 and changes nothing.
 mod copying;
+mod names;
 mod place;
 mod plan;
 mod rows;

@@ -22,12 +22,19 @@ pub const IS_CLOSED: u32 = 0o020005;
 pub const WRONG_KEY: u32 = 0o030001;
 /// ADV, GET: no record is left.
 pub const AT_END: u32 = 0o030002;
+/// ROMANISE, HOLD, FREE: the name is in another state; its record is in the workspace.
+pub const NOT_ALLOWED: u32 = 0o030007;
 /// Stored; but the record's block is now full and no block is free.
 pub const NONE_FREE: u32 = 0o070001;
 /// Not stored: too few blocks or sections are free; PUT: no block is left.
 pub const NO_ROOM: u32 = 0o070002;
 /// OPEN, COPY: not a good file; else a bad number in file or buffer.
 pub const BAD_FILE: u32 = 0o070003;
+
+/// The states of a name in the register: the first data word of its record.
+pub const RAW: u32 = 0;
+pub const ROMANISED: u32 = 1;
+pub const HELD: u32 = 2;
 
 const WORDS: usize = 73;
 const ROW: usize = 7;
@@ -104,6 +111,18 @@ mod raw {
             session_words: usize,
             names: u32,
         ) -> u64;
+        pub fn nasturakh_romanise(
+            session: *mut u32,
+            session_words: usize,
+            file: *mut u32,
+            file_words: usize,
+            buffer: *mut u32,
+            buffer_words: usize,
+            work: *mut u32,
+            work_words: usize,
+            spelling: *const u32,
+            spelling_words: usize,
+        ) -> u64;
         pub fn nasturakh_put(
             row: *mut u32,
             row_words: usize,
@@ -145,7 +164,11 @@ mod raw {
         nasturakh_nsert: *const u32,
         nasturakh_dlete: *const u32,
         nasturakh_updat: *const u32,
-        nasturakh_xtend: *const u32
+        nasturakh_xtend: *const u32,
+        nasturakh_enter: *mut u32,
+        nasturakh_ask: *mut u32,
+        nasturakh_hold: *mut u32,
+        nasturakh_free_name: *mut u32
     );
 }
 
@@ -420,6 +443,39 @@ impl Session {
         updat, nasturakh_updat, &[u32], as_ptr;
         /// XTEND: the workspace's record put in behind all others.
         xtend, nasturakh_xtend, &[u32], as_ptr;
+        /// The register's ENTER: the workspace's key put in as a raw name.
+        enter, nasturakh_enter, &mut [u32], as_mut_ptr;
+        /// The register's ASK: the name's record to the workspace.
+        ask, nasturakh_ask, &mut [u32], as_mut_ptr;
+        /// The register's HOLD: a romanised name held back.
+        hold, nasturakh_hold, &mut [u32], as_mut_ptr;
+        /// The register's FREE: a held name romanised again, its spelling as it was.
+        free_name, nasturakh_free_name, &mut [u32], as_mut_ptr;
+    }
+
+    /// The register's ROMANISE: a raw name romanised with the spelling, of exactly WPR-K-1 words.
+    pub fn romanise(
+        &mut self,
+        file: &mut [u32],
+        buffer: &mut [u32],
+        work: &mut [u32],
+        spelling: &[u32],
+    ) -> Answer {
+        // SAFETY: as for the other calls; the spelling is only read.
+        Answer::of(unsafe {
+            raw::nasturakh_romanise(
+                self.words.as_mut_ptr(),
+                WORDS,
+                file.as_mut_ptr(),
+                file.len(),
+                buffer.as_mut_ptr(),
+                buffer.len(),
+                work.as_mut_ptr(),
+                work.len(),
+                spelling.as_ptr(),
+                spelling.len(),
+            )
+        })
     }
 }
 

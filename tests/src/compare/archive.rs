@@ -1,5 +1,6 @@
 //! The functions of the archive. A slice travels as a pointer and a length.
 use crate::state::State;
+use nasturakh_tests::rules::register::Deed;
 use nasturakh_tests::rules::Kind;
 
 type Closing = unsafe extern "C" fn(*mut u32, usize, *mut u32, usize, *mut u32, usize) -> u64;
@@ -16,6 +17,11 @@ extern "C" {
     fn nasturakh_dlete(session: *mut u32, words: usize, file: *mut u32, file_words: usize, buffer: *mut u32, buffer_words: usize, workspace: *mut u32, record: usize) -> u64;
     fn nasturakh_updat(session: *mut u32, words: usize, file: *mut u32, file_words: usize, buffer: *mut u32, buffer_words: usize, workspace: *mut u32, record: usize) -> u64;
     fn nasturakh_xtend(session: *mut u32, words: usize, file: *mut u32, file_words: usize, buffer: *mut u32, buffer_words: usize, workspace: *mut u32, record: usize) -> u64;
+    fn nasturakh_enter(session: *mut u32, words: usize, file: *mut u32, file_words: usize, buffer: *mut u32, buffer_words: usize, workspace: *mut u32, record: usize) -> u64;
+    fn nasturakh_ask(session: *mut u32, words: usize, file: *mut u32, file_words: usize, buffer: *mut u32, buffer_words: usize, workspace: *mut u32, record: usize) -> u64;
+    fn nasturakh_hold(session: *mut u32, words: usize, file: *mut u32, file_words: usize, buffer: *mut u32, buffer_words: usize, workspace: *mut u32, record: usize) -> u64;
+    fn nasturakh_free_name(session: *mut u32, words: usize, file: *mut u32, file_words: usize, buffer: *mut u32, buffer_words: usize, workspace: *mut u32, record: usize) -> u64;
+    fn nasturakh_romanise(session: *mut u32, words: usize, file: *mut u32, file_words: usize, buffer: *mut u32, buffer_words: usize, workspace: *mut u32, record: usize, spelling: *const u32, spelling_words: usize) -> u64;
     fn nasturakh_view(session: *const u32, words: usize, file: *const u32, file_words: usize, buffer: *const u32, buffer_words: usize, block: usize) -> u64;
     fn nasturakh_copy(session: *const u32, words: usize, file: *const u32, file_words: usize, second: *mut u32, second_words: usize, control: usize, marks: *mut u8, bytes: usize) -> u64;
     fn nasturakh_put(row: *mut u32, words: usize, file: *mut u32, file_words: usize, workspace: *mut u32, record: usize) -> u64;
@@ -154,6 +160,36 @@ pub fn tray(s: &mut State, tray: &[u32], told: &mut [u64]) -> u64 {
             tray.len(),
             told.as_mut_ptr(),
             told.len(),
+        )
+    }
+}
+
+/// A call of the register.
+pub fn register(deed: &Deed, s: &mut State) -> u64 {
+    match deed {
+        Deed::Enter => on_records(nasturakh_enter, s),
+        Deed::Ask => on_records(nasturakh_ask, s),
+        Deed::Hold => on_records(nasturakh_hold, s),
+        Deed::Free => on_records(nasturakh_free_name, s),
+        Deed::Romanise(spelling) => romanise(spelling, s),
+    }
+}
+
+fn romanise(spelling: &[u32], s: &mut State) -> u64 {
+    let (w, l) = (&mut s.words, &mut s.lent);
+    // SAFETY: as above; the spelling is only read.
+    unsafe {
+        nasturakh_romanise(
+            w.as_mut_ptr(),
+            w.len(),
+            l.file.as_mut_ptr(),
+            l.file.len(),
+            l.buffer.as_mut_ptr(),
+            l.buffer.len(),
+            l.workspace.as_mut_ptr(),
+            l.workspace.len(),
+            spelling.as_ptr(),
+            spelling.len(),
         )
     }
 }

@@ -9,6 +9,7 @@ mod keys;
 mod known;
 mod limits;
 mod loose;
+mod names;
 mod plans;
 mod random;
 mod report;
@@ -57,6 +58,12 @@ fn round(seed: u64, tally: &mut report::Tallies) -> Result<(), Differs> {
         trays::compare(keys, state, &mut r, &mut tally.trays)?;
         trays::made_up(&mut r, &mut tally.trays)?;
     }
+    for _ in 0..4 {
+        let kept = names::run(&mut r, &mut tally.names)?;
+        for _ in 0..40 {
+            names::made_up(&kept, &mut r, &mut tally.names)?;
+        }
+    }
     Ok(())
 }
 
@@ -65,6 +72,7 @@ fn all(rounds: u64) -> Result<report::Tallies, Differs> {
     fifteen::compare(&mut Tally::default())?;
     sequential::stored(&mut sequential::Tally::default())?;
     trays::stored()?;
+    names::stored(&mut names::Tally::default())?;
     limits::most_blocks(&mut tallies.limits)?;
     known::compare(&mut tallies.copies)?;
     space::stored(&mut tallies.filled)?;

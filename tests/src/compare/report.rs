@@ -1,5 +1,6 @@
 //! What was tried: how often each number, each kind of split, each part of VIEW and each answer to a plan, a copy and a tray occurred.
 use crate::both::Tally;
+use crate::names;
 use crate::sequential;
 use crate::trays;
 use nasturakh_tests::rules::{Event, Kind};
@@ -16,6 +17,7 @@ pub struct Tallies {
     pub filled: Tally,
     pub sequential: sequential::Tally,
     pub trays: trays::Tally,
+    pub names: names::Tally,
 }
 
 const NUMBERS: [u32; 11] = [0, 0o1, 0o5, 0o020005, 0o020006, 0o020007, 0o030001, 0o030002, 0o070001, 0o070002, 0o070003];
@@ -27,6 +29,19 @@ const SEQUENTIAL: [(&str, u32); 8] =
 
 /// What a tray can answer.
 const TRAYS: [u32; 8] = [0, 0o1, 0o020005, 0o020007, 0o030001, 0o070001, 0o070002, 0o070003];
+/// What the register can answer.
+const NAMES: [(&str, u32); 10] = [
+    ("Enter", 0),
+    ("Enter", 1),
+    ("Enter", 0o070001),
+    ("Enter", 0o070002),
+    ("Ask", 0),
+    ("Romanise", 0),
+    ("Romanise", 0o030001),
+    ("Romanise", 0o030007),
+    ("Hold", 0),
+    ("Free", 0),
+];
 
 const EVENTS: [Event; 9] = [
     Event::DetailSplit,
@@ -88,6 +103,7 @@ fn missing(tallies: &Tallies) -> Vec<String> {
     let rows = SEQUENTIAL.iter().filter(|answer| !tallies.sequential.contains_key(answer));
     lacking.extend(rows.map(|(kind, number)| format!("{kind} {number:06o}")));
     lacking.extend(TRAYS.iter().filter(|number| !tallies.trays.contains_key(number)).map(|number| format!("a tray with {number:06o}")));
+    lacking.extend(NAMES.iter().filter(|answer| !tallies.names.contains_key(answer)).map(|(deed, number)| format!("{deed} {number:06o}")));
     lacking.extend(EVENTS.iter().filter(|e| !tallies.sessions.events.contains_key(e)).map(|e| format!("{e:?}")));
     lacking
 }
@@ -107,6 +123,10 @@ pub fn print(rounds: u64, tallies: &Tallies) {
     }
     let trays: Vec<String> = tallies.trays.iter().map(|(number, count)| format!("{number:06o} {count}")).collect();
     println!("trays\n  {}", trays.join(", "));
+    println!("names in the register");
+    for ((deed, number), count) in &tallies.names {
+        println!("  {number:06o}  {deed} {count}");
+    }
     let lacking = missing(tallies);
     if !lacking.is_empty() {
         println!("NEVER OCCURRED: {}", lacking.join(", "));

@@ -1,6 +1,7 @@
 //! The functions of the archive on a machine that can't link them: asked of a program that has them (`src/server.c`), which the toolchain's
 //! emulator runs. NASTURAKH_SERVER names it.
 use crate::state::State;
+use nasturakh_tests::rules::register::Deed;
 use nasturakh_tests::rules::{Kind, Lent};
 use std::io::{BufReader, BufWriter, Read, Write};
 use std::process::{ChildStdin, ChildStdout, Command, Stdio};
@@ -14,6 +15,11 @@ const GET: u64 = 13;
 const BLOCKS: u64 = 14;
 const SECTIONS: u64 = 15;
 const TRAY: u64 = 16;
+const ENTER: u64 = 17;
+const ASK: u64 = 18;
+const HOLD: u64 = 19;
+const FREE: u64 = 20;
+const ROMANISE: u64 = 21;
 
 struct Server {
     to: BufWriter<ChildStdin>,
@@ -171,5 +177,25 @@ pub fn tray(s: &mut State, tray: &[u32], told: &mut [u64]) -> u64 {
     s.words = asking.words;
     s.lent.file = asking.lent.file;
     s.lent.buffer = asking.lent.buffer;
+    answer
+}
+
+/// A call of the register. A spelling travels as the marks, four bytes a word.
+pub fn register(deed: &Deed, s: &mut State) -> u64 {
+    let kind = match deed {
+        Deed::Enter => ENTER,
+        Deed::Ask => ASK,
+        Deed::Hold => HOLD,
+        Deed::Free => FREE,
+        Deed::Romanise(spelling) => return romanise(spelling, s),
+    };
+    asked(kind, 0, s)
+}
+
+fn romanise(spelling: &[u32], s: &mut State) -> u64 {
+    let marks = std::mem::replace(&mut s.lent.marks, bytes(spelling));
+    let answer = asked(ROMANISE, 0, s);
+    assert!(s.lent.marks == bytes(spelling), "the spelling was changed");
+    s.lent.marks = marks;
     answer
 }

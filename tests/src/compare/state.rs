@@ -1,4 +1,5 @@
 //! The state as the archive knows it: the session is 73 lent words.
+use nasturakh_tests::rules::register::Deed;
 use nasturakh_tests::rules::{Answer, Description, Kind, Lent, Part, Session, WRONG_SIZE};
 
 pub const SESSION_WORDS: usize = 73;
@@ -23,6 +24,14 @@ impl State {
     pub fn call(&mut self, kind: Kind) -> Answer {
         let Some(mut session) = decode(&self.words) else { return Answer::refused(WRONG_SIZE) };
         let answer = session.call(kind, &mut self.lent);
+        self.words = encode(&session);
+        answer
+    }
+
+    /// The rendering's answer of the register, and what it leaves.
+    pub fn register(&mut self, deed: &Deed) -> Answer {
+        let Some(mut session) = decode(&self.words) else { return Answer::refused(WRONG_SIZE) };
+        let answer = session.register(deed, &mut self.lent);
         self.words = encode(&session);
         answer
     }

@@ -1,4 +1,5 @@
 //! The ten calls of document 01, and of document 02 the copying call, PUT and GET, and the tray.
+//! The ten calls of document 01, and of document 02 the copying call, PUT and GET, and the name register.
 //!
 //! Each call first makes a plan from the words as they stood when it began, and only then stores:
 //! a plan that fails leaves everything as it was.
@@ -13,6 +14,7 @@ mod layout;
 mod lookup;
 mod nsert;
 mod plan;
+pub mod register;
 mod rows;
 pub mod sequential;
 mod session;
@@ -41,6 +43,7 @@ pub const WRONG_SIZE: u32 = 0o020007;
 pub const WRONG_LENGTH: u32 = 0o020012;
 pub const BAD_WORD: u32 = 0o030001;
 pub const END_REACHED: u32 = 0o030002;
+pub const NOT_ALLOWED: u32 = 0o030007;
 pub const STORED_FULL: u32 = 0o070001;
 pub const NO_ROOM: u32 = 0o070002;
 pub const BAD_FILE: u32 = 0o070003;
