@@ -7,7 +7,7 @@ use native.Mathlib.Decide.{decLt, ℕ-discrete}
 use native.Mathlib.Omega.{arith}
 use borrow.Author.Tests.{eq-eqb, ne-eqb}
 use borrow.Rule.Slice.PartMut.{putMid}
-use lib.ListN.{length, getD, set, length-replicate}
+use lib.ListN.{length, getD, set, length-set, length-replicate}
 use Rattle.words.specs.Words.{part, put}
 use Rattle.words.proofs.Parts.{length-part, length-put, part-put-before, part-put-after, part-written, part-set-before, getD-put-before, put-swap, put-over, put-part, set-put, mid-put}
 use Rattle.table.specs.Tables.{laid}
@@ -165,4 +165,4 @@ pub length-freeText : (p : Description) (link : ℕ) → goodParams p ≡ true �
 unfolding freeText laid
 length-freeText p link h =
     let g = caps p h in
-    simp length-replicate (omega arith)
+    simp (length-set, length-replicate) (omega arith)

@@ -36,11 +36,13 @@ pub record Good (p : Description) : Type 0 where
   pub control-most : p .control ≤ mostSections
   pub n-least : 2 ≤ p .n
   pub n-most : p .n ≤ 262142
+  pub form-least : 1 ≤ p .form
+  pub form-most : p .form ≤ 2
 
 pub good-facts : (p : Description) → goodParams p ≡ true → Good p
 unfolding goodParams
 good-facts p h =
-    let (even, (w₁, (w₂, (k₁, (k₂, (key, (d, (i, (sd, (si, (c₁, (c₂, (n₁, (n₂, u)))))))))))))) = every-hold _ h in
+    let (even, (w₁, (w₂, (k₁, (k₂, (key, (d, (i, (sd, (si, (c₁, (c₂, (n₁, (n₂, (f₁, (f₂, u)))))))))))))))) = every-hold _ h in
     record {
       wpb-even = eqb-true _ _ even;
       wpb-least = leb-true _ _ w₁;
@@ -56,12 +58,14 @@ good-facts p h =
       control-most = leb-true _ _ c₂;
       n-least = leb-true _ _ n₁;
       n-most = leb-true _ _ n₂;
+      form-least = leb-true _ _ f₁;
+      form-most = leb-true _ _ f₂;
     }
 
 pub good-yes : (p : Description) → Good p → goodParams p ≡ true
 unfolding goodParams every
 good-yes p g =
-    simp (eq-eqb _ _ (g .wpb-even), le-leb _ _ (g .wpb-least), le-leb _ _ (g .wpb-most), le-leb _ _ (g .k-least), le-leb _ _ (g .k-most), le-leb _ _ (g .key), le-leb _ _ (g .two-records), le-leb _ _ (g .two-entries), le-leb _ _ (g .space-records), le-leb _ _ (g .space-entries), le-leb _ _ (g .control-least), le-leb _ _ (g .control-most), le-leb _ _ (g .n-least), le-leb _ _ (g .n-most))
+    simp (eq-eqb _ _ (g .wpb-even), le-leb _ _ (g .wpb-least), le-leb _ _ (g .wpb-most), le-leb _ _ (g .k-least), le-leb _ _ (g .k-most), le-leb _ _ (g .key), le-leb _ _ (g .two-records), le-leb _ _ (g .two-entries), le-leb _ _ (g .space-records), le-leb _ _ (g .space-entries), le-leb _ _ (g .control-least), le-leb _ _ (g .control-most), le-leb _ _ (g .n-least), le-leb _ _ (g .n-most), le-leb _ _ (g .form-least), le-leb _ _ (g .form-most))
 
 pub good-no : (p : Description) → (Good p → ⊥) → goodParams p ≡ false
 good-no p f = go (goodParams p) refl

@@ -6,15 +6,16 @@ use native.Mathlib.Omega.{arith}
 use borrow.Rule.Slice.PartMut.{putMid, midOf}
 use lib.ListN.{length, getD, set, length-append, length-replicate, length-set}
 use Rattle.words.specs.Words.{part, put, zeros}
-use Rattle.words.proofs.Parts.{mid-part, set-put, put-after, put-all, put-cons, part-all, length-part, getD-part}
+use Rattle.words.proofs.Parts.{mid-part, set-put, put-after, put-all, part-all, length-part, getD-part}
 use Rattle.table.specs.declared.Shape.{Shape}
 use Rattle.table.specs.Tables.{count, place, inserted, replaced, laid}
 use Rattle.table.specs.Splits.{renamed}
 use Rattle.drum.specs.declared.Description.{Description}
-use Rattle.drum.specs.Params.{fileSize, start}
-use Rattle.drum.specs.Blocks.{Fitting, Block, blockAt, putBlock, freeText}
+use Rattle.drum.specs.Params.{fileSize, start, indexKind, indexShape, tagOf}
+use Rattle.drum.specs.Blocks.{Fitting, Block, blockAt, putBlock}
 use Rattle.drum.specs.Inside.{HasBlock, Takes}
 use Rattle.drum.proofs.Good.{caps}
+use Rattle.drum.proofs.Forms.{entries-read}
 use Rattle.drum.proofs.Blocks.{block-within, length-block, length-putBlock, block-same, block-over, lent-block}
 
 module _ (p : Description) (f : List ℕ) (b : ℕ) where
@@ -35,14 +36,8 @@ module _ (p : Description) (f : List ℕ) (b : ℕ) where
   pub block-wide : HasBlock p f b → 6 ≤ p .wpb
   block-wide h = caps p (h .good) .facts .wpb-least
 
-  pub rest-end : (a : ℕ) → a ≡ start p b → HasBlock p f b → a + 1 + (p .wpb - 1) ≤ length f
-  rest-end a e h =
-      let w = block-wide h in
-      let l = lies-end h in
-      omega arith
-
-  -- its first word is its count
-  pub first-word : (a n : ℕ) → n ≡ getD f a 0 → HasBlock p f b → a ≡ start p b → n ≡ count (blockAt p f b)
+  -- its first word in the file
+  pub first-word : (a n : ℕ) → n ≡ getD f a 0 → HasBlock p f b → a ≡ start p b → n ≡ getD (blockAt p f b) 0 0
   unfolding blockAt
   first-word a n en h e =
       let g = caps p (h .good) in
@@ -51,6 +46,11 @@ module _ (p : Description) (f : List ℕ) (b : ℕ) where
     where
       z : start p b ≡ start p b + 0
       z = omega arith
+
+  -- it is the count of an index block, with its tag
+  pub first-entries : (a n g r : ℕ) → r ≡ n - g → n ≡ getD f a 0 → g ≡ tagOf p indexKind → HasBlock p f b → a ≡ start p b
+      → r ≡ count (indexShape p) (blockAt p f b)
+  first-entries a n g r er en eg h e = entries-read p (blockAt p f b) r n g er (first-word a n en h e) eg
 
   -- the words that are lent are the block's, and as many
   pub lent : (a : ℕ) → a ≡ start p b → midOf a (a + p .wpb - a) f ≡ blockAt p f b
@@ -63,7 +63,7 @@ module _ (p : Description) (f : List ℕ) (b : ℕ) where
   lent-length a h e = ap length (lent a e) ∙ length-block p f (h .file-is) b (h .least, h .most)
 
   -- a text that comes back is the block's then
-  given-back : (a : ℕ) (t : List ℕ) → HasBlock p f b → a ≡ start p b → length t ≡ length (midOf a (a + p .wpb - a) f)
+  pub given-back : (a : ℕ) (t : List ℕ) → HasBlock p f b → a ≡ start p b → length t ≡ length (midOf a (a + p .wpb - a) f)
       → putMid a (a + p .wpb - a) f t ≡ putBlock p f b t
   given-back a t h e k = lent-block p f t b a (a + p .wpb - a) e (omega arith) (k ∙ lent-length a h e)
 
@@ -93,29 +93,14 @@ module _ (p : Description) (f : List ℕ) (b : ℕ) where
 
   -- what the block can take, the words that are lent can
   module _ (a : ℕ) (h : Shape) (i : ℕ) (takes : Takes h i (blockAt p f b)) (e : a ≡ start p b) where
-    pub room-lent : place h (count (midOf a (a + p .wpb - a) f)) + h .stride ≤ length (midOf a (a + p .wpb - a) f)
+    pub room-lent : place h (count h (midOf a (a + p .wpb - a) f)) + h .stride ≤ length (midOf a (a + p .wpb - a) f)
     room-lent = rw (lent a e) (takes .room)
 
-    pub place-lent : i ≤ count (midOf a (a + p .wpb - a) f)
+    pub place-lent : i ≤ count h (midOf a (a + p .wpb - a) f)
     place-lent = rw (lent a e) (takes .place-most)
 
-    pub count-lent : count (midOf a (a + p .wpb - a) f) < 262143
+    pub count-lent : h .tag + count h (midOf a (a + p .wpb - a) f) < 262143
     count-lent = rw (lent a e) (takes .count-most)
-
--- a free block, by zeros behind its first word and the link
-pub freed-by : (p : Description) (f g r : List ℕ) (b a link : ℕ) → r ≡ set g a link → g ≡ put f (a + 1) (zeros (p .wpb - 1)) → a ≡ start p b → HasBlock p f b
-    → r ≡ putBlock p f b (freeText p link)
-unfolding putBlock freeText laid
-freed-by p f g r b a link er eg e h =
-    let c = caps p (h .good) in
-    let q = c .facts in
-    let l = lies-end p f b h in
-    let n = length-replicate {A = ℕ} (p .wpb - 1) 0 in
-    er ∙ ap (λ (z : List ℕ). set z a link) eg ∙ put-cons f a (zeros (p .wpb - 1)) link (omega arith)
-    ∙ ap (λ (x : ℕ). put f x (link ∷ zeros (p .wpb - 1))) e ∙ ap (λ (x : ℕ). put f (start p b) (link ∷ zeros x)) none
-  where
-    none : p .wpb - 1 ≡ p .wpb - 1 - 0
-    none = omega arith
 
 -- a file that fits has its blocks
 pub held : (p : Description) (f b : List ℕ) (x : ℕ) → Fitting p f b → 1 ≤ x → x ≤ p .n → HasBlock p f x

@@ -7,3 +7,5 @@ pub mod Examples
 pub mod Lending
 pub mod Setup
 pub mod Older
+pub mod Forms
+pub mod FreeTexts

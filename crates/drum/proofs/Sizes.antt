@@ -10,7 +10,7 @@ use mir.Val.{Fits}
 use Rattle.table.specs.Tables.{count}
 use Rattle.table.proofs.Places.{row-lt}
 use Rattle.drum.specs.declared.Description.{Description}
-use Rattle.drum.specs.Params.{D, I, goodParams}
+use Rattle.drum.specs.Params.{D, I, goodParams, detailShape}
 use Rattle.drum.specs.Blocks.{Fitting, seen, textOf}
 use Rattle.drum.proofs.Good.{caps}
 use Rattle.drum.proofs.Blocks.{length-textOf}
@@ -58,8 +58,8 @@ module _ (p : Description) (cur : ℕ) (f b t : List ℕ) (a : ℕ) (e : t ≡ t
       omega arith
 
 -- the last row of a block lies in it
-module _ (p : Description) (t : List ℕ) (n : ℕ) (en : n ≡ count t) (good : goodParams p ≡ true)
-    (long : length t ≡ p .wpb) (least : 1 ≤ count t) (most : count t ≤ D p) where
+module _ (p : Description) (t : List ℕ) (n : ℕ) (en : n ≡ count (detailShape p) t) (good : goodParams p ≡ true)
+    (long : length t ≡ p .wpb) (least : 1 ≤ count (detailShape p) t) (most : count (detailShape p) t ≤ D p) where
   pub last-within : 1 + (n - 1) * p .wpr + p .k ≤ length t
   last-within =
       let g = caps p good in

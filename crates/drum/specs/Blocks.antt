@@ -4,12 +4,12 @@ use mathlib.Core.Path.{_≡_}
 use mathlib.Core.Bool.{Bool, true, false, cond, _||_}
 use mathlib.Core.List.{List, [], _∷_}
 use lib.Dec.{eqb}
-use lib.ListN.{length, getD}
+use lib.ListN.{length, getD, set}
 use Rattle.words.specs.Words.{part, put}
 use Rattle.words.specs.Slices.{Slice, was}
 use Rattle.table.specs.Tables.{laid}
 use Rattle.drum.specs.declared.Description.{Description}
-use Rattle.drum.specs.Params.{start, fileSize, goodParams}
+use Rattle.drum.specs.Params.{start, fileSize, goodParams, second, tagOf, freeKind}
 
 -- the words of block b in the file, and the file with the words t in block b [P11]
 unfoldable pub blockAt : Description → List ℕ → ℕ → List ℕ
@@ -48,13 +48,21 @@ chainHead f = getD f 1 0
 abbrev pub lowestUnused : List ℕ → ℕ
 lowestUnused f = getD f 2 0
 
--- "Free block: word 0 the next free block or 0. All other words are 0": its text with that link, and the link in a text [L7, L8]
-unfoldable pub freeText : Description → ℕ → List ℕ
-freeText p link = laid (p .wpb) link []
+-- where a free block has its link: "word 0 the next free block or 0"; in the second form "whose link moves to word 1" [L7, K3]
+unfoldable pub linkPlace : Description → ℕ
+linkPlace p = cond (second p) 1 0
 
--- the link in the text of a free block [L7]
-abbrev pub linkIn : List ℕ → ℕ
-linkIn t = getD t 0 0
+-- "Free block: word 0 the next free block or 0. All other words are 0"; in the second form 12288, the link, and 0: its text with that link [L7, L8, K2, K3]
+unfoldable pub freeText : Description → ℕ → List ℕ
+freeText p link = set (laid (p .wpb) (tagOf p freeKind) []) (linkPlace p) link
+
+-- the link in the text of a free block [L7, K3]
+unfoldable pub linkIn : Description → List ℕ → ℕ
+linkIn p t = getD t (linkPlace p) 0
+
+-- "a wrong kind is one more bad number": whether a text's word 0 says that the block is free; the first form does not say it [K2, K4]
+unfoldable pub isFree : Description → List ℕ → Bool
+isFree p t = cond (second p) (eqb (getD t 0 0) freeKind) true
 
 -- what a plan looks at: the file and the buffer, with the description and the number of the buffered block (0 none)
 pub record Texts : Type 0 where

@@ -20,6 +20,6 @@ pub record HasBlock (p : Description) (f : List ℕ) (b : ℕ) : Type 0 where
 -- a table with room for one row more, which can be put in at place i
 pub record Takes (h : Shape) (i : ℕ) (t : List ℕ) : Type 0 where
   pub counted : 1 ≤ h .base
-  pub room : place h (count t) + h .stride ≤ length t
-  pub place-most : i ≤ count t
-  pub count-most : count t < 262143
+  pub room : place h (count h t) + h .stride ≤ length t
+  pub place-most : i ≤ count h t
+  pub count-most : h .tag + count h t < 262143

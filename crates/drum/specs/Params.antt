@@ -43,7 +43,7 @@ every (t ∷ ts) = t && every ts
 abbrev pub mostSections : ℕ
 mostSections = 16383
 
--- the table of ranges, a line each, with "D .. and I .., each at least 2" [P1, P2, P3, P4, P5, P6, P7, P8]
+-- the table of ranges, a line each, with "D .. and I .., each at least 2" and the two block forms [P1, P2, P3, P4, P5, P6, P7, P8, K1]
 unfoldable pub goodParams : Description → Bool
 goodParams p =
     every
@@ -54,6 +54,7 @@ goodParams p =
     ∷ leb (p .space) (D p - 2) ∷ leb (p .space) (I p - 2)
     ∷ leb 1 (p .control) ∷ leb (p .control) mostSections
     ∷ leb 2 (p .n) ∷ leb (p .n) 262142
+    ∷ leb 1 (p .form) ∷ leb (p .form) 2
     ∷ [])
 
 -- a size of good parameters: "With parameters out of range no size is taken" [O7]
@@ -64,14 +65,34 @@ sizeIf p n = cond (goodParams p) n 0
 unfoldable pub sized : Description → ℕ → ℕ → Bool
 sized p file buffer = every (goodParams p ∷ eqb file (fileSize p) ∷ eqb buffer (p .wpb) ∷ [])
 
--- "Layout": "Master: .. Then entries: key and index block", from word 3 on [L4]
+-- "a second block form, chosen in the parameters": FORM is 2 there, 1 in the first [K1]
+abbrev pub second : Description → Bool
+second p = eqb (p .form) 2
+
+-- what word 0 of a block has besides its count: in the second form the number of its kind, nothing in the first [K2]
+unfoldable pub tagOf : Description → ℕ → ℕ
+tagOf p kind = cond (second p) kind 0
+
+-- the second form: "word 0 is 4096 plus the count for an index block" [K2]
+abbrev pub indexKind : ℕ
+indexKind = 4096
+
+-- "8192 plus the count for a detail block" [K2]
+abbrev pub detailKind : ℕ
+detailKind = 8192
+
+-- "12288 for a free one" [K2]
+abbrev pub freeKind : ℕ
+freeKind = 12288
+
+-- "Layout": "Master: .. Then entries: key and index block", from word 3 on; in both forms word 0 is "sections in use" [L4]
 unfoldable pub masterShape : Description → Shape
-masterShape p = record { base = 3; stride = p .k + 1; width = p .k }
+masterShape p = record { base = 3; stride = p .k + 1; width = p .k; tag = 0 }
 
 -- "Index block: word 0 count, then entries: key and detail block" [L5]
 unfoldable pub indexShape : Description → Shape
-indexShape p = record { base = 1; stride = p .k + 1; width = p .k }
+indexShape p = record { base = 1; stride = p .k + 1; width = p .k; tag = tagOf p indexKind }
 
 -- "Detail block: word 0 count, then records" [L6, P3]
 unfoldable pub detailShape : Description → Shape
-detailShape p = record { base = 1; stride = p .wpr; width = p .k }
+detailShape p = record { base = 1; stride = p .wpr; width = p .k; tag = tagOf p detailKind }

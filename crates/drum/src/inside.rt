@@ -1,13 +1,16 @@
 // Blocks changed where they lie in the file. Each change is that of a table's words, and the file is then the same but for that block.
 use super::Description;
+use super::kinds;
 use table::Shape;
 ghost use mathlib.Core.Path.{_≡_};
 ghost use Prim.Native.Nat.{_+_, _≤_, _<_};
-ghost use lib.ListN.{length};
+ghost use mathlib.Core.List.{[]};
+ghost use lib.ListN.{length, set};
 ghost use Rattle.words.specs.Words.{part};
 ghost use Rattle.words.specs.Slices.{was, became};
 ghost use Rattle.table.specs.Tables.{count, place, inserted, replaced, laid};
 ghost use Rattle.table.specs.Splits.{renamed};
+ghost use Rattle.drum.specs.Params.{indexShape};
 ghost use Rattle.drum.specs.Blocks.{blockAt, putBlock, freeText};
 ghost use Rattle.drum.specs.Inside.{HasBlock, Takes};
 
@@ -21,14 +24,27 @@ pub fn lay_block(p: Description, file: &mut [u32], b: usize, count: usize, rows:
     lay_rows(&mut file[start..end], count, rows);
 }
 
-// Writes block b as a free block: its link, and zeros.
+// Writes block b as a free block: its kind where the form has one, its link, and zeros.
 pub fn free_block(p: Description, file: &mut [u32], b: usize, link: usize)
     requires { ⌜ HasBlock p (now file) b × (link ≤ 262143) ⌝ }
     ensures { λ _. ⌜ became file ≡ putBlock p (was file) b (freeText p link) ⌝ }
 {
     let start = p.start(b);
-    words::zero_words(file, start + 1, p.wpb - 1);
-    words::put_word(file, start, link);
+    let end = start + p.wpb;
+    let kind = p.tag(Description::FREE);
+    let place = p.link_place();
+    lay_free(&mut file[start..end], kind, place, link);
+}
+
+// A kind, a link at its place, and zeros, over all words of a text.
+fn lay_free(t: &mut [u32], kind: usize, place: usize, link: usize)
+    requires { ⌜ (place < length (now t)) × (kind ≤ 262143) × (link ≤ 262143) ⌝ }
+    ensures { λ _. ⌜ became t ≡ set (laid (length (was t)) kind []) place link ⌝ }
+{
+    let n = t.len();
+    words::zero_words(t, 0, n);
+    words::put_word(t, 0, kind);
+    words::put_word(t, place, link);
 }
 
 // A count, rows, and zeros, over all words of a text.
@@ -81,10 +97,10 @@ pub fn set_name_in(p: Description, file: &mut [u32], b: usize, h: Shape, i: usiz
     words::put_word(&mut file[start..end], at, x);
 }
 
-// The count of block b.
-pub fn count_in(p: Description, file: &[u32], b: usize) -> usize
+// How many entries index block b says that it has.
+pub fn entries_of(p: Description, file: &[u32], b: usize) -> usize
     requires { ⌜ HasBlock p (now file) b ⌝ }
-    ensures { λ r. ⌜ r ≡ count (blockAt p (was file) b) ⌝ }
+    ensures { λ r. ⌜ r ≡ count (indexShape p) (blockAt p (was file) b) ⌝ }
 {
-    words::word_at(file, p.start(b))
+    kinds::less(words::word_at(file, p.start(b)), p.tag(Description::INDEX))
 }

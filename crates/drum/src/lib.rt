@@ -1,6 +1,7 @@
 // The lower layer: the file description, blocks moved between file and buffer, and blocks changed where they lie. Only this crate knows where
 // a block lies in a file.
 pub mod inside;
+pub mod kinds;
 
 use table::Shape;
 ghost use mathlib.Core.Path.{_≡_};
@@ -9,8 +10,8 @@ ghost use mathlib.Core.List.{[], _∷_};
 ghost use Prim.Native.Nat.{_+_, _*_, _-_, _≤_, _<_};
 ghost use lib.Dec.{leb};
 ghost use Rattle.drum.specs.Params.{D, I, FD, FI, masterSize, fileSize, sizeIf, start as startOf};
-ghost use Rattle.drum.specs.Params.{every, goodParams, mostSections, sized, masterShape, indexShape, detailShape};
-ghost use Rattle.drum.specs.Blocks.{blockAt, putBlock, Fitting, Block, textOf, atEntry};
+ghost use Rattle.drum.specs.Params.{every, goodParams, mostSections, sized, tagOf, masterShape, indexShape, detailShape};
+ghost use Rattle.drum.specs.Blocks.{linkPlace, blockAt, putBlock, Fitting, Block, textOf, atEntry};
 ghost use Rattle.drum.specs.Parts.{partOf, textPart};
 ghost use Rattle.words.specs.Slices.{was, became};
 
@@ -22,6 +23,7 @@ pub struct Description {
     pub space: usize,
     pub control: usize,
     pub n: usize,
+    pub form: usize,
 }
 
 impl Description {
@@ -36,8 +38,19 @@ impl Description {
 
     pub const MOST_N: usize = 262142;
 
+    // The two block forms, and what the second has in word 0 of each kind of block.
+    pub const FIRST: usize = 1;
+
+    pub const SECOND: usize = 2;
+
+    pub const INDEX: usize = 4096;
+
+    pub const DETAIL: usize = 8192;
+
+    pub const FREE: usize = 12288;
+
     pub fn new() -> Self
-        ensures { λ r. ⌜ r ≡ record { wpb = 0; wpr = 0; k = 0; space = 0; control = 0; n = 0 } ⌝ }
+        ensures { λ r. ⌜ r ≡ record { wpb = 0; wpr = 0; k = 0; space = 0; control = 0; n = 0; form = 1 } ⌝ }
     {
         Self {
             wpb: 0,
@@ -46,6 +59,7 @@ impl Description {
             space: 0,
             control: 0,
             n: 0,
+            form: 1,
         }
     }
 
@@ -53,7 +67,7 @@ impl Description {
         ensures { λ r. ⌜
             r
             ≡ record
-            { wpb = x; wpr = self .wpr; k = self .k; space = self .space; control = self .control; n = self .n }
+            { wpb = x; wpr = self .wpr; k = self .k; space = self .space; control = self .control; n = self .n; form = self .form }
             ⌝ }
     {
         self.wpb = x;
@@ -64,7 +78,7 @@ impl Description {
         ensures { λ r. ⌜
             r
             ≡ record
-            { wpb = self .wpb; wpr = x; k = self .k; space = self .space; control = self .control; n = self .n }
+            { wpb = self .wpb; wpr = x; k = self .k; space = self .space; control = self .control; n = self .n; form = self .form }
             ⌝ }
     {
         self.wpr = x;
@@ -75,7 +89,7 @@ impl Description {
         ensures { λ r. ⌜
             r
             ≡ record
-            { wpb = self .wpb; wpr = self .wpr; k = x; space = self .space; control = self .control; n = self .n }
+            { wpb = self .wpb; wpr = self .wpr; k = x; space = self .space; control = self .control; n = self .n; form = self .form }
             ⌝ }
     {
         self.k = x;
@@ -86,7 +100,7 @@ impl Description {
         ensures { λ r. ⌜
             r
             ≡ record
-            { wpb = self .wpb; wpr = self .wpr; k = self .k; space = x; control = self .control; n = self .n }
+            { wpb = self .wpb; wpr = self .wpr; k = self .k; space = x; control = self .control; n = self .n; form = self .form }
             ⌝ }
     {
         self.space = x;
@@ -97,7 +111,7 @@ impl Description {
         ensures { λ r. ⌜
             r
             ≡ record
-            { wpb = self .wpb; wpr = self .wpr; k = self .k; space = self .space; control = x; n = self .n }
+            { wpb = self .wpb; wpr = self .wpr; k = self .k; space = self .space; control = x; n = self .n; form = self .form }
             ⌝ }
     {
         self.control = x;
@@ -108,11 +122,32 @@ impl Description {
         ensures { λ r. ⌜
             r
             ≡ record
-            { wpb = self .wpb; wpr = self .wpr; k = self .k; space = self .space; control = self .control; n = x }
+            { wpb = self .wpb; wpr = self .wpr; k = self .k; space = self .space; control = self .control; n = x; form = self .form }
             ⌝ }
     {
         self.n = x;
         self
+    }
+
+    pub fn with_form(mut self, x: usize) -> Self
+        ensures { λ r. ⌜
+            r
+            ≡ record
+            { wpb = self .wpb; wpr = self .wpr; k = self .k; space = self .space; control = self .control; n = self .n; form = x }
+            ⌝ }
+    {
+        self.form = x;
+        self
+    }
+
+    // What word 0 of a block has besides its count.
+    pub fn tag(self, kind: usize) -> usize
+        ensures { λ r. ⌜ r ≡ tagOf self kind ⌝ }
+    {
+        if self.form == Self::SECOND {
+            return kind;
+        }
+        0
     }
 
     // D: records that a detail block holds.
@@ -164,6 +199,16 @@ impl Description {
             return 0;
         }
         i - space
+    }
+
+    // Where a free block has its link.
+    pub fn link_place(self) -> usize
+        ensures { λ r. ⌜ r ≡ linkPlace self ⌝ }
+    {
+        if self.form == Self::SECOND {
+            return 1;
+        }
+        0
     }
 
     // Whether the parameters keep document 01's table.
@@ -246,6 +291,7 @@ impl Description {
             base: 3,
             stride: self.k + 1,
             width: self.k,
+            tag: 0,
         }
     }
 
@@ -257,6 +303,7 @@ impl Description {
             base: 1,
             stride: self.k + 1,
             width: self.k,
+            tag: self.tag(Self::INDEX),
         }
     }
 
@@ -267,6 +314,7 @@ impl Description {
             base: 1,
             stride: self.wpr,
             width: self.k,
+            tag: self.tag(Self::DETAIL),
         }
     }
 
@@ -284,13 +332,13 @@ impl Description {
     }
 }
 
-// The rest of document 01's table: room for two records and two entries, and the ranges of SPACE, CONTROL and N.
+// The rest of the table: room for two records and two entries, and the ranges of SPACE, CONTROL, N and FORM.
 fn has_room(p: Description) -> bool
     ensures { λ r. ⌜
         r
         ≡ every
         (leb 2 (D p) ∷ leb 2 (I p) ∷ leb (p .space) (D p - 2) ∷ leb (p .space) (I p - 2)
-        ∷ leb 1 (p .control) ∷ leb (p .control) mostSections ∷ leb 2 (p .n) ∷ leb (p .n) 262142 ∷ [])
+        ∷ leb 1 (p .control) ∷ leb (p .control) mostSections ∷ leb 2 (p .n) ∷ leb (p .n) 262142 ∷ leb 1 (p .form) ∷ leb (p .form) 2 ∷ [])
         ⌝ }
 {
     let d = p.d();
@@ -317,7 +365,13 @@ fn has_room(p: Description) -> bool
     if p.n < 2 {
         return false;
     }
-    p.n <= Description::MOST_N
+    if Description::MOST_N < p.n {
+        return false;
+    }
+    if p.form < Description::FIRST {
+        return false;
+    }
+    p.form <= Description::SECOND
 }
 
 // Brings block b of the file into the buffer.

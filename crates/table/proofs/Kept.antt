@@ -11,6 +11,7 @@ use Rattle.table.specs.declared.Shape.{Shape}
 use Rattle.table.specs.Tables.{place, count, opened, closed, inserted, removed, replaced}
 use Rattle.table.specs.Splits.{renamed, entered}
 use Rattle.table.proofs.Places.{row-le, row-lt}
+use Rattle.table.proofs.Rows.{untag}
 use Rattle.table.proofs.Lengths.{length-opened-part, length-closed-part, length-opened, length-closed, length-renamed, count-renamed}
 
 -- what is behind words written over
@@ -44,52 +45,58 @@ module _ (t : List ℕ) (a e : ℕ) where
 
 module _ (h : Shape) (i : ℕ) (t : List ℕ) where
   -- a row put in
-  module _ (r : List ℕ) (hi : i ≤ count t) (hr : length r ≡ h .stride) (room : place h (count t) + h .stride ≤ length t) where
+  module _ (r : List ℕ) (hi : i ≤ count h t) (hr : length r ≡ h .stride) (room : place h (count h t) + h .stride ≤ length t) where
     abbrev up : List ℕ
-    up = opened t (place h i) (place h (count t)) r
+    up = opened t (place h i) (place h (count h t)) r
 
-    pub count-inserted : 1 ≤ h .base → count (inserted h i r t) ≡ count t + 1
-    unfolding inserted
-    count-inserted one = getD-set-same up 0 (count t + 1) 0 (rw (length-opened t (place h i) (place h (count t)) r (omega (arith, row-le i (count t) (h .stride) hi)) (omega arith)) (omega arith))
+    pub count-inserted : 1 ≤ h .base → count h (inserted h i r t) ≡ count h t + 1
+    unfolding count inserted
+    count-inserted one =
+        let l = length-opened t (place h i) (place h (count h t)) r (omega (arith, row-le i (count h t) (h .stride) hi)) (omega arith) in
+        ap (λ (x : ℕ). x - h .tag) (getD-set-same up 0 (h .tag + (count h t + 1)) 0 (rw l (omega arith)))
+        ∙ untag (h .tag) (count h t + 1)
 
     pub word-inserted : (k : ℕ) → 1 ≤ k → k < place h i → getD (inserted h i r t) k 0 ≡ getD t k 0
     unfolding inserted
     word-inserted k one l =
-        getD-set-other up 0 k (count t + 1) 0 (λ e. omega arith)
-        ∙ word-opened t (place h i) (place h (count t)) r k l (omega (arith, row-le i (count t) (h .stride) hi))
+        getD-set-other up 0 k (h .tag + (count h t + 1)) 0 (λ e. omega arith)
+        ∙ word-opened t (place h i) (place h (count h t)) r k l (omega (arith, row-le i (count h t) (h .stride) hi))
 
-    pub drop-inserted : (b : ℕ) → 1 ≤ h .base → place h (count t) + h .stride ≤ b → drop b (inserted h i r t) ≡ drop b t
+    pub drop-inserted : (b : ℕ) → 1 ≤ h .base → place h (count h t) + h .stride ≤ b → drop b (inserted h i r t) ≡ drop b t
     unfolding inserted
     drop-inserted b one g =
-        drop-set-lt b up 0 (count t + 1) (omega arith)
-        ∙ drop-opened t (place h i) (place h (count t)) r b (omega (arith, row-le i (count t) (h .stride) hi)) (omega arith) (omega arith)
+        drop-set-lt b up 0 (h .tag + (count h t + 1)) (omega arith)
+        ∙ drop-opened t (place h i) (place h (count h t)) r b (omega (arith, row-le i (count h t) (h .stride) hi)) (omega arith) (omega arith)
 
-    pub part-inserted : (b n : ℕ) → 1 ≤ h .base → place h (count t) + h .stride ≤ b → part b n (inserted h i r t) ≡ part b n t
+    pub part-inserted : (b n : ℕ) → 1 ≤ h .base → place h (count h t) + h .stride ≤ b → part b n (inserted h i r t) ≡ part b n t
     unfolding part
     part-inserted b n one g = ap (take n) (drop-inserted b one g)
 
   -- a row taken out
-  module _ (hi : i < count t) (room : place h (count t) ≤ length t) where
+  module _ (hi : i < count h t) (room : place h (count h t) ≤ length t) where
     abbrev down : List ℕ
-    down = closed t (place h i) (place h (count t)) (h .stride)
+    down = closed t (place h i) (place h (count h t)) (h .stride)
 
-    pub count-removed : 1 ≤ h .base → count (removed h i t) ≡ count t - 1
-    unfolding removed
-    count-removed one = getD-set-same down 0 (count t - 1) 0 (rw (length-closed t (place h i) (place h (count t)) (h .stride) (omega (arith, row-lt i (count t) (h .stride) hi)) room) (omega arith))
+    pub count-removed : 1 ≤ h .base → count h (removed h i t) ≡ count h t - 1
+    unfolding count removed
+    count-removed one =
+        let l = length-closed t (place h i) (place h (count h t)) (h .stride) (omega (arith, row-lt i (count h t) (h .stride) hi)) room in
+        ap (λ (x : ℕ). x - h .tag) (getD-set-same down 0 (h .tag + (count h t - 1)) 0 (rw l (omega arith)))
+        ∙ untag (h .tag) (count h t - 1)
 
     pub word-removed : (k : ℕ) → 1 ≤ k → k < place h i → getD (removed h i t) k 0 ≡ getD t k 0
     unfolding removed
     word-removed k one l =
-        getD-set-other down 0 k (count t - 1) 0 (λ e. omega arith)
-        ∙ word-closed t (place h i) (place h (count t)) (h .stride) k l (omega (arith, row-lt i (count t) (h .stride) hi))
+        getD-set-other down 0 k (h .tag + (count h t - 1)) 0 (λ e. omega arith)
+        ∙ word-closed t (place h i) (place h (count h t)) (h .stride) k l (omega (arith, row-lt i (count h t) (h .stride) hi))
 
-    pub drop-removed : (b : ℕ) → 1 ≤ h .base → place h (count t) ≤ b → drop b (removed h i t) ≡ drop b t
+    pub drop-removed : (b : ℕ) → 1 ≤ h .base → place h (count h t) ≤ b → drop b (removed h i t) ≡ drop b t
     unfolding removed
     drop-removed b one g =
-        drop-set-lt b down 0 (count t - 1) (omega arith)
-        ∙ drop-closed t (place h i) (place h (count t)) (h .stride) b (omega (arith, row-lt i (count t) (h .stride) hi)) room g
+        drop-set-lt b down 0 (h .tag + (count h t - 1)) (omega arith)
+        ∙ drop-closed t (place h i) (place h (count h t)) (h .stride) b (omega (arith, row-lt i (count h t) (h .stride) hi)) room g
 
-    pub part-removed : (b n : ℕ) → 1 ≤ h .base → place h (count t) ≤ b → part b n (removed h i t) ≡ part b n t
+    pub part-removed : (b n : ℕ) → 1 ≤ h .base → place h (count h t) ≤ b → part b n (removed h i t) ≡ part b n t
     unfolding part
     part-removed b n one g = ap (take n) (drop-removed b one g)
 
@@ -99,8 +106,9 @@ module _ (h : Shape) (i : ℕ) (t : List ℕ) where
     unfolding replaced
     word-replaced k l = getD-put-before t (place h i) r k l (omega arith)
 
-    pub count-replaced : 1 ≤ h .base → count (replaced h i r t) ≡ count t
-    count-replaced one = word-replaced 0 (omega arith)
+    pub count-replaced : 1 ≤ h .base → count h (replaced h i r t) ≡ count h t
+    unfolding count
+    count-replaced one = ap (λ (x : ℕ). x - h .tag) (word-replaced 0 (omega arith))
 
     pub drop-replaced : (b : ℕ) → place h i + length r ≤ b → drop b (replaced h i r t) ≡ drop b t
     unfolding replaced
@@ -124,20 +132,20 @@ module _ (h : Shape) (i : ℕ) (t : List ℕ) where
   part-renamed x b n g = ap (take n) (drop-renamed x b g)
 
 -- an entry that becomes two
-module _ (h : Shape) (i : ℕ) (r : List ℕ) (x : ℕ) (t : List ℕ) (hb : 1 ≤ h .base) (hw : h .width < h .stride) (hi : i ≤ count t) (hr : length r ≡ h .stride)
-    (room : place h (count t) + h .stride ≤ length t) where
+module _ (h : Shape) (i : ℕ) (r : List ℕ) (x : ℕ) (t : List ℕ) (hb : 1 ≤ h .base) (hw : h .width < h .stride) (hi : i ≤ count h t) (hr : length r ≡ h .stride)
+    (room : place h (count h t) + h .stride ≤ length t) where
   named : List ℕ
   named = renamed h i x t
 
-  same-count : count named ≡ count t
+  same-count : count h named ≡ count h t
   unfolding named
   same-count = count-renamed h i t x hb
 
-  fit : place h (count named) + h .stride ≤ length named
+  fit : place h (count h named) + h .stride ≤ length named
   unfolding named
   fit = rw (count-renamed h i t x hb, length-renamed h i t x) room
 
-  pub count-entered : count (entered h i r x t) ≡ count t + 1
+  pub count-entered : count h (entered h i r x t) ≡ count h t + 1
   unfolding entered named
   count-entered = count-inserted h i named r (rw same-count hi) hr fit hb ∙ ap (λ (n : ℕ). n + 1) same-count
 
@@ -145,12 +153,12 @@ module _ (h : Shape) (i : ℕ) (r : List ℕ) (x : ℕ) (t : List ℕ) (hb : 1 �
   unfolding entered named
   word-entered k one l = word-inserted h i named r (rw same-count hi) hr fit k one l ∙ word-renamed h i t x k l
 
-  pub drop-entered : (b : ℕ) → place h (count t) + h .stride ≤ b → drop b (entered h i r x t) ≡ drop b t
+  pub drop-entered : (b : ℕ) → place h (count h t) + h .stride ≤ b → drop b (entered h i r x t) ≡ drop b t
   unfolding entered named
   drop-entered b g =
       drop-inserted h i named r (rw same-count hi) hr fit b hb (rw same-count g)
-      ∙ drop-renamed h i t x b (omega (arith, row-le i (count t) (h .stride) hi))
+      ∙ drop-renamed h i t x b (omega (arith, row-le i (count h t) (h .stride) hi))
 
-  pub part-entered : (b n : ℕ) → place h (count t) + h .stride ≤ b → part b n (entered h i r x t) ≡ part b n t
+  pub part-entered : (b n : ℕ) → place h (count h t) + h .stride ≤ b → part b n (entered h i r x t) ≡ part b n t
   unfolding part
   part-entered b n g = ap (take n) (drop-entered b g)

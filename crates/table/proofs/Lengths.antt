@@ -29,17 +29,17 @@ module _ (t : List ℕ) (a e : ℕ) where
   length-closed n h h′ = length-put t a (part (a + n) (e - (a + n)) t ++ zeros n) (omega (arith, length-closed-part n h h′))
 
 module _ (h : Shape) (i : ℕ) (t : List ℕ) where
-  pub length-inserted : (r : List ℕ) → i ≤ count t → length r ≡ h .stride → place h (count t) + h .stride ≤ length t → length (inserted h i r t) ≡ length t
+  pub length-inserted : (r : List ℕ) → i ≤ count h t → length r ≡ h .stride → place h (count h t) + h .stride ≤ length t → length (inserted h i r t) ≡ length t
   unfolding inserted
   length-inserted r hi hr room =
-      length-set (opened t (place h i) (place h (count t)) r) 0 (count t + 1)
-      ∙ length-opened t (place h i) (place h (count t)) r (omega (arith, row-le i (count t) (h .stride) hi)) (omega arith)
+      length-set (opened t (place h i) (place h (count h t)) r) 0 (h .tag + (count h t + 1))
+      ∙ length-opened t (place h i) (place h (count h t)) r (omega (arith, row-le i (count h t) (h .stride) hi)) (omega arith)
 
-  pub length-removed : i < count t → place h (count t) ≤ length t → length (removed h i t) ≡ length t
+  pub length-removed : i < count h t → place h (count h t) ≤ length t → length (removed h i t) ≡ length t
   unfolding removed
   length-removed hi room =
-      length-set (closed t (place h i) (place h (count t)) (h .stride)) 0 (count t - 1)
-      ∙ length-closed t (place h i) (place h (count t)) (h .stride) (omega (arith, row-lt i (count t) (h .stride) hi)) room
+      length-set (closed t (place h i) (place h (count h t)) (h .stride)) 0 (h .tag + (count h t - 1))
+      ∙ length-closed t (place h i) (place h (count h t)) (h .stride) (omega (arith, row-lt i (count h t) (h .stride) hi)) room
 
   pub length-replaced : (r : List ℕ) → place h i + length r ≤ length t → length (replaced h i r t) ≡ length t
   unfolding replaced
@@ -49,15 +49,15 @@ module _ (h : Shape) (i : ℕ) (t : List ℕ) where
   unfolding renamed
   length-renamed b = length-set t (place h i + h .width) b
 
-  pub count-renamed : (b : ℕ) → 1 ≤ h .base → count (renamed h i b t) ≡ count t
-  unfolding renamed
-  count-renamed b hb = getD-set-other t (place h i + h .width) 0 b 0 (λ e. omega arith)
+  pub count-renamed : (b : ℕ) → 1 ≤ h .base → count h (renamed h i b t) ≡ count h t
+  unfolding count renamed
+  count-renamed b hb = ap (λ (x : ℕ). x - h .tag) (getD-set-other t (place h i + h .width) 0 b 0 (λ e. omega arith))
 
-pub length-entered : (h : Shape) (i : ℕ) (t r : List ℕ) (b : ℕ) → 1 ≤ h .base → i ≤ count t → length r ≡ h .stride → place h (count t) + h .stride ≤ length t
-    → length (entered h i r b t) ≡ length t
+pub length-entered : (h : Shape) (i : ℕ) (t r : List ℕ) (b : ℕ) → 1 ≤ h .base → i ≤ count h t → length r ≡ h .stride
+    → place h (count h t) + h .stride ≤ length t → length (entered h i r b t) ≡ length t
 unfolding entered
 length-entered h i t r b hb hi hr room =
-    let c : count (renamed h i b t) ≡ count t = count-renamed h i t b hb in
+    let c : count h (renamed h i b t) ≡ count h t = count-renamed h i t b hb in
     let l : length (renamed h i b t) ≡ length t = length-renamed h i t b in
     length-inserted h i (renamed h i b t) r (rw c hi) hr (rw (c, l) room) ∙ l
 
@@ -82,11 +82,11 @@ module _ (w : ℕ) (h : Shape) (n i : ℕ) (r t : List ℕ) (hn : 1 ≤ n) (hr :
   length-low =
       let ws : List ℕ = take (lowCount n * h .stride) (oneMore h n i r t) in
       let l : length ws ≤ lowCount n * h .stride = simp length-take (omega arith) in
-      length-laid w (lowCount n) ws (omega (arith, row-le (lowCount n) n (h .stride) (low-most n hn)))
+      length-laid w (h .tag + lowCount n) ws (omega (arith, row-le (lowCount n) n (h .stride) (low-most n hn)))
 
   pub length-high : length (highText w h n i r t) ≡ w
   unfolding highText
   length-high =
       let ws : List ℕ = drop (lowCount n * h .stride) (oneMore h n i r t) in
       let l : length ws ≤ n * h .stride = simp length-drop (omega (arith, most, row-le 1 (lowCount n) (h .stride) (low-least n))) in
-      length-laid w (n + 1 - lowCount n) ws (omega arith)
+      length-laid w (h .tag + (n + 1 - lowCount n)) ws (omega arith)

@@ -31,41 +31,41 @@ closed-by t t₁ t₂ a e n q p h h′ =
 
 -- a row put in and counted, a row taken out and counted off: n the count as the code read it
 module _ (h : Shape) (i : ℕ) (t t₁ t₂ : List ℕ) (n : ℕ) where
-  pub inserted-by : (r : List ℕ) → t₂ ≡ set t₁ 0 (n + 1) → t₁ ≡ opened t (place h i) (place h n) r → n ≡ count t → t₂ ≡ inserted h i r t
+  pub inserted-by : (r : List ℕ) → t₂ ≡ set t₁ 0 (h .tag + (n + 1)) → t₁ ≡ opened t (place h i) (place h n) r → n ≡ count h t → t₂ ≡ inserted h i r t
   unfolding inserted
   inserted-by r e₂ e₁ en = rw (e₂, e₁, en)
 
-  pub removed-by : t₂ ≡ set t₁ 0 (n - 1) → t₁ ≡ closed t (place h i) (place h n) (h .stride) → n ≡ count t → t₂ ≡ removed h i t
+  pub removed-by : t₂ ≡ set t₁ 0 (h .tag + (n - 1)) → t₁ ≡ closed t (place h i) (place h n) (h .stride) → n ≡ count h t → t₂ ≡ removed h i t
   unfolding removed
   removed-by e₂ e₁ en = rw (e₂, e₁, en)
 
 -- the words that move lie in the table
-module _ (h : Shape) (t : List ℕ) (n : ℕ) (en : n ≡ count t) where
-  pub ends-before : (i : ℕ) → i ≤ count t → place h i ≤ place h n
+module _ (h : Shape) (t : List ℕ) (n : ℕ) (en : n ≡ count h t) where
+  pub ends-before : (i : ℕ) → i ≤ count h t → place h i ≤ place h n
   ends-before i l = omega (arith, row-le i n (h .stride) (omega arith))
 
-  pub ends-after : (i : ℕ) → i < count t → place h i + h .stride ≤ place h n
+  pub ends-after : (i : ℕ) → i < count h t → place h i + h .stride ≤ place h n
   ends-after i l = omega (arith, row-lt i n (h .stride) (omega arith))
 
-  pub ends-inside : place h (count t) ≤ length t → place h n ≤ length t
+  pub ends-inside : place h (count h t) ≤ length t → place h n ≤ length t
   ends-inside room = rw en room
 
-  pub ends-room : place h (count t) + h .stride ≤ length t → place h n + h .stride ≤ length t
+  pub ends-room : place h (count h t) + h .stride ≤ length t → place h n + h .stride ≤ length t
   ends-room room = rw en room
 
   module _ (short : length t * 4 < 2 ^ 63) where
-    pub end-span : place h (count t) ≤ length t → Fits w64 (n * h .stride)
+    pub end-span : place h (count h t) ≤ length t → Fits w64 (n * h .stride)
     end-span room = let l = ends-inside room in omega arith
 
-    pub end-place : place h (count t) ≤ length t → Fits w64 (place h n)
+    pub end-place : place h (count h t) ≤ length t → Fits w64 (place h n)
     end-place room = let l = ends-inside room in omega arith
 
-module _ (h : Shape) (t : List ℕ) (i : ℕ) (short : length t * 4 < 2 ^ 63) (most : i ≤ count t) (room : place h (count t) ≤ length t) where
+module _ (h : Shape) (t : List ℕ) (i : ℕ) (short : length t * 4 < 2 ^ 63) (most : i ≤ count h t) (room : place h (count h t) ≤ length t) where
   pub at-span : Fits w64 (i * h .stride)
-  at-span = omega (arith, row-le i (count t) (h .stride) most)
+  at-span = omega (arith, row-le i (count h t) (h .stride) most)
 
   pub at-place : Fits w64 (place h i)
-  at-place = omega (arith, row-le i (count t) (h .stride) most)
+  at-place = omega (arith, row-le i (count h t) (h .stride) most)
 
 pub room-less : (h : Shape) (n z : ℕ) → place h n + h .stride ≤ z → place h n ≤ z
 room-less h n z l = omega arith

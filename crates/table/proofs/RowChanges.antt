@@ -1,4 +1,4 @@
--- What the operations on a table's words do to its rows. The front of a table whose count changes is `n ∷ rest`, n the number of its rows.
+-- What the operations on a table's words do to its rows. The front of a table whose count changes is `(h .tag + n) ∷ rest`, n the number of its rows.
 use mathlib.Core.Path.{_≡_, sym, ap, _∙_}
 use mathlib.Core.List.{List, [], _∷_, _++_, append-assoc}
 use Prim.Native.Nat.{ℕ, suc, _+_, _*_, _-_}
@@ -76,35 +76,36 @@ module _ (h : Shape) (front : List ℕ) (eb : h .base ≡ length front) (bs : Li
 -- the count with it
 module _ (h : Shape) (rest : List ℕ) (eb : h .base ≡ suc (length rest)) (bs cs : List (List ℕ)) (hb : Each (h .stride) bs) (hc : Each (h .stride) cs) where
   pub inserted-encode : (n m : ℕ) (r room pad : List ℕ) → n ≡ length (bs ++ cs) → m ≡ length (bs ++ (r ∷ cs)) → length r ≡ h .stride → length room ≡ h .stride
-      → inserted h (length bs) r (encode (n ∷ rest) (bs ++ cs) (room ++ pad)) ≡ encode (m ∷ rest) (bs ++ (r ∷ cs)) pad
+      → inserted h (length bs) r (encode ((h .tag + n) ∷ rest) (bs ++ cs) (room ++ pad)) ≡ encode ((h .tag + m) ∷ rest) (bs ++ (r ∷ cs)) pad
   unfolding inserted
   inserted-encode n m r room pad en em hr ho =
       let c : n + 1 ≡ m = omega (arith, length-append bs (r ∷ cs), length-append bs cs) in
-      rw (count-encode n rest (bs ++ cs) (room ++ pad), c)
-      (ap (λ (k : ℕ). set (opened (encode (n ∷ rest) (bs ++ cs) (room ++ pad)) (place h (length bs)) (place h k) r) 0 m) en
-      ∙ ap (λ (t : List ℕ). set t 0 m) (opened-encode h (n ∷ rest) eb bs hb cs hc r room pad hr ho)
-      ∙ set-count n m rest (bs ++ (r ∷ cs)) pad)
+      rw (count-encode h n rest (bs ++ cs) (room ++ pad), c)
+      (ap (λ (k : ℕ). set (opened (encode ((h .tag + n) ∷ rest) (bs ++ cs) (room ++ pad)) (place h (length bs)) (place h k) r) 0 (h .tag + m)) en
+      ∙ ap (λ (t : List ℕ). set t 0 (h .tag + m)) (opened-encode h ((h .tag + n) ∷ rest) eb bs hb cs hc r room pad hr ho)
+      ∙ set-count (h .tag + n) (h .tag + m) rest (bs ++ (r ∷ cs)) pad)
 
   pub removed-encode : (n m : ℕ) (r pad : List ℕ) → n ≡ length (bs ++ (r ∷ cs)) → m ≡ length (bs ++ cs) → length r ≡ h .stride
-      → removed h (length bs) (encode (n ∷ rest) (bs ++ (r ∷ cs)) pad) ≡ encode (m ∷ rest) (bs ++ cs) (zeros (h .stride) ++ pad)
+      → removed h (length bs) (encode ((h .tag + n) ∷ rest) (bs ++ (r ∷ cs)) pad) ≡ encode ((h .tag + m) ∷ rest) (bs ++ cs) (zeros (h .stride) ++ pad)
   unfolding removed
   removed-encode n m r pad en em hr =
       let c : n - 1 ≡ m = omega (arith, length-append bs (r ∷ cs), length-append bs cs) in
-      rw (count-encode n rest (bs ++ (r ∷ cs)) pad, c)
-      (ap (λ (k : ℕ). set (closed (encode (n ∷ rest) (bs ++ (r ∷ cs)) pad) (place h (length bs)) (place h k) (h .stride)) 0 m) en
-      ∙ ap (λ (t : List ℕ). set t 0 m) (closed-encode h (n ∷ rest) eb bs hb cs hc r pad hr)
-      ∙ set-count n m rest (bs ++ cs) (zeros (h .stride) ++ pad))
+      rw (count-encode h n rest (bs ++ (r ∷ cs)) pad, c)
+      (ap (λ (k : ℕ). set (closed (encode ((h .tag + n) ∷ rest) (bs ++ (r ∷ cs)) pad) (place h (length bs)) (place h k) (h .stride)) 0 (h .tag + m)) en
+      ∙ ap (λ (t : List ℕ). set t 0 (h .tag + m)) (closed-encode h ((h .tag + n) ∷ rest) eb bs hb cs hc r pad hr)
+      ∙ set-count (h .tag + n) (h .tag + m) rest (bs ++ cs) (zeros (h .stride) ++ pad))
 
 -- an entry becomes two: r, and after it the entry's key with another block
 pub entered-encode : (h : Shape) (rest : List ℕ) → h .base ≡ suc (length rest) → h .stride ≡ h .width + 1 → (bs cs : List (List ℕ)) → Each (h .stride) bs
     → Each (h .stride) cs
     → (n m : ℕ) (k : List ℕ) (old new : ℕ) (r room pad : List ℕ) → n ≡ length (bs ++ ((k ++ (old ∷ [])) ∷ cs))
     → m ≡ length (bs ++ (r ∷ ((k ++ (new ∷ [])) ∷ cs))) → length k ≡ h .width → length r ≡ h .stride → length room ≡ h .stride
-    → entered h (length bs) r new (encode (n ∷ rest) (bs ++ ((k ++ (old ∷ [])) ∷ cs)) (room ++ pad)) ≡ encode (m ∷ rest) (bs ++ (r ∷ ((k ++ (new ∷ [])) ∷ cs))) pad
+    → entered h (length bs) r new (encode ((h .tag + n) ∷ rest) (bs ++ ((k ++ (old ∷ [])) ∷ cs)) (room ++ pad))
+    ≡ encode ((h .tag + m) ∷ rest) (bs ++ (r ∷ ((k ++ (new ∷ [])) ∷ cs))) pad
 unfolding entered
 entered-encode h rest eb es bs cs hb hc n m k old new r room pad en em ek hr ho =
     let e : List ℕ = k ++ (new ∷ []) in
-    let he : length e ≡ h .stride = entry-length h (n ∷ rest) eb es bs hb k ek new cs pad in
+    let he : length e ≡ h .stride = entry-length h ((h .tag + n) ∷ rest) eb es bs hb k ek new cs pad in
     let en′ : n ≡ length (bs ++ (e ∷ cs)) = omega (arith, length-append bs ((k ++ (old ∷ [])) ∷ cs), length-append bs (e ∷ cs)) in
-    ap (inserted h (length bs) r) (renamed-encode h (n ∷ rest) eb bs hb k old new cs (room ++ pad) ek)
+    ap (inserted h (length bs) r) (renamed-encode h ((h .tag + n) ∷ rest) eb bs hb k old new cs (room ++ pad) ek)
     ∙ inserted-encode h rest eb bs (e ∷ cs) hb (he, hc) n m r room pad en′ em hr ho

@@ -86,16 +86,18 @@ search-encode w h front eb kw key rows e pad =
 -- the three searches of a table with its count
 module _ (h : Shape) (rest : List ℕ) (eb : h .base ≡ suc (length rest)) (kw : h .width ≤ h .stride) (key : List ℕ) (n : ℕ) (rows : List (List ℕ))
     (en : n ≡ length rows) (e : Each (h .stride) rows) (pad : List ℕ) where
-  counted : (w : Want) → firstWhere (fits w h key (encode (n ∷ rest) rows pad)) (count (encode (n ∷ rest) rows pad)) ≡ firstIn (wants w (h .width) key) rows
+  counted : (w : Want)
+      → firstWhere (fits w h key (encode ((h .tag + n) ∷ rest) rows pad)) (count h (encode ((h .tag + n) ∷ rest) rows pad))
+      ≡ firstIn (wants w (h .width) key) rows
   counted w =
-      ap (firstWhere (fits w h key (encode (n ∷ rest) rows pad))) (count-encode n rest rows pad ∙ en)
-      ∙ search-encode w h (n ∷ rest) eb kw key rows e pad
+      ap (firstWhere (fits w h key (encode ((h .tag + n) ∷ rest) rows pad))) (count-encode h n rest rows pad ∙ en)
+      ∙ search-encode w h ((h .tag + n) ∷ rest) eb kw key rows e pad
 
-  pub with-encode : rowWith h key (encode (n ∷ rest) rows pad) ≡ firstIn (λ r. sameKey (take (h .width) r) key) rows
+  pub with-encode : rowWith h key (encode ((h .tag + n) ∷ rest) rows pad) ≡ firstIn (λ r. sameKey (take (h .width) r) key) rows
   with-encode = counted Equal
 
-  pub from-encode : rowFrom h key (encode (n ∷ rest) rows pad) ≡ firstIn (λ r. keyLe key (take (h .width) r)) rows
+  pub from-encode : rowFrom h key (encode ((h .tag + n) ∷ rest) rows pad) ≡ firstIn (λ r. keyLe key (take (h .width) r)) rows
   from-encode = counted NotBelow
 
-  pub above-encode : rowAbove h key (encode (n ∷ rest) rows pad) ≡ firstIn (λ r. keyLt key (take (h .width) r)) rows
+  pub above-encode : rowAbove h key (encode ((h .tag + n) ∷ rest) rows pad) ≡ firstIn (λ r. keyLt key (take (h .width) r)) rows
   above-encode = counted Over

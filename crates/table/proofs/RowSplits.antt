@@ -43,18 +43,18 @@ module _ (h : Shape) (front : List ℕ) (eb : h .base ≡ length front) (bs cs :
     more : oneMore h n (length bs) r (encode front (bs ++ cs) pad) ≡ cat (us ++ vs)
     more = more-encode n r en ∙ ap cat cut
 
-    pub low-encode : lowText w h n (length bs) r (encode front (bs ++ cs) pad) ≡ table w us
+    pub low-encode : lowText w h n (length bs) r (encode front (bs ++ cs) pad) ≡ table h w us
     unfolding lowText
-    low-encode = rw (more, ← low, take-cat (h .stride) us vs low-each) (table-laid w (length us) us refl)
+    low-encode = rw (more, ← low, take-cat (h .stride) us vs low-each) (table-laid h w (length us) us refl)
 
-    pub high-encode : highText w h n (length bs) r (encode front (bs ++ cs) pad) ≡ table w vs
+    pub high-encode : highText w h n (length bs) r (encode front (bs ++ cs) pad) ≡ table h w vs
     unfolding highText
-    high-encode = rw (more, ← high-count, ← low, drop-cat (h .stride) us vs low-each) (table-laid w (length vs) vs refl)
+    high-encode = rw (more, ← high-count, ← low, drop-cat (h .stride) us vs low-each) (table-laid h w (length vs) vs refl)
 
 -- the bound of what stays is the key of its last row
 pub bound-table : (w : ℕ) (h : Shape) → h .base ≡ 1 → h .width ≤ h .stride → (n : ℕ) (xs : List (List ℕ)) (y : List ℕ) → Each (h .stride) xs
     → length y ≡ h .stride → suc (length xs) ≡ lowCount n
-    → lowBound h n (table w (xs ++ (y ∷ []))) ≡ take (h .width) y
+    → lowBound h n (table h w (xs ++ (y ∷ []))) ≡ take (h .width) y
 unfolding lowBound
 bound-table w h one kw n xs y hx hy e =
     let i : lowCount n - 1 ≡ length xs = omega arith in
@@ -64,15 +64,15 @@ bound-table w h one kw n xs y hx hy e =
 module _ (w : ℕ) (h : Shape) (one : h .base ≡ 1) (bs cs : List (List ℕ)) (hb : Each (h .stride) bs) (hc : Each (h .stride) cs)
     (r : List ℕ) (hr : length r ≡ h .stride)
     (us vs : List (List ℕ)) (cut : bs ++ (r ∷ cs) ≡ us ++ vs) (low : length us ≡ lowCount (length (bs ++ cs))) where
-  is : table w (bs ++ cs) ≡ encode (length (bs ++ cs) ∷ []) (bs ++ cs) (behind w (h .stride) (bs ++ cs))
-  is = table-encode w (h .stride) (bs ++ cs) (all-append _ bs cs hb hc)
+  is : table h w (bs ++ cs) ≡ encode ((h .tag + length (bs ++ cs)) ∷ []) (bs ++ cs) (behind w (h .stride) (bs ++ cs))
+  is = table-encode h w (h .stride) (bs ++ cs) (all-append _ bs cs hb hc)
 
-  pub table-low : lowText w h (length (bs ++ cs)) (length bs) r (table w (bs ++ cs)) ≡ table w us
+  pub table-low : lowText w h (length (bs ++ cs)) (length bs) r (table h w (bs ++ cs)) ≡ table h w us
   table-low =
       ap (lowText w h (length (bs ++ cs)) (length bs) r) is
-      ∙ low-encode h (length (bs ++ cs) ∷ []) one bs cs hb hc (behind w (h .stride) (bs ++ cs)) w (length (bs ++ cs)) r hr refl us vs cut low
+      ∙ low-encode h ((h .tag + length (bs ++ cs)) ∷ []) one bs cs hb hc (behind w (h .stride) (bs ++ cs)) w (length (bs ++ cs)) r hr refl us vs cut low
 
-  pub table-high : highText w h (length (bs ++ cs)) (length bs) r (table w (bs ++ cs)) ≡ table w vs
+  pub table-high : highText w h (length (bs ++ cs)) (length bs) r (table h w (bs ++ cs)) ≡ table h w vs
   table-high =
       ap (highText w h (length (bs ++ cs)) (length bs) r) is
-      ∙ high-encode h (length (bs ++ cs) ∷ []) one bs cs hb hc (behind w (h .stride) (bs ++ cs)) w (length (bs ++ cs)) r hr refl us vs cut low
+      ∙ high-encode h ((h .tag + length (bs ++ cs)) ∷ []) one bs cs hb hc (behind w (h .stride) (bs ++ cs)) w (length (bs ++ cs)) r hr refl us vs cut low

@@ -1,7 +1,7 @@
 -- A table read as rows: base = the number of words in front, so master, index block and detail block are one case.
 use mathlib.Core.Path.{_≡_, refl, sym, ap, _∙_, subst}
 use mathlib.Core.List.{List, [], _∷_, _++_, append-assoc}
-use Prim.Native.Nat.{ℕ, suc, _+_, _*_, _≤_, _<_}
+use Prim.Native.Nat.{ℕ, suc, _+_, _*_, _≤_, _<_, _-_}
 use native.Mathlib.Nat.{suc-mul, zero-mul}
 use native.Mathlib.Omega.{arith}
 use lib.ListN.{length, take, drop, getD, set, length-append}
@@ -67,9 +67,18 @@ pub length-encode : (s : ℕ) (front : List ℕ) (rows : List (List ℕ)) (pad :
 unfolding encode
 length-encode s front rows pad e = simp length-append (omega (arith, length-cat s rows e))
 
-pub count-encode : (n : ℕ) (rest : List ℕ) (rows : List (List ℕ)) (pad : List ℕ) → count (encode (n ∷ rest) rows pad) ≡ n
-unfolding encode
-count-encode n rest rows pad = refl
+-- the count, less its tag
+pub untag : (g n : ℕ) → g + n - g ≡ n
+untag g n = omega arith
+
+-- where there is no tag, as in the master and in the first form, the count is word 0
+pub count-plain : (h : Shape) (t : List ℕ) → h .tag ≡ 0 → count h t ≡ getD t 0 0
+unfolding count
+count-plain h t e = omega arith
+
+pub count-encode : (h : Shape) (n : ℕ) (rest : List ℕ) (rows : List (List ℕ)) (pad : List ℕ) → count h (encode ((h .tag + n) ∷ rest) rows pad) ≡ n
+unfolding encode count
+count-encode h n rest rows pad = untag (h .tag) n
 
 pub set-count : (n m : ℕ) (rest : List ℕ) (rows : List (List ℕ)) (pad : List ℕ) → set (encode (n ∷ rest) rows pad) 0 m ≡ encode (m ∷ rest) rows pad
 unfolding encode

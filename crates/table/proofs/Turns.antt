@@ -28,9 +28,17 @@ pub record RowAt (base stride width n z i a : ℕ) : Type 0 where
   pub wide : width ≤ stride
   pub short : z * 4 < 2 ^ 63
 
+-- the shape of a search's loop: no row depends on the tag, so the loop does not know it
+abbrev pub shaped : ℕ → ℕ → ℕ → Shape
+shaped base stride width = record { base = base; stride = stride; width = width; tag = 0 }
+
+-- of the first i rows none is wanted
+abbrev pub Passed : Want → ℕ → ℕ → ℕ → List ℕ → List ℕ → ℕ → Type 0
+Passed w base stride width key t i = (j : ℕ) → j < i → fits w (shaped base stride width) key t j ≡ false
+
 -- of the first i rows the keys are below the key sought
 pub record Low (base stride width : ℕ) (key t : List ℕ) (i : ℕ) : Type 0 where
-  pub low : AllBelow (record { base = base; stride = stride; width = width }) key t i
+  pub low : AllBelow (shaped base stride width) key t i
 
 pub row-next-at : (base stride width n z i a : ℕ) → RowAt base stride width n z i a → i < n → RowAt base stride width n z (i + 1) (a + stride)
 row-next-at base stride width n z i a r below =
@@ -121,12 +129,13 @@ module _ (base stride width n i a : ℕ) (t key : List ℕ) (at : ℕ)
 
 -- no row that was passed is wanted
 module _ (w : Want) (h : Shape) (key t : List ℕ) where
-  pub unwanted : (i : ℕ) → AllBelow h key t i → (j : ℕ) → j < i → fits w h key t j ≡ false
+  pub unwanted : (i : ℕ) → AllBelow h key t i → Passed w (h .base) (h .stride) (h .width) key t i
   unfolding fits keyAt
   unwanted i all j l = low-unwanted w key _ (all j l)
 
-  pub found-none : (base stride width n z i a : ℕ) → RowAt base stride width n z i a → ((j : ℕ) → j < i → fits w h key t j ≡ false) → n ≤ i
+  pub found-none : (base stride width n z i a : ℕ) → RowAt base stride width n z i a → Passed w (h .base) (h .stride) (h .width) key t i → n ≤ i
       → n ≡ firstWhere (fits w h key t) n
+  unfolding fits keyAt
   found-none base stride width n z i a r none least =
       let m = r .most in
       let e : i ≡ n = omega arith in
@@ -134,15 +143,17 @@ module _ (w : Want) (h : Shape) (key t : List ℕ) where
 
   -- the row at word a, compared with the key
   module _ (n z i a : ℕ) (p : RowAt (h .base) (h .stride) (h .width) n z i a) (o : Order) (r : Bool) (er : r ≡ asked w o)
-      (eo : o ≡ order (part a (h .width) t) key) (none : (j : ℕ) → j < i → fits w h key t j ≡ false) where
+      (eo : o ≡ order (part a (h .width) t) key) (none : Passed w (h .base) (h .stride) (h .width) key t i) where
     tested : fits w h key t i ≡ r
     unfolding fits keyAt
     tested = let q = p .here in rw (er, eo, q) (sym (asked-wanted w key (part (place h i) (h .width) t)))
 
     pub found-at : i < n → r ≡ true → i ≡ firstWhere (fits w h key t) n
+    unfolding fits keyAt
     found-at l y = sym (first-at _ n i l none (tested ∙ y))
 
-    pub passed-over : r ≡ false → (j : ℕ) → j < i + 1 → fits w h key t j ≡ false
+    pub passed-over : r ≡ false → Passed w (h .base) (h .stride) (h .width) key t (i + 1)
+    unfolding fits keyAt
     passed-over y = below-more _ i none (tested ∙ y)
 
 -- the search for an equal key: nothing to compare, the row that has it, and one more that has not
@@ -150,7 +161,7 @@ pub found-any : (h : Shape) (t key : List ℕ) (at n : ℕ) → h .width ≡ 0 �
 found-any h t key at n e = sym (first-zero _ n (no-words h t key at 0 e))
 
 pub found-same : (h : Shape) (t key : List ℕ) (at n i a m : ℕ) → RowAt (h .base) (h .stride) (h .width) n (length t) i a
-    → m ≡ firstWhere (differs t a key at) (h .width) → ((j : ℕ) → j < i → fits Equal h (part at (h .width) key) t j ≡ false) → m ≡ h .width → i < n
+    → m ≡ firstWhere (differs t a key at) (h .width) → Passed Equal (h .base) (h .stride) (h .width) (part at (h .width) key) t i → m ≡ h .width → i < n
     → at + h .width ≤ length key → i ≡ firstWhere (fits Equal h (part at (h .width) key) t) n
 unfolding fits keyAt
 found-same h t key at n i a m r em none e l there =

@@ -19,11 +19,11 @@ oneMore h n i r t =
 
 -- the two texts of w words: what stays, and "the rest go to a new block" [C12, C15]
 unfoldable pub lowText : ℕ → Shape → ℕ → ℕ → List ℕ → List ℕ → List ℕ
-lowText w h n i r t = laid w (lowCount n) (take (lowCount n * h .stride) (oneMore h n i r t))
+lowText w h n i r t = laid w (h .tag + lowCount n) (take (lowCount n * h .stride) (oneMore h n i r t))
 
 -- the upper of the two texts [C12, C15]
 unfoldable pub highText : ℕ → Shape → ℕ → ℕ → List ℕ → List ℕ → List ℕ
-highText w h n i r t = laid w (n + 1 - lowCount n) (drop (lowCount n * h .stride) (oneMore h n i r t))
+highText w h n i r t = laid w (h .tag + (n + 1 - lowCount n)) (drop (lowCount n * h .stride) (oneMore h n i r t))
 
 -- "the old block's bound becomes its highest key": the key of the last row that stays [C13]
 unfoldable pub lowBound : Shape → ℕ → List ℕ → List ℕ

@@ -1,4 +1,4 @@
--- Tables. Master, index block and detail block are one thing: a count in word 0, and from word `base` on that many rows of `stride`
+-- Tables. Master, index block and detail block are one thing: a count in word 0 after the tag of the kind, and from word `base` on that many rows of `stride`
 -- words, each of which begins with a key of `width` words. Document 01, "Layout".
 use Prim.Native.Nat.{ℕ, zero, suc, _+_, _*_, _-_, _<_}
 use mathlib.Core.Path.{_≡_}
@@ -14,9 +14,10 @@ use Rattle.table.specs.declared.Shape.{Shape}
 use Rattle.table.specs.declared.Want.{Want}
 use Rattle.table.specs.declared.Want.the-variants.{Equal, NotBelow, Over}
 
--- "word 0 count" (of the master: "word 0 sections in use") [L1, L5, L6]
-abbrev pub count : List ℕ → ℕ
-count t = getD t 0 0
+-- "word 0 count" (of the master: "word 0 sections in use"); in the second form "4096 plus the count for an index block, 8192 plus the count
+-- for a detail block": word 0 less the tag of the kind, 0 where it is below [L1, L5, L6]
+unfoldable pub count : Shape → List ℕ → ℕ
+count h t = getD t 0 0 - h .tag
 
 -- where row i begins
 abbrev pub place : Shape → ℕ → ℕ
@@ -76,15 +77,15 @@ differs t p k a m = not (eqb (getD t (p + m) 0) (getD k (a + m) 0))
 
 -- the first row whose key is the key; is not below it; is above it: else the count [W5]
 abbrev pub rowWith : Shape → List ℕ → List ℕ → ℕ
-rowWith h key t = firstWhere (fits Equal h key t) (count t)
+rowWith h key t = firstWhere (fits Equal h key t) (count h t)
 
 -- the first row whose key is not below the key, else the count [W5]
 abbrev pub rowFrom : Shape → List ℕ → List ℕ → ℕ
-rowFrom h key t = firstWhere (fits NotBelow h key t) (count t)
+rowFrom h key t = firstWhere (fits NotBelow h key t) (count h t)
 
 -- the first row whose key is above the key, else the count [W5]
 abbrev pub rowAbove : Shape → List ℕ → List ℕ → ℕ
-rowAbove h key t = firstWhere (fits Over h key t) (count t)
+rowAbove h key t = firstWhere (fits Over h key t) (count h t)
 
 -- t with the words s before its words a to e, which move up
 unfoldable pub opened : List ℕ → ℕ → ℕ → List ℕ → List ℕ
@@ -96,16 +97,16 @@ closed t a e n = put t a (part (a + n) (e - (a + n)) t ++ zeros n)
 
 -- t with row r put in at place i [C11, C26]
 unfoldable pub inserted : Shape → ℕ → List ℕ → List ℕ → List ℕ
-inserted h i r t = set (opened t (place h i) (place h (count t)) r) 0 (count t + 1)
+inserted h i r t = set (opened t (place h i) (place h (count h t)) r) 0 (h .tag + (count h t + 1))
 
 -- t with the row at place i taken out; the words given up become 0 [C17, C34]
 unfoldable pub removed : Shape → ℕ → List ℕ → List ℕ
-removed h i t = set (closed t (place h i) (place h (count t)) (h .stride)) 0 (count t - 1)
+removed h i t = set (closed t (place h i) (place h (count h t)) (h .stride)) 0 (h .tag + (count h t - 1))
 
 -- t with the words r over row i from its first word on: a whole row, or its key alone [C4]
 unfoldable pub replaced : Shape → ℕ → List ℕ → List ℕ → List ℕ
 replaced h i r t = put t (place h i) r
 
--- a block of w words written anew: the count, the rows' words, and "All other words are 0" [C34, L8]
+-- a block of w words written anew: word 0, the rows' words, and "All other words are 0" [C34, L8]
 unfoldable pub laid : ℕ → ℕ → List ℕ → List ℕ
 laid w n rows = n ∷ (rows ++ zeros (w - 1 - length rows))

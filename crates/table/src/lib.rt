@@ -1,5 +1,5 @@
 // Tables in slices of words: rows of `stride` words from word `base` on, each beginning with a key of `width` words, their count in
-// word 0. Master, index block and detail block are such tables, so one function serves all three.
+// word 0 after the tag of their kind. Master, index block and detail block are such tables, so one function serves all three.
 use words::Order;
 ghost use mathlib.Core.Path.{_≡_};
 ghost use Prim.Native.Nat.{_+_, _*_, _≤_, _<_};
@@ -13,6 +13,7 @@ pub struct Shape {
     pub base: usize,
     pub stride: usize,
     pub width: usize,
+    pub tag: usize,
 }
 
 // What a search looks for: a row whose key equals the one sought, is not below it, or is above it.
@@ -217,36 +218,49 @@ pub fn close_words(t: &mut [u32], a: usize, e: usize, n: usize)
     words::zero_words(t, e - n, n);
 }
 
+// The count of a table: word 0 less the tag of its kind, 0 where word 0 is below it.
+pub fn count_of(h: Shape, t: &[u32]) -> usize
+    requires { ⌜ 1 ≤ length (now t) ⌝ }
+    ensures { λ r. ⌜ r ≡ count h (was t) ⌝ }
+{
+    let word = words::word_at(t, 0);
+    let tag = h.tag;
+    if word < tag {
+        return 0;
+    }
+    word - tag
+}
+
 // Puts the row at word `from` of `row` in before row i, and counts it.
 pub fn insert_row(h: Shape, t: &mut [u32], i: usize, row: &[u32], from: usize)
     requires { ⌜
         (1 ≤ h .base)
-        × (place h (count (now t)) + h .stride ≤ length (now t))
-        × (i ≤ count (now t))
-        × (count (now t) < 262143)
+        × (place h (count h (now t)) + h .stride ≤ length (now t))
+        × (i ≤ count h (now t))
+        × (h .tag + count h (now t) < 262143)
         × (from + h .stride ≤ length (now row))
         ⌝ }
     ensures { λ _. ⌜ became t ≡ inserted h i (part from (h .stride) (was row)) (was t) ⌝ }
 {
     let base = h.base;
     let stride = h.stride;
-    let n = words::word_at(t, 0);
+    let n = count_of(h, t);
     open_words(t, base + i * stride, base + n * stride, row, from, stride);
-    words::put_word(t, 0, n + 1);
+    words::put_word(t, 0, h.tag + (n + 1));
 }
 
 // Takes row i out, and counts it off.
 pub fn remove_row(h: Shape, t: &mut [u32], i: usize)
     requires { ⌜
-        (1 ≤ h .base) × (place h (count (now t)) ≤ length (now t)) × (i < count (now t)) × (count (now t) ≤ 262143)
+        (1 ≤ h .base) × (place h (count h (now t)) ≤ length (now t)) × (i < count h (now t)) × (h .tag + count h (now t) ≤ 262143)
         ⌝ }
     ensures { λ _. ⌜ became t ≡ removed h i (was t) ⌝ }
 {
     let base = h.base;
     let stride = h.stride;
-    let n = words::word_at(t, 0);
+    let n = count_of(h, t);
     close_words(t, base + i * stride, base + n * stride, stride);
-    words::put_word(t, 0, n - 1);
+    words::put_word(t, 0, h.tag + (n - 1));
 }
 
 // Writes n words of row from word `from` on over row i: the whole row, or its key alone.

@@ -1,20 +1,17 @@
 -- Of every row passed the test is false: of the low ones at the front, and of those compared.
 use mathlib.Core.Path.{_≡_}
-use mathlib.Core.Bool.{false}
-use Prim.Native.Nat.{ℕ, _-_, _<_}
+use Prim.Native.Nat.{_-_}
 use native.Mathlib.Omega.{arith}
 use borrow.Author.Needs.{needs}
 use lib.ListN.{length}
 use Rattle.words.specs.Words.{part}
-use Rattle.table.specs.Tables.{fits}
-use Rattle.table.proofs.Turns.{RowAt, row-next-at, key-inside, row-fits, passed-span, passed-place, unwanted, found-at, found-none, passed-over}
+use Rattle.table.proofs.Turns.{RowAt, Passed, row-next-at, key-inside, row-fits, passed-span, passed-place, unwanted, found-at, found-none, passed-over}
 use Rattle.table.proofs.find_row.Statement.{statement}
 use Rattle.table.proofs.find_row.Tie as tie
 
 abbrev Inv-loop : tie.InvT-loop
 Inv-loop w t n key at base stride width low i₀ place₀ i place =
-    RowAt base stride width n (length t) i place
-    × ((j : ℕ) → j < i → fits w (record { base = base; stride = stride; width = width }) (part at width key) t j ≡ false)
+    RowAt base stride width n (length t) i place × Passed w base stride width (part at width key) t i
 
 abbrev μ-loop : tie.MeasureT-loop
 μ-loop w t n key at base stride width low i₀ place₀ i place = n - i

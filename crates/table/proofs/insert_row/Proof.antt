@@ -16,6 +16,7 @@ insert-row-spec =
     (λ c. search (end-place, room-less))
     (λ c κs. (search ends-before, search ends-room, search))
     (λ c. search needs)
+    (λ c. search needs)
     (λ c κs. search needs)
     (λ c. search needs)
     (λ c. search inserted-by))

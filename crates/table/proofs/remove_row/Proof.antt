@@ -17,6 +17,7 @@ remove-row-spec =
     (λ c. search end-place)
     (λ c κs. (search ends-after, search ends-inside))
     (λ c. search needs)
+    (λ c. search needs)
     (λ c κs. search needs)
     (λ c. search needs)
     (λ c. search removed-by))

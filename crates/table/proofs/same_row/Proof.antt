@@ -12,15 +12,15 @@ use Rattle.words.specs.Words.{part}
 use Rattle.table.specs.declared.Want.the-variants.{Equal}
 use Rattle.table.specs.Tables.{fits, keyAt}
 use Rattle.table.proofs.Differs.{other-word, told-below, told-other}
-use Rattle.table.proofs.Turns.{RowAt, row-next-at, key-inside, word-inside, word-fits, word-scaled, row-fits, told-inside, told-fits, told-scaled}
-use Rattle.table.proofs.Turns.{found-any, found-same, found-none}
+use Rattle.table.proofs.Turns.{RowAt, Passed, shaped, row-next-at, key-inside, word-inside, word-fits, word-scaled, row-fits}
+use Rattle.table.proofs.Turns.{told-inside, told-fits, told-scaled, found-any, found-same, found-none}
 use Rattle.table.proofs.same_row.Statement.{statement}
 use Rattle.table.proofs.same_row.Tie as tie
 
 abbrev Inv-loop : tie.InvT-loop
 Inv-loop t n key at base stride width i₀ row₀ m₀ word₀ i row m word =
     RowAt base stride width n (length t) i row × (m < width) × (word ≡ getD key (at + m) 0)
-    × ((j : ℕ) → j < i → fits Equal (record { base = base; stride = stride; width = width }) (part at width key) t j ≡ false)
+    × Passed Equal base stride width (part at width key) t i
 
 abbrev μ-loop : tie.MeasureT-loop
 μ-loop t n key at base stride width i₀ row₀ m₀ word₀ i row m word = n - i
@@ -28,7 +28,8 @@ abbrev μ-loop : tie.MeasureT-loop
 -- after a row that is passed: which word to look at, what the key has there, and that the row is not wanted
 passed : (c : tie.Joined2 Inv-loop μ-loop) → let a = c .before .before .before .before .before .before .before .before .args in (c .if2 .m < a .h .width)
     × (c .if2 .word ≡ getD (a .key .now) (a .at + c .if2 .m) 0)
-    × (fits Equal (a .h) (part (a .at) (a .h .width) (a .key .now)) (a .t .now) (c .before .before .before .loop .i) ≡ false)
+    × (fits Equal (shaped (a .h .base) (a .h .stride) (a .h .width)) (part (a .at) (a .h .width) (a .key .now)) (a .t .now) (c .before .before .before .loop .i)
+    ≡ false)
 unfolding fits keyAt
 passed c =
     let a = c .before .before .before .before .before .before .before .before .args in

@@ -1,6 +1,8 @@
--- Zeros behind the first word, and the link in it, are a free block's text.
+-- The block's own words are lent, and come back as a free block's text.
 use native.Mathlib.Omega.{arith}
-use Rattle.drum.proofs.Lent.{lies-end, lies-start, block-wide, rest-end, freed-by}
+use Rattle.drum.proofs.Forms.{free-tag}
+use Rattle.drum.proofs.Lent.{lies-end}
+use Rattle.drum.proofs.FreeTexts.{freed-back, link-lies}
 use borrow.Author.Needs.{needs}
 use Rattle.drum.proofs.inside.free_block.Statement.{statement}
 use Rattle.drum.proofs.inside.free_block.Tie as tie
@@ -10,9 +12,13 @@ free-block-spec =
     tie.close
     (tie.spec
     (λ c κs. search needs)
-    (λ c. omega (arith, lies-end, block-wide))
-    (λ c. omega (arith, block-wide))
-    (λ c κs. search rest-end)
-    (λ c κs. (omega (arith, lies-start), search))
+    (λ c. omega (arith, lies-end))
+    (λ c κs. search needs)
+    (λ c κs. search needs)
+    (λ c. omega (arith, lies-end))
     (λ c. search needs)
-    (λ c. search freed-by))
+    (λ c. search needs)
+    (λ c. omega (arith, lies-end))
+    (λ c κs. (search link-lies, omega (arith, free-tag), search))
+    (λ c. search needs)
+    (λ c. search freed-back))
