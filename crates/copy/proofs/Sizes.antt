@@ -21,7 +21,7 @@ use Rattle.rules.proofs.Copies.{CopySized, copy-yes, copy-no}
 
 -- the description that `with_control` gives
 abbrev pub controlled : ℕ → Description → Description
-controlled c p = record { wpb = p .wpb; wpr = p .wpr; k = p .k; space = p .space; control = c; n = p .n }
+controlled c p = record { wpb = p .wpb; wpr = p .wpr; k = p .k; space = p .space; control = c; n = p .n; form = p .form }
 
 pub under-is : (c : ℕ) (p q : Description) → q ≡ controlled c p → q ≡ underControl c p
 unfolding underControl

@@ -5,7 +5,7 @@ use mathlib.Core.List.{List, append-nil}
 use mathlib.Core.Bool.{true, _&&_}
 use native.Mathlib.Omega.{arith}
 use native.Mathlib.Nat.{not-suc-le-zero, mul-le-mul-right}
-use lib.ListN.{length, getD, length-append}
+use lib.ListN.{length, length-append}
 use Rattle.words.specs.Words.{part, allAre}
 use Rattle.words.specs.Keys.{ones, isOnes, keyLe}
 use Rattle.words.proofs.Parts.{part-add}
@@ -21,7 +21,7 @@ use Rattle.layout.specs.Holds.{LeafOk, LeavesOk}
 use Rattle.layout.proofs.Good.{Sized, row-more, cap-d, cap-i, block-in}
 use Rattle.layout.proofs.Lists.{last-right, bound-right, records-append}
 use Rattle.layout.proofs.Read.{LeafFacts, SectionFacts, LeavesAt, Sections, leafAt, leavesAt, sectionAt, sectionsAt, rows-length, leaves-length}
-use Rattle.layout.proofs.Read.{last-next, last-one}
+use Rattle.layout.proofs.Read.{recordsAt, entriesAt, last-next, last-one}
 use Rattle.layout.proofs.Texts.{zeros-are, length-key}
 use Rattle.layout.proofs.Standing.{section-bound}
 use Rattle.layout.proofs.Order.{befores, before-some, rising-keys, all-bounded, all-wide, last-row}
@@ -50,7 +50,7 @@ module _ (p : Description) (f : List ℕ) (z : Sized p f) where
   unfolding leafAt
   leaf-ok low e h i w =
       let s = start p (named p f e) in
-      let n = getD f s 0 in
+      let n = recordsAt p f s in
       let kwpr = z .good .key in
       let t = tested p f low e (s + 1) n (w .good) in
       let l : n * p .wpr ≤ D p * p .wpr = mul-le-mul-right (p .wpr) (w .rows .fits .1) in
@@ -75,7 +75,7 @@ module _ (p : Description) (f : List ℕ) (z : Sized p f) where
   unfolding sectionAt
   section-ok low e i w =
       let s = start p (named p f e) in
-      let n = getD f s 0 in
+      let n = entriesAt p f s in
       let l : n * (p .k + 1) ≤ I p * (p .k + 1) = mul-le-mul-right (p .k + 1) (w .rows .fits .1) in
       leaves-ok n low (s + 1) (omega arith) (omega (arith, block-in p f z (named p f e) i, cap-i p (z .good))) (w .leaves)
 
@@ -130,7 +130,7 @@ module _ (p : Description) (f : List ℕ) (z : Sized p f) where
   unfolding leafAt
   leaf-end low e i w q =
       let s = start p (named p f e) in
-      let n = getD f s 0 in
+      let n = recordsAt p f s in
       let le : n - 1 + 1 ≤ D p = omega (arith, w .rows .fits) in
       let l : (n - 1 + 1) * p .wpr ≤ D p * p .wpr = mul-le-mul-right (p .wpr) le in
       let k : lastRow (s + 1) (p .wpr) n + p .wpr ≤ length f = omega (arith, block-in p f z (named p f e) i, cap-d p (z .good)) in

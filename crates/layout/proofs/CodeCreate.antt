@@ -12,8 +12,9 @@ use Rattle.words.proofs.Parts.{put-snoc, put-all, put-after, set-put, drop-zero
 use Rattle.table.specs.Tables.{laid}
 use Rattle.table.proofs.Places.{row-lt}
 use Rattle.drum.specs.declared.Description.{Description}
-use Rattle.drum.specs.Params.{goodParams, masterSize, fileSize, start}
+use Rattle.drum.specs.Params.{goodParams, masterSize, fileSize, start, tagOf, indexKind, detailKind, indexShape, detailShape}
 use Rattle.drum.proofs.Good.{caps}
+use Rattle.drum.proofs.Forms.{tag-most}
 use Rattle.layout.specs.Create.{endRecord, created, masterOn, indexOn, detailOn}
 
 -- a turn of the loop that writes ONES, and the block behind them
@@ -101,15 +102,16 @@ ones-length k s = length-append (ones k) s ∙ ap (λ (z : ℕ). z + length s) (
 
 -- the texts of the first two blocks
 module _ (p : Description) (w : Begins p) where
-  index-text : laid (p .wpb) 1 (ones (p .k) ++ (2 ∷ [])) ≡ 1 ∷ (ones (p .k) ++ (2 ∷ zeros (p .wpb - 2 - p .k)))
+  index-text : (c : ℕ) → laid (p .wpb) c (ones (p .k) ++ (2 ∷ [])) ≡ c ∷ (ones (p .k) ++ (2 ∷ zeros (p .wpb - 2 - p .k)))
   unfolding laid
-  index-text =
+  index-text c =
       let e : p .wpb - 1 - length (ones (p .k) ++ (2 ∷ [])) ≡ p .wpb - 2 - p .k = rw (ones-length (p .k) (2 ∷ [])) (omega arith) in
       rw (e, append-assoc)
 
-  detail-text : laid (p .wpb) 1 (endRecord p) ++ zeros ((p .n - 2) * p .wpb) ≡ 1 ∷ (ones (p .k) ++ zeros (p .wpb - 1 - p .k + (p .n - 2) * p .wpb))
+  detail-text : (c : ℕ) → laid (p .wpb) c (endRecord p) ++ zeros ((p .n - 2) * p .wpb)
+      ≡ c ∷ (ones (p .k) ++ zeros (p .wpb - 1 - p .k + (p .n - 2) * p .wpb))
   unfolding laid endRecord
-  detail-text =
+  detail-text c =
       let z : List ℕ = zeros (p .wpr - p .k) in
       let l : length (ones (p .k) ++ z) ≡ p .wpr = ones-length (p .k) z ∙ ap (λ (x : ℕ). p .k + x) (length-replicate (p .wpr - p .k) 0) ∙ omega arith in
       let e : p .wpr - p .k + (p .wpb - 1 - p .wpr) ≡ p .wpb - 1 - p .k = omega arith in
@@ -121,12 +123,12 @@ module _ (p : Description) (w : Begins p) where
       ∙ ap (λ (s : List ℕ). s ++ y) (join (p .wpr - p .k) (p .wpb - 1 - p .wpr))
       ∙ ap (λ (i : ℕ). zeros i ++ y) e
       ∙ join (p .wpb - 1 - p .k) ((p .n - 2) * p .wpb) in
-      rw l (ap (λ (s : List ℕ). 1 ∷ s) (append-assoc (x ++ z) v y ∙ append-assoc x z (v ++ y) ∙ ap (λ (s : List ℕ). x ++ s) j))
+      rw l (ap (λ (s : List ℕ). c ∷ s) (append-assoc (x ++ z) v y ∙ append-assoc x z (v ++ y) ∙ ap (λ (s : List ℕ). x ++ s) j))
 
-regroup : (x z₁ z₂ z₃ : List ℕ)
-    → (1 ∷ 0 ∷ 3 ∷ (x ++ (1 ∷ []))) ++ z₁ ++ (1 ∷ (x ++ (2 ∷ []))) ++ z₂ ++ (1 ∷ x) ++ z₃
-    ≡ (1 ∷ 0 ∷ 3 ∷ (x ++ (1 ∷ z₁))) ++ ((1 ∷ (x ++ (2 ∷ z₂))) ++ (1 ∷ (x ++ z₃)))
-regroup x z₁ z₂ z₃ = simp append-assoc
+regroup : (c d : ℕ) (x z₁ z₂ z₃ : List ℕ)
+    → (1 ∷ 0 ∷ 3 ∷ (x ++ (1 ∷ []))) ++ z₁ ++ (c ∷ (x ++ (2 ∷ []))) ++ z₂ ++ (d ∷ x) ++ z₃
+    ≡ (1 ∷ 0 ∷ 3 ∷ (x ++ (1 ∷ z₁))) ++ ((c ∷ (x ++ (2 ∷ z₂))) ++ (d ∷ (x ++ z₃)))
+regroup c d x z₁ z₂ z₃ = simp append-assoc
 
 -- what is written over zeros, in the order of the code: k words of key, m of the master, b of a block, r behind the second block
 module _ (k m b r : ℕ) (hm : 4 + k ≤ m) (hb : 2 + k ≤ b) where
@@ -144,21 +146,21 @@ module _ (k m b r : ℕ) (hm : 4 + k ≤ m) (hb : 2 + k ≤ b) where
       let n₂ : length (set f 0 1) ≡ t = length-set f 0 1 ∙ n₁ in
       e′ ∙ word-on (set f 0 1) s 2 3 (omega arith) ∙ put-on (set f 0 1) (1 ∷ []) 1 (t - 1) 1 2 (m - 4 - k + (b + (b + r))) a₁ refl refl (3 ∷ s) (omega arith)
 
-  -- a block's count and rows s, behind l
-  block-on : (f f′ l s : List ℕ) (i g a m′ : ℕ) → f ≡ l ++ zeros (g + (1 + length s) + m′) → length l ≡ i → i + g ≡ a → f′ ≡ put (set f a 1) (a + 1) s
-      → (f′ ≡ l ++ zeros g ++ (1 ∷ s) ++ zeros m′) × (length (l ++ zeros g ++ (1 ∷ s)) ≡ a + 1 + length s)
-  block-on f f′ l s i g a m′ e n j e′ =
+  -- a block's word 0, c, and rows s, behind l
+  block-on : (c : ℕ) (f f′ l s : List ℕ) (i g a m′ : ℕ) → f ≡ l ++ zeros (g + (1 + length s) + m′) → length l ≡ i → i + g ≡ a → f′ ≡ put (set f a c) (a + 1) s
+      → (f′ ≡ l ++ zeros g ++ (c ∷ s) ++ zeros m′) × (length (l ++ zeros g ++ (c ∷ s)) ≡ a + 1 + length s)
+  block-on c f f′ l s i g a m′ e n j e′ =
       let t : ℕ = g + (1 + length s) + m′ in
       let n₁ : length f ≡ i + t = ap length e ∙ length-append l (zeros t) ∙ (λ z. n z + length-replicate {A = ℕ} t 0 z) in (
-        e′ ∙ word-on f s a 1 (omega arith) ∙ put-on f l i t g a m′ e n j (1 ∷ s) (omega arith),
-        length-on f l i t g a m′ e n j (1 ∷ s) (a + 1 + length s) (omega arith),
+        e′ ∙ word-on f s a c (omega arith) ∙ put-on f l i t g a m′ e n j (c ∷ s) (omega arith),
+        length-on f l i t g a m′ e n j (c ∷ s) (a + 1 + length s) (omega arith),
       )
 
-  all-on : (f f₁ f₂ f₃ : List ℕ) → f ≡ zeros (m + (b + (b + r))) → f₁ ≡ put (set (set f 0 1) 2 3) 3 (ones k ++ (1 ∷ []))
-      → f₂ ≡ put (set f₁ m 1) (m + 1) (ones k ++ (2 ∷ []))
-      → f₃ ≡ put (set f₂ (m + b) 1) (m + b + 1) (ones k)
-      → f₃ ≡ (1 ∷ 0 ∷ 3 ∷ (ones k ++ (1 ∷ zeros (m - 4 - k)))) ++ ((1 ∷ (ones k ++ (2 ∷ zeros (b - 2 - k)))) ++ (1 ∷ (ones k ++ zeros (b - 1 - k + r))))
-  all-on f f₁ f₂ f₃ e e₁ e₂ e₃ =
+  all-on : (c d : ℕ) (f f₁ f₂ f₃ : List ℕ) → f ≡ zeros (m + (b + (b + r))) → f₁ ≡ put (set (set f 0 1) 2 3) 3 (ones k ++ (1 ∷ []))
+      → f₂ ≡ put (set f₁ m c) (m + 1) (ones k ++ (2 ∷ []))
+      → f₃ ≡ put (set f₂ (m + b) d) (m + b + 1) (ones k)
+      → f₃ ≡ (1 ∷ 0 ∷ 3 ∷ (ones k ++ (1 ∷ zeros (m - 4 - k)))) ++ ((c ∷ (ones k ++ (2 ∷ zeros (b - 2 - k)))) ++ (d ∷ (ones k ++ zeros (b - 1 - k + r))))
+  all-on c d f f₁ f₂ f₃ e e₁ e₂ e₃ =
       let g₁ : ℕ = m - 4 - k in
       let g₂ : ℕ = b - 2 - k in
       let n₀ = ones-length k (1 ∷ []) in
@@ -167,17 +169,24 @@ module _ (k m b r : ℕ) (hm : 4 + k ≤ m) (hb : 2 + k ≤ b) where
       let t₁ : m - 4 - k + (b + (b + r)) ≡ g₁ + (1 + length (ones k ++ (2 ∷ []))) + (g₂ + (b + r)) = omega arith in
       let t₂ : g₂ + (b + r) ≡ g₂ + (1 + length (ones k)) + (b - 1 - k + r) = omega arith in
       let a₁ = master-on f f₁ e e₁ ∙ ap (λ (z : ℕ). master ++ zeros z) t₁ in
-      let (a₂, h₂) = block-on f₁ f₂ master (ones k ++ (2 ∷ [])) (4 + k) g₁ m (g₂ + (b + r)) a₁ (omega arith) (omega arith) e₂ in
-      let l₂ : List ℕ = master ++ zeros g₁ ++ (1 ∷ (ones k ++ (2 ∷ []))) in
-      let (a₃, h₃) = block-on f₂ f₃ l₂ (ones k) (m + 2 + k) g₂ (m + b) (b - 1 - k + r) (a₂ ∙ ap (λ (z : ℕ). l₂ ++ zeros z) t₂) (omega arith) (omega arith) e₃ in
-      a₃ ∙ regroup (ones k) (zeros g₁) (zeros g₂) (zeros (b - 1 - k + r))
+      let (a₂, h₂) = block-on c f₁ f₂ master (ones k ++ (2 ∷ [])) (4 + k) g₁ m (g₂ + (b + r)) a₁ (omega arith) (omega arith) e₂ in
+      let l₂ : List ℕ = master ++ zeros g₁ ++ (c ∷ (ones k ++ (2 ∷ []))) in
+      let e₂′ = a₂ ∙ ap (λ (z : ℕ). l₂ ++ zeros z) t₂ in
+      let (a₃, h₃) = block-on d f₂ f₃ l₂ (ones k) (m + 2 + k) g₂ (m + b) (b - 1 - k + r) e₂′ (omega arith) (omega arith) e₃ in
+      a₃ ∙ regroup c d (ones k) (zeros g₁) (zeros g₂) (zeros (b - 1 - k + r))
 
 -- a word set keeps the length
-pub set-kept : (t u : List ℕ) (i x : ℕ) → length u ≡ length (set t i x) → length u ≡ length t
-set-kept t u i x e = e ∙ length-set t i x
-
 pub sets-kept : (t t₁ u : List ℕ) (i x j y : ℕ) → length u ≡ length (set (set t₁ i x) j y) → length t₁ ≡ length t → length u ≡ length t
 sets-kept t t₁ u i x j y e k = e ∙ length-set (set t₁ i x) j y ∙ length-set t₁ i x ∙ k
+
+-- a block's word 0, and what follows it
+pub laid-index : (t t₁ t₂ : List ℕ) (at n k : ℕ) → t₂ ≡ put t₁ (at + 1) (ones k ++ (2 ∷ [])) → t₁ ≡ set t at n → t₂ ≡ indexOn at n k t
+unfolding indexOn
+laid-index t t₁ t₂ at n k e₂ e₁ = e₂ ∙ ap (λ (l : List ℕ). put l (at + 1) (ones k ++ (2 ∷ []))) e₁
+
+pub laid-detail : (t t₁ t₂ : List ℕ) (at n k : ℕ) → t₂ ≡ put t₁ (at + 1) (ones k) → t₁ ≡ set t at n → t₂ ≡ detailOn at n k t
+unfolding detailOn
+laid-detail t t₁ t₂ at n k e₂ e₁ = e₂ ∙ ap (λ (l : List ℕ). put l (at + 1) (ones k)) e₁
 
 -- one part after the other, and the words of a new file
 pub laid-master : (t t₁ t₂ : List ℕ) (k : ℕ) → t₂ ≡ put (set (set t₁ 0 1) 2 3) 3 (ones k ++ (1 ∷ [])) → t₁ ≡ put t 0 (zeros (length t))
@@ -187,19 +196,30 @@ laid-master t t₁ t₂ k e₂ e₁ =
     let z : t₁ ≡ zeros (length t) = e₁ ∙ put-all t (zeros (length t)) (length-replicate (length t) 0) in
     e₂ ∙ ap (λ (l : List ℕ). put (set (set l 0 1) 2 3) 3 (ones k ++ (1 ∷ []))) z
 
-pub laid-blocks : (t t₁ t₂ : List ℕ) (first second k : ℕ) → t₂ ≡ detailOn second k t₁ → t₁ ≡ indexOn first k t → t₂ ≡ detailOn second k (indexOn first k t)
-laid-blocks t t₁ t₂ first second k e₂ e₁ = e₂ ∙ ap (detailOn second k) e₁
+pub laid-blocks : (p : Description) (t t₁ t₂ : List ℕ) (first second g h : ℕ) → t₂ ≡ detailOn second (h + 1) (p .k) t₁ → t₁ ≡ indexOn first (g + 1) (p .k) t
+    → g ≡ tagOf p indexKind → h ≡ tagOf p detailKind
+    → t₂ ≡ detailOn second (tagOf p detailKind + 1) (p .k) (indexOn first (tagOf p indexKind + 1) (p .k) t)
+laid-blocks p t t₁ t₂ first second g h e₂ e₁ eg eh =
+    e₂
+    ∙ (λ i. detailOn second (eh i + 1) (p .k) (e₁ i))
+    ∙ ap (λ (x : ℕ). detailOn second (tagOf p detailKind + 1) (p .k) (indexOn first (x + 1) (p .k) t)) eg
 
-pub laid-out : (p : Description) (f f₁ f₂ : List ℕ) (first second : ℕ) → f₂ ≡ detailOn second (p .k) (indexOn first (p .k) f₁)
+pub laid-out : (p : Description) (f f₁ f₂ : List ℕ) (first second : ℕ)
+    → f₂ ≡ detailOn second (tagOf p detailKind + 1) (p .k) (indexOn first (tagOf p indexKind + 1) (p .k) f₁)
     → f₁ ≡ masterOn (p .k) (zeros (length f)) → first ≡ start p 1 → second ≡ start p 2 → length f ≡ fileSize p → goodParams p ≡ true → f₂ ≡ created p
-unfolding created masterOn indexOn detailOn
+unfolding created masterOn indexOn detailOn indexShape detailShape
 laid-out p f f₁ f₂ first second e₂ e₁ q₁ q₂ size good =
     let w = begins p good in
     let r : ℕ = (p .n - 2) * p .wpb in
     let t : length f ≡ masterSize p + (p .wpb + (p .wpb + r)) = omega arith in
     let e₃ = rw (q₁, q₂, w .first, w .second) at e₂ in
-    rw (index-text p w, detail-text p w)
-    (all-on (p .k) (masterSize p) (p .wpb) r (w .master) (w .room) (zeros (length f)) f₁ _ f₂ (ap (λ (n : ℕ). zeros n) t) e₁ refl e₃)
+    rw (index-text p w (tagOf p indexKind + 1), detail-text p w (tagOf p detailKind + 1))
+    (all-on (p .k) (masterSize p) (p .wpb) r (w .master) (w .room) (tagOf p indexKind + 1) (tagOf p detailKind + 1)
+    (zeros (length f)) f₁ _ f₂ (ap (λ (n : ℕ). zeros n) t) e₁ refl e₃)
+
+-- a tag as the code has it
+pub tag-at-most : (p : Description) (kind g : ℕ) → g ≡ tagOf p kind → g ≤ kind
+tag-at-most p kind g e = rw e (tag-most p kind)
 
 -- what is written lies in the file
 module _ (p : Description) (good : goodParams p ≡ true) where

@@ -11,7 +11,7 @@ use Rattle.words.specs.Words.{part, topWord, allAre}
 use Rattle.words.specs.Keys.{keyLt, keyLe, isOnes}
 use Rattle.drum.specs.declared.Description.{Description}
 use Rattle.layout.specs.Inspect.{keyHeld, lastRow, above, ascends, endOk, recordsOk, rowsIn}
-use Rattle.layout.specs.Inspected.{counted}
+use Rattle.layout.specs.Inspected.{counted, rowsOf}
 use Rattle.layout.proofs.CodeFlags.{counted-is, failed, held}
 
 -- a key above the one before
@@ -78,21 +78,24 @@ module _ (p : Description) (f : List ℕ) (low e a n : ℕ) (t : Bool) (et : t �
     unfolding recordsOk keyLe
     records-end g eg h = simp (held t _ et y, bound, h) (eg ∙ ap (endOk p f e) er)
 
--- the count in word s, and the words behind the rows
-module _ (p : Description) (f : List ℕ) (most stride s n : ℕ) (en : n ≡ getD f s 0) where
-  pub rows-few : n < 1 → rowsIn p f most stride s ≡ counted 0
+-- the count in word s less the tag, and the words behind the rows
+module _ (p : Description) (f : List ℕ) (most stride tag s n w : ℕ) (eq : n ≡ w - tag) (ew : w ≡ getD f s 0) where
+  en : n ≡ getD f s 0 - tag
+  en = eq ∙ ap (λ (x : ℕ). x - tag) ew
+
+  pub rows-few : n < 1 → rowsIn p f most (rowsOf p stride tag) s ≡ counted 0
   unfolding rowsIn
   rows-few h = simp (← en, lt-leb _ _ h)
 
-  pub rows-many : most < n → 1 ≤ n → rowsIn p f most stride s ≡ counted 0
+  pub rows-many : most < n → 1 ≤ n → rowsIn p f most (rowsOf p stride tag) s ≡ counted 0
   unfolding rowsIn
   rows-many h l = simp (← en, le-leb _ _ l, lt-leb _ _ h)
 
   module _ (t : Bool) (et : t ≡ allAre 0 (part (s + (1 + n * stride)) (p .wpb - (1 + n * stride)) f)) (l : 1 ≤ n) (h : n ≤ most) where
-    pub rows-behind : not t ≡ true → rowsIn p f most stride s ≡ counted 0
+    pub rows-behind : not t ≡ true → rowsIn p f most (rowsOf p stride tag) s ≡ counted 0
     unfolding rowsIn
     rows-behind y = simp (← en, le-leb _ _ l, le-leb _ _ h, failed t _ et y)
 
-    pub rows-good : not t ≡ false → rowsIn p f most stride s ≡ counted n
+    pub rows-good : not t ≡ false → rowsIn p f most (rowsOf p stride tag) s ≡ counted n
     unfolding rowsIn
     rows-good y = simp (← en, le-leb _ _ l, le-leb _ _ h, held t _ et y, counted-is n l)

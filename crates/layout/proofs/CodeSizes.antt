@@ -4,15 +4,16 @@ use mathlib.Core.Bool.{Bool, false, not}
 use mathlib.Core.List.{List}
 use Prim.Native.Nat.{ℕ, _+_, _*_, _-_, _^_, _≤_, _<_}
 use native.Mathlib.Omega.{arith}
-use lib.ListN.{length}
+use lib.ListN.{length, take, drop}
 use mir.Syntax.{w64}
 use mir.Val.{Fits}
 use Rattle.table.proofs.Places.{row-le, row-next}
 use Rattle.drum.specs.declared.Description.{Description}
 use Rattle.drum.specs.Params.{D, I, start, masterSize, fileSize, sizeIf}
-use Rattle.drum.specs.Blocks.{Block}
+use Rattle.words.specs.Words.{part}
+use Rattle.drum.specs.Blocks.{blockAt, Block}
 use Rattle.drum.proofs.Good.{caps, size-good}
-use Rattle.drum.proofs.Blocks.{block-within}
+use Rattle.drum.proofs.Blocks.{block-within, length-block}
 use Rattle.layout.specs.Inspect.{marked}
 use Rattle.layout.specs.Inspected.{flagged, Fit}
 use Rattle.layout.proofs.CodeMarks.{marked-in}
@@ -119,6 +120,17 @@ module _ (p : Description) (f : List ℕ) (w : Fit p f) where
 
   pub rest-inside : (b s : ℕ) → s ≡ start p b → b ≤ p .n + 1 → s + (length f - s) ≤ length f
   rest-inside b s e k = let h = in-file-end b s e k in omega arith
+
+-- the words of a block, as they are lent
+module _ (p : Description) (f : List ℕ) (b s : ℕ) (e : s ≡ start p b) where
+  pub block-here : take (s + p .wpb - s) (drop s f) ≡ blockAt p f b
+  unfolding blockAt part
+  block-here =
+      let n : s + p .wpb - s ≡ p .wpb = omega arith in
+      λ j. take (n j) (drop (e j) f)
+
+  pub block-words : Fit p f → 1 ≤ b → b ≤ p .n → length (take (s + p .wpb - s) (drop s f)) ≡ p .wpb
+  block-words w l h = ap length block-here ∙ length-block p f (w .size) b (l, h)
 
 -- the entries of the master
 module _ (p : Description) (f : List ℕ) (n : ℕ) (w : Fit p f) (some : 1 ≤ n) (few : n ≤ p .control) where

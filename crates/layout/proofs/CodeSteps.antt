@@ -4,16 +4,20 @@ use mathlib.Core.Bool.{Bool, true, false, not}
 use mathlib.Core.List.{List}
 use Prim.Native.Nat.{ℕ, zero, suc, _+_, _-_, _≤_, _<_}
 use native.Mathlib.Omega.{arith}
-use lib.ListN.{getD}
+use lib.ListN.{length, drop}
 use borrow.Author.Tests.{ne-eqb}
 use Rattle.numbers.specs.Numbers.{badFile}
 use Rattle.numbers.specs.Checked.{Checked, passed, refused}
 use Rattle.words.specs.Words.{part, allAre}
 use Rattle.words.specs.Keys.{sameKey}
+use Rattle.table.specs.declared.Shape.{Shape}
 use Rattle.drum.specs.declared.Description.{Description}
-use Rattle.drum.specs.Params.{D, I, start}
+use Rattle.drum.specs.Params.{D, I, start, tagOf, indexKind, detailKind, indexShape, detailShape}
+use Rattle.drum.specs.Blocks.{blockAt, linkPlace, linkIn, isFree}
+use Rattle.drum.proofs.Forms.{index-made, detail-made}
 use Rattle.layout.specs.Inspect.{keyHeld, named, lastRow, recordsOk, rowsIn, marked, through, detailHeld, indexHeld, chainHeld}
-use Rattle.layout.specs.Inspected.{flagged, counted}
+use Rattle.layout.specs.Inspected.{flagged, counted, rowsOf}
+use Rattle.layout.proofs.Lists.{part-rest}
 use Rattle.layout.proofs.CodeFlags.{counted-none, counted-some, halted, moved, failed, held}
 
 -- entries, one by one: what is left gives what all give
@@ -48,20 +52,26 @@ module _ (p : Description) (f : List ℕ) (low e b : ℕ) (eb : b ≡ named p f 
   index-unmarked y = simp (← eb, halted t ms′ _ q y)
 
   module _ (s most n : ℕ) (es : s ≡ start p b) (y : not t ≡ false) where
-    module _ (em : most ≡ D p) (r : rowsIn p f most (p .wpr) s ≡ counted n) where
+    module _ (em : most ≡ D p) (tag : ℕ) (et : tag ≡ tagOf p detailKind) (r : rowsIn p f most (rowsOf p (p .wpr) tag) s ≡ counted n) where
+      of-details : rowsIn p f most (detailShape p) s ≡ counted n
+      of-details = ap (λ (h : Shape). rowsIn p f most h s) (sym (detail-made p tag et)) ∙ r
+
       pub detail-rows : n ≡ 0 → detailHeld p f low e ms ≡ refused badFile
       unfolding detailHeld
-      detail-rows z = simp (← eb, ← es, ← em, moved t ms′ _ q y, counted-none n _ r z)
+      detail-rows z = simp (← eb, ← es, ← em, moved t ms′ _ q y, counted-none n _ of-details z)
 
       pub detail-records : (g : Bool) → g ≡ recordsOk p f low e (s + 1) n → (n ≡ 0 → ⊥) → detailHeld p f low e ms ≡ flagged g ms′
       unfolding detailHeld
-      detail-records true h z = simp (← eb, ← es, ← em, moved t ms′ _ q y, counted-some n _ r z, sym h)
-      detail-records false h z = simp (← eb, ← es, ← em, moved t ms′ _ q y, counted-some n _ r z, sym h)
+      detail-records true h z = simp (← eb, ← es, ← em, moved t ms′ _ q y, counted-some n _ of-details z, sym h)
+      detail-records false h z = simp (← eb, ← es, ← em, moved t ms′ _ q y, counted-some n _ of-details z, sym h)
 
-    module _ (em : most ≡ I p) (r : rowsIn p f most (p .k + 1) s ≡ counted n) where
+    module _ (em : most ≡ I p) (tag : ℕ) (et : tag ≡ tagOf p indexKind) (r : rowsIn p f most (rowsOf p (p .k + 1) tag) s ≡ counted n) where
+      of-entries : rowsIn p f most (indexShape p) s ≡ counted n
+      of-entries = ap (λ (h : Shape). rowsIn p f most h s) (sym (index-made p tag et)) ∙ r
+
       pub index-rows : n ≡ 0 → indexHeld p f low e ms ≡ refused badFile
       unfolding indexHeld
-      index-rows z = simp (← eb, ← es, ← em, moved t ms′ _ q y, counted-none n _ r z)
+      index-rows z = simp (← eb, ← es, ← em, moved t ms′ _ q y, counted-none n _ of-entries z)
 
       module _ (last : ℕ) (g : Bool) (el : last ≡ lastRow (s + 1) (p .k + 1) n) (h : g ≡ sameKey (part last (p .k) f) (part e (p .k) f)) (z : n ≡ 0 → ⊥) where
         bound : g ≡ sameKey (keyHeld p f (lastRow (s + 1) (p .k + 1) n)) (keyHeld p f e)
@@ -70,11 +80,11 @@ module _ (p : Description) (f : List ℕ) (low e b : ℕ) (eb : b ≡ named p f 
 
         pub index-bound : not g ≡ true → indexHeld p f low e ms ≡ refused badFile
         unfolding indexHeld
-        index-bound x = simp (← eb, ← es, ← em, moved t ms′ _ q y, counted-some n _ r z, failed g _ bound x)
+        index-bound x = simp (← eb, ← es, ← em, moved t ms′ _ q y, counted-some n _ of-entries z, failed g _ bound x)
 
         pub index-entries : (d : Checked (List ℕ)) → through (detailHeld p f) (p .k + 1) low (s + 1) n ms′ ≡ d → not g ≡ false → indexHeld p f low e ms ≡ d
         unfolding indexHeld
-        index-entries d ed x = simp (← eb, ← es, ← em, moved t ms′ _ q y, counted-some n _ r z, held g _ bound x) ed
+        index-entries d ed x = simp (← eb, ← es, ← em, moved t ms′ _ q y, counted-some n _ of-entries z, held g _ bound x) ed
 
 -- the chain from block b on: what is left gives what all give
 module _ (p : Description) (f ms : List ℕ) (b fuel : ℕ) (whole : Checked (List ℕ)) (q : whole ≡ chainHeld p f fuel b ms) where
@@ -99,13 +109,24 @@ module _ (p : Description) (f ms : List ℕ) (b fuel : ℕ) (whole : Checked (Li
       unfolding chainHeld
       chain-unmarked y = q ∙ rw (once-more, ne-eqb b 0 e, chainHeld) (simp (halted t ms′ _ r y))
 
-      module _ (s : ℕ) (g : Bool) (es : s ≡ start p b) (h : g ≡ allAre 0 (part (s + 1) (p .wpb - 1) f)) (y : not t ≡ false) where
-        pub chain-words : not g ≡ true → whole ≡ refused badFile
-        unfolding chainHeld
-        chain-words x = q ∙ rw (once-more, ne-eqb b 0 e, chainHeld) (simp (← es, moved t ms′ _ r y, failed g _ h x))
+      module _ (u : List ℕ) (eu : u ≡ blockAt p f b) (i : Bool) (ei : i ≡ isFree p u) (y : not t ≡ false) where
+        kind : i ≡ isFree p (blockAt p f b)
+        kind = ei ∙ ap (isFree p) eu
 
-        pub chain-next : (b′ : ℕ) → b′ ≡ getD f s 0 → not g ≡ false → whole ≡ chainHeld p f (fuel - 1) b′ ms′
+        pub chain-kind : not i ≡ true → whole ≡ refused badFile
         unfolding chainHeld
-        chain-next b′ l x =
-            let k : suc (fuel - 1) - 1 ≡ fuel - 1 = omega arith in
-            q ∙ rw (once-more, k, ne-eqb b 0 e, l, chainHeld) (simp (← es, moved t ms′ _ r y, held g _ h x))
+        chain-kind x = q ∙ rw (once-more, ne-eqb b 0 e, chainHeld) (simp (moved t ms′ _ r y, failed i _ kind x))
+
+        module _ (j : ℕ) (g : Bool) (ej : j ≡ linkPlace p) (h : g ≡ allAre 0 (part (j + 1) (length u - (j + 1)) u)) (x : not i ≡ false) where
+          rest : g ≡ allAre 0 (drop (linkPlace p + 1) (blockAt p f b))
+          rest = h ∙ ap (allAre 0) (part-rest (j + 1) u) ∙ (λ z. allAre 0 (drop (ej z + 1) (eu z)))
+
+          pub chain-words : not g ≡ true → whole ≡ refused badFile
+          unfolding chainHeld
+          chain-words w = q ∙ rw (once-more, ne-eqb b 0 e, chainHeld) (simp (moved t ms′ _ r y, held i _ kind x, failed g _ rest w))
+
+          pub chain-next : (b′ : ℕ) → b′ ≡ linkIn p u → not g ≡ false → whole ≡ chainHeld p f (fuel - 1) b′ ms′
+          unfolding chainHeld
+          chain-next b′ l w =
+              let k : suc (fuel - 1) - 1 ≡ fuel - 1 = omega arith in
+              q ∙ rw (once-more, k, ne-eqb b 0 e, l, eu, chainHeld) (simp (moved t ms′ _ r y, held i _ kind x, held g _ rest w))

@@ -4,8 +4,7 @@ use mathlib.Core.Bool.{Bool, true, false, not}
 use mathlib.Core.List.{List}
 use Prim.Native.Nat.{ℕ, suc, _+_, _*_, _-_, _≤_, _<_}
 use native.Mathlib.Omega.{arith}
-use lib.ListN.{length, take, drop, length-drop}
-use lib.Seq.{take-all}
+use lib.ListN.{length, take, drop}
 use borrow.Author.Tests.{le-leb, lt-leb}
 use Rattle.numbers.specs.Numbers.{badFile}
 use Rattle.numbers.specs.Checked.{Checked, refused}
@@ -18,13 +17,9 @@ use Rattle.drum.proofs.Good.{size-good}
 use Rattle.drum.specs.Blocks.{sections, chainHead, lowestUnused}
 use Rattle.layout.specs.Inspect.{keyHeld, lastRow, through, indexHeld, chainHeld, restOk, masterOk, walked, layoutMarks}
 use Rattle.layout.specs.Inspected.{flagged, Ranged, leftMarks, Fit}
+use Rattle.layout.proofs.Lists.{part-rest}
 use Rattle.layout.proofs.CodeFlags.{halted, moved, failed, held, flagged-true, flagged-false}
 use Rattle.layout.proofs.CodeMarks.{emptied}
-
--- the words from a on are the rest
-part-rest : (a : ℕ) (f : List ℕ) → part a (length f - a) f ≡ drop a f
-unfolding part
-part-rest a f = take-all (length f - a) (drop a f) (rw (length-drop a f) (omega arith))
 
 -- up to the master's numbers: n sections, l the lowest block never used
 module _ (p : Description) (f : List ℕ) (t : Bool) (w : t ≡ allWords (part 0 (length f) f)) where

@@ -10,8 +10,8 @@ use Rattle.words.specs.Words.{part, zeros, allWords}
 use Rattle.words.proofs.Parts.{length-part, part-all, part-append-low, part-append-high}
 use Rattle.words.proofs.All.{append-allWords, allWords-part, allWords-drop, allWords-replicate}
 use Rattle.drum.specs.declared.Description.{Description}
-use Rattle.drum.specs.Params.{D, I, masterSize, fileSize, start, goodParams}
-use Rattle.drum.specs.Blocks.{sections, blockAt, freeText}
+use Rattle.drum.specs.Params.{D, I, masterSize, fileSize, start, goodParams, tagOf, indexShape, detailShape}
+use Rattle.drum.specs.Blocks.{sections, blockAt, linkPlace, freeText}
 use Rattle.layout.specs.Create.{endRecord}
 use Rattle.layout.specs.Tree.{Leaf, Section, Tree, headOf, leavesOf}
 use Rattle.layout.specs.Holds.{All, OneTo, LeafOk, LeavesOk, IndexIn, DetailIn, ChainIn, Holds, masterEntries, masterText}
@@ -84,21 +84,22 @@ leaves-under c p before (l ∷ ls) (o, h) = (
 )
 
 -- what is said of the texts of blocks holds where each block has the words that it had
-module _ (p q : Description) (f g : List ℕ) (same : (b : ℕ) → blockAt q g b ≡ blockAt p f b) (wide : q .wpb ≡ p .wpb) where
+module _ (p q : Description) (f g : List ℕ) (same : (b : ℕ) → blockAt q g b ≡ blockAt p f b) (wide : q .wpb ≡ p .wpb)
+    (form : q .form ≡ p .form) where
   indexes-under : (ss : List Section) → All (IndexIn p f) ss → All (IndexIn q g) ss
-  unfolding All
+  unfolding All indexShape tagOf
   indexes-under [] h = tt
-  indexes-under (s ∷ ss) (a, h) = (same (s .block) ∙ a ∙ rw wide, indexes-under ss h)
+  indexes-under (s ∷ ss) (a, h) = (same (s .block) ∙ a ∙ rw (wide, form), indexes-under ss h)
 
   details-under : (ls : List Leaf) → All (DetailIn p f) ls → All (DetailIn q g) ls
-  unfolding All
+  unfolding All detailShape tagOf
   details-under [] h = tt
-  details-under (l ∷ ls) (a, h) = (same (l .block) ∙ a ∙ rw wide, details-under ls h)
+  details-under (l ∷ ls) (a, h) = (same (l .block) ∙ a ∙ rw (wide, form), details-under ls h)
 
   chain-under : (cs : List ℕ) → ChainIn p f cs → ChainIn q g cs
-  unfolding ChainIn freeText
+  unfolding ChainIn freeText tagOf linkPlace
   chain-under [] h = tt
-  chain-under (b ∷ bs) (a, h) = (same b ∙ a ∙ rw wide, chain-under bs h)
+  chain-under (b ∷ bs) (a, h) = (same b ∙ a ∙ rw (wide, form), chain-under bs h)
 
 module _ (c : ℕ) (p : Description) (f : List ℕ) (t : Tree) (good : goodParams p ≡ true) (again : goodParams (underControl c p) ≡ true)
     (most : length (t .sections) ≤ c) (h : Holds p f t) where
@@ -138,9 +139,9 @@ module _ (c : ℕ) (p : Description) (f : List ℕ) (t : Tree) (good : goodParam
         size = copied-length c p f end-in-file end-in-master (h .size);
         words = copied-words c p f end-in-file end-in-master (h .words);
         master = master-under;
-        indexes = indexes-under p q f g same refl (t .sections) (h .indexes);
-        details = details-under p q f g same refl (leavesOf t) (h .details);
-        chained = chain-under p q f g same refl (t .chain) (h .chained);
+        indexes = indexes-under p q f g same refl refl (t .sections) (h .indexes);
+        details = details-under p q f g same refl refl (leavesOf t) (h .details);
+        chained = chain-under p q f g same refl refl (t .chain) (h .chained);
         unused = λ b i j. same b ∙ h .unused b i j;
         control = (h .control .0, most);
         counted = h .counted;

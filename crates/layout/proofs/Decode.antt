@@ -4,12 +4,12 @@ use mathlib.Core.Path.{_≡_, refl, sym, ap, _∙_}
 use mathlib.Core.List.{List, [], _∷_, _++_, flatten}
 use native.Mathlib.Omega.{arith}
 use native.Mathlib.Nat.{not-suc-le-zero, mul-le-mul-right}
-use lib.ListN.{length, getD}
+use lib.ListN.{length}
 use borrow.Author.Tests.{ne-eqb}
 use Rattle.words.specs.Words.{part}
 use Rattle.words.proofs.Parts.{length-part, part-add}
 use Rattle.drum.specs.declared.Description.{Description}
-use Rattle.drum.specs.Params.{D, I, start}
+use Rattle.drum.specs.Params.{D, I, start, indexShape, detailShape}
 use Rattle.drum.specs.Blocks.{Block}
 use Rattle.layout.specs.Inspect.{keyHeld, named}
 use Rattle.layout.specs.Tree.{Leaf, Section, boundOf, leavesIn, leafBlocks, blocksIn}
@@ -17,6 +17,7 @@ use Rattle.layout.specs.Holds.{All, OneTo, LeafOk, LeavesOk, indexEntrie
 use Rattle.layout.proofs.Good.{Sized, row-more, cap-d, cap-i, block-in}
 use Rattle.layout.proofs.Lists.{append-parts, length-flatten, all-left, all-right, all-blocks}
 use Rattle.layout.proofs.Read.{Linked, Chain, rowsAt, leafAt, leavesAt, sectionAt, sectionsAt, chainAt, chain-none, chain-some}
+use Rattle.layout.proofs.Read.{recordsAt, entriesAt, nextFree}
 use Rattle.layout.proofs.Texts.{Words, block-words, entry-is}
 use Rattle.layout.proofs.Trees.{leaves-left, leaves-right, bound-width, index-length}
 
@@ -47,11 +48,12 @@ section-eq s t a b = λ i. mkSection (a i) (b i)
 module _ (p : Description) (f : List ℕ) (z : Sized p f) where
   -- a detail block
   leaf-words : (l : Leaf) (before : List (List ℕ)) → LeafOk p before l → Block p (l .block) → DetailIn p f l
-      → Words p f (l .block) (length (l .records)) (flatten (l .records))
+      → Words p f (l .block) (detailShape p .tag + length (l .records)) (flatten (l .records))
   leaf-words l before o i t =
       let n = length-flatten (p .wpr) (l .records) (o .widths) in
       let m : length (l .records) * p .wpr ≤ D p * p .wpr = mul-le-mul-right (p .wpr) (o .counted .1) in
-      block-words p f (l .block) (length (l .records)) (flatten (l .records)) (block-in p f z (l .block) i) (omega (arith, cap-d p (z .good))) t
+      let fits = block-in p f z (l .block) i in
+      block-words p f (l .block) (detailShape p .tag + length (l .records)) (flatten (l .records)) fits (omega (arith, cap-d p (z .good))) t
 
   leaf-is : (l : Leaf) (before : List (List ℕ)) (a : ℕ) → LeafOk p before l → Block p (l .block) → DetailIn p f l
       → keyHeld p f a ≡ l .bound → named p f a ≡ l .block → leafAt p f a ≡ l
@@ -64,7 +66,8 @@ module _ (p : Description) (f : List ℕ) (z : Sized p f) where
       let h : s + 1 + length (l .records) * p .wpr ≤ length f = omega (arith, block-in p f z (l .block) i, cap-d p (z .good)) in
       let r : rowsAt f (p .wpr) (s + 1) (length (l .records)) ≡ l .records =
       rows-are f (p .wpr) (l .records) (s + 1) (o .widths) h (rw n at (w .rows)) in
-      leaf-eq _ l k b (rw (b, w .count) r)
+      let c : recordsAt p f s ≡ length (l .records) = omega (arith, w .count) in
+      leaf-eq _ l k b (rw (b, c) r)
 
   leaves-are : (before : List (List ℕ)) (ls : List Leaf) (a : ℕ) → LeavesOk p before ls → All (λ (l : Leaf). Block p (l .block)) ls
       → All (DetailIn p f) ls → a + length ls * (p .k + 1) ≤ length f → part a (length ls * (p .k + 1)) f ≡ indexEntries ls
@@ -78,11 +81,12 @@ module _ (p : Description) (f : List ℕ) (z : Sized p f) where
 
   -- a section
   section-words : (s : Section) (before : List (List ℕ)) → LeavesOk p before (s .leaves) → length (s .leaves) ≤ I p → Block p (s .block)
-      → IndexIn p f s → Words p f (s .block) (length (s .leaves)) (indexEntries (s .leaves))
+      → IndexIn p f s → Words p f (s .block) (indexShape p .tag + length (s .leaves)) (indexEntries (s .leaves))
   section-words s before o c i t =
       let n = index-length p before (s .leaves) o in
       let m : length (s .leaves) * (p .k + 1) ≤ I p * (p .k + 1) = mul-le-mul-right (p .k + 1) c in
-      block-words p f (s .block) (length (s .leaves)) (indexEntries (s .leaves)) (block-in p f z (s .block) i) (omega (arith, cap-i p (z .good))) t
+      let fits = block-in p f z (s .block) i in
+      block-words p f (s .block) (indexShape p .tag + length (s .leaves)) (indexEntries (s .leaves)) fits (omega (arith, cap-i p (z .good))) t
 
   section-is : (s : Section) (before : List (List ℕ)) (a : ℕ) → LeavesOk p before (s .leaves) → length (s .leaves) ≤ I p → Block p (s .block)
       → All (λ (l : Leaf). Block p (l .block)) (s .leaves) → IndexIn p f s → All (DetailIn p f) (s .leaves) → named p f a ≡ s .block
@@ -95,7 +99,8 @@ module _ (p : Description) (f : List ℕ) (z : Sized p f) where
       let m : length (s .leaves) * (p .k + 1) ≤ I p * (p .k + 1) = mul-le-mul-right (p .k + 1) c in
       let h : e + 1 + length (s .leaves) * (p .k + 1) ≤ length f = omega (arith, block-in p f z (s .block) i, cap-i p (z .good)) in
       let r : leavesAt p f (e + 1) (length (s .leaves)) ≡ s .leaves = leaves-are before (s .leaves) (e + 1) o is ts h (rw n at (w .rows)) in
-      section-eq _ s b (rw (b, w .count) r)
+      let q : entriesAt p f e ≡ length (s .leaves) = omega (arith, w .count) in
+      section-eq _ s b (rw (b, q) r)
 
   pub sections-are : (before : List (List ℕ)) (ss : List Section) (a : ℕ) → LeavesOk p before (leavesIn ss)
       → All (λ (s : Section). OneTo (I p) (length (s .leaves))) ss → All (Block p) (blocksIn ss)
@@ -123,8 +128,8 @@ module _ (p : Description) (f : List ℕ) (z : Sized p f) where
   unfolding Chain Linked
   chain-is [] fuel b h t e = chain-none p f fuel b e
   chain-is (c ∷ cs) zero b h t l = absurd (not-suc-le-zero h)
-  chain-is (c ∷ cs) (suc fuel) b h ((i, j), q, t) (e, l) =
+  chain-is (c ∷ cs) (suc fuel) b h ((i, j), y, q, t) (e, l) =
       let n : c ≡ 0 → ⊥ = λ y. omega arith in
       ap (chainAt p f (suc fuel)) e
       ∙ chain-some p f fuel c (ne-eqb c 0 n)
-      ∙ ap (λ (x : List ℕ). c ∷ x) (chain-is cs fuel (getD f (start p c) 0) (omega arith) t l)
+      ∙ ap (λ (x : List ℕ). c ∷ x) (chain-is cs fuel (nextFree p f c) (omega arith) t l)

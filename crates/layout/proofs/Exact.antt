@@ -5,12 +5,14 @@ use mathlib.Core.List.{List}
 use mathlib.Core.Bool.{Bool, true, false}
 use native.Mathlib.Omega.{arith}
 use lib.Dec.{eqb}
-use lib.ListN.{length, getD}
-use Rattle.words.specs.Words.{part, allAre}
+use lib.ListN.{length, drop}
+use Rattle.words.specs.Words.{allAre}
 use Rattle.numbers.specs.Numbers.{badFile}
 use Rattle.numbers.specs.Checked.{Checked, passed, refused, _>>=_, _>>_, require}
+use Rattle.table.specs.declared.Shape.{Shape}
 use Rattle.drum.specs.declared.Description.{Description}
-use Rattle.drum.specs.Params.{goodParams, fileSize, start}
+use Rattle.drum.specs.Params.{goodParams, fileSize}
+use Rattle.drum.specs.Blocks.{blockAt, linkPlace, linkIn, isFree}
 use Rattle.layout.specs.Inspect.{rowsIn, marked, through, detailHeld, indexHeld, chainHeld, walked, layoutMarks}
 use Rattle.layout.specs.Tree.{Tree, marksOf}
 use Rattle.layout.specs.Holds.{Holds, WellFormed}
@@ -46,9 +48,9 @@ bad-then (passed a) rest h k = k
 ruleset bads = (bad-passed, bad-refused, bad-require, bad-bind, bad-then)
 
 -- each step of the walk, and the walk, refuse so alone
-bad-rows : (p : Description) (f : List ℕ) (most stride s : ℕ) → Bad (rowsIn p f most stride s)
+bad-rows : (p : Description) (f : List ℕ) (most : ℕ) (h : Shape) (s : ℕ) → Bad (rowsIn p f most h s)
 unfolding rowsIn
-bad-rows p f most stride s = search bads depth 9
+bad-rows p f most h s = search bads depth 9
 
 bad-marked : (m b : ℕ) (ms : List ℕ) → Bad (marked m b ms)
 unfolding marked
@@ -75,18 +77,19 @@ bad-chain p f zero b ms = go (eqb b 0)
     go : (t : Bool) → Bad {A = List ℕ} (elim t [ true ↦ passed ms | false ↦ refused badFile ])
     go true = bad-passed ms
     go false = bad-refused
-bad-chain p f (suc fuel) b ms = go (eqb b 0) (λ m. bad-chain p f fuel (getD f (start p b) 0) m)
+bad-chain p f (suc fuel) b ms = go (eqb b 0) (λ m. bad-chain p f fuel (linkIn p (blockAt p f b)) m)
   where
-    go : (t : Bool) → ((m : List ℕ) → Bad (chainHeld p f fuel (getD f (start p b) 0) m))
+    go : (t : Bool) → ((m : List ℕ) → Bad (chainHeld p f fuel (linkIn p (blockAt p f b)) m))
         → Bad {A = List ℕ} (elim t [
           | true ↦ passed ms
           | false ↦ do
             m ← marked 2 b ms
-            require (allAre 0 (part (start p b + 1) (p .wpb - 1) f)) badFile
-            chainHeld p f fuel (getD f (start p b) 0) m
+            require (isFree p (blockAt p f b)) badFile
+            require (allAre 0 (drop (linkPlace p + 1) (blockAt p f b))) badFile
+            chainHeld p f fuel (linkIn p (blockAt p f b)) m
         ])
     go true h = bad-passed ms
-    go false h = search (bads, bad-marked, h) depth 9
+    go false h = search (bads, bad-marked, h) depth 12
 
 bad-layout : (p : Description) (f : List ℕ) → Bad (layoutMarks p f)
 unfolding layoutMarks walked

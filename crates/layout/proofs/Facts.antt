@@ -6,15 +6,17 @@ use mathlib.Core.List.{List, [], _∷_, _++_, flatten}
 use mathlib.Core.Bool.{Bool, true, false, not, _&&_, _||_}
 use native.Mathlib.Omega.{arith}
 use native.Mathlib.Nat.{mul-le-mul-right}
-use lib.ListN.{length, getD, length-replicate}
+use lib.ListN.{length, drop, length-replicate}
 use Rattle.words.specs.Words.{part, allAre, allWords, zeros, topWord}
 use Rattle.words.specs.Keys.{ones, isOnes}
 use Rattle.words.proofs.Parts.{length-part, part-add}
 use Rattle.words.proofs.Keys.{sameKey-refl}
 use Rattle.words.proofs.All.{isOnes-ones, allAre-replicate}
 use Rattle.drum.specs.declared.Description.{Description}
-use Rattle.drum.specs.Params.{D, I, start}
-use Rattle.drum.specs.Blocks.{blockAt, freeText, Block}
+use Rattle.drum.specs.Params.{D, I, start, indexShape, detailShape}
+use Rattle.drum.specs.Blocks.{blockAt, linkPlace, linkIn, isFree, Block}
+use Rattle.drum.proofs.Good.{good-yes}
+use Rattle.drum.proofs.FreeTexts.{link-freeText, kind-freeText, zeros-freeText}
 use Rattle.table.specs.Tables.{laid}
 use Rattle.layout.specs.Create.{endRecord}
 use Rattle.layout.specs.Inspect.{keyHeld, named, lastRow, recordsOk, endOk}
@@ -23,7 +25,7 @@ use Rattle.layout.specs.Holds.{All, OneTo, LeafOk, LeavesOk, indexEntrie
 use Rattle.layout.proofs.Good.{Sized, row-more, cap-d, cap-i, block-in}
 use Rattle.layout.proofs.Lists.{append-parts, length-flatten, all-append, all-left, all-right, all-blocks}
 use Rattle.layout.proofs.Read.{LeafFacts, SectionFacts, LeavesAt, Sections, Chain, Linked, rowsAt, leafAt, leavesAt, sectionAt, sectionsAt, rows-length}
-use Rattle.layout.proofs.Read.{leaves-length}
+use Rattle.layout.proofs.Read.{recordsAt, entriesAt, nextFree, leaves-length}
 use Rattle.layout.proofs.Texts.{block-words, entry-is, last-bound}
 use Rattle.layout.proofs.Order.{befores, before-some, rising-back, last-bounded, rows-words, last-row}
 use Rattle.layout.proofs.Trees.{LeafEnds, leaves-left, leaves-right, bound-width, index-length}
@@ -58,7 +60,7 @@ module _ (p : Description) (f : List ℕ) (z : Sized p f) where
   unfolding leafAt recordsOk
   leaf-facts low e i o t d =
       let s = start p (named p f e) in
-      let n = getD f s 0 in
+      let n = recordsAt p f s in
       let kwpr = z .good .key in
       let rs = rowsAt f (p .wpr) (s + 1) n in
       let len = rows-length f (p .wpr) n (s + 1) in
@@ -68,7 +70,7 @@ module _ (p : Description) (f : List ℕ) (z : Sized p f) where
       let m′ : (n - 1 + 1) * p .wpr ≤ D p * p .wpr = mul-le-mul-right (p .wpr) q in
       let fits = block-in p f z (named p f e) i in
       let fl : length (flatten rs) ≡ n * p .wpr = length-flatten (p .wpr) rs (o .widths) ∙ ap (λ (x : ℕ). x * p .wpr) len in
-      let w = block-words p f (named p f e) (length rs) (flatten rs) fits (omega (arith, cap-d p (z .good))) t in
+      let w = block-words p f (named p f e) (detailShape p .tag + length rs) (flatten rs) fits (omega (arith, cap-d p (z .good))) t in
       let r = lastRow (s + 1) (p .wpr) n in
       let k : r + p .wpr ≤ length f = omega (arith, cap-d p (z .good)) in
       let up = rising-back p f (p .wpr) kwpr n low (s + 1) (omega arith) (o .order) in
@@ -97,19 +99,19 @@ module _ (p : Description) (f : List ℕ) (z : Sized p f) where
   section-facts : (low e : ℕ) → keyHeld p f e ≡ boundOf (sectionAt p f e .leaves) → Block p (named p f e)
       → LeavesOk p (befores p f low) (sectionAt p f e .leaves) → OneTo (I p) (length (sectionAt p f e .leaves))
       → All (λ (l : Leaf). Block p (l .block)) (sectionAt p f e .leaves)
-      → blockAt p f (named p f e) ≡ laid (p .wpb) (length (sectionAt p f e .leaves)) (indexEntries (sectionAt p f e .leaves))
+      → blockAt p f (named p f e) ≡ laid (p .wpb) (indexShape p .tag + length (sectionAt p f e .leaves)) (indexEntries (sectionAt p f e .leaves))
       → All (DetailIn p f) (sectionAt p f e .leaves) → All (LeafEnds p) (sectionAt p f e .leaves) → SectionFacts p f low e
   unfolding sectionAt
   section-facts low e key i o c is t ts ds =
       let b = start p (named p f e) in
-      let n = getD f b 0 in
+      let n = entriesAt p f b in
       let ls = leavesAt p f (b + 1) n in
       let len = leaves-length p f n (b + 1) in
       let c′ : OneTo (I p) n = rw len at c in
       let m : n * (p .k + 1) ≤ I p * (p .k + 1) = mul-le-mul-right (p .k + 1) (c′ .1) in
       let fits = block-in p f z (named p f e) i in
       let fl : length (indexEntries ls) ≡ n * (p .k + 1) = index-length p (befores p f low) ls o ∙ ap (λ (x : ℕ). x * (p .k + 1)) len in
-      let w = block-words p f (named p f e) (length ls) (indexEntries ls) fits (omega (arith, cap-i p (z .good))) t in
+      let w = block-words p f (named p f e) (indexShape p .tag + length ls) (indexEntries ls) fits (omega (arith, cap-i p (z .good))) t in
       record {
         rows = record { count = refl; fits = c′; behind = rw fl at (w .behind) };
         same = rw (key ∙ last-bound p f n (b + 1) (c′ .0)) (sameKey-refl (keyHeld p f (lastRow (b + 1) (p .k + 1) n)));
@@ -146,13 +148,16 @@ module _ (p : Description) (f : List ℕ) (z : Sized p f) where
 
   -- the chain
   pub chain-facts : (cs : List ℕ) → All (Block p) cs → ChainIn p f cs → Chain p f cs × Linked p f (headOf cs) cs
-  unfolding All ChainIn Chain Linked headOf freeText
+  unfolding All ChainIn Chain Linked headOf
   chain-facts [] i t = (tt, refl)
   chain-facts (c ∷ cs) (i, is) (t, ts) =
       let (a, b) = chain-facts cs is ts in
-      let g = z .good .wpb-least in
-      let w = block-words p f c (headOf cs) [] (block-in p f z c i) (omega arith) t in
-      ((i, w .behind, a), (refl, rw (w .count) b))
+      let g = good-yes p (z .good) in
+      let n = headOf cs in
+      let k : isFree p (blockAt p f c) ≡ true = rw t (kind-freeText p n g) in
+      let q : allAre 0 (drop (linkPlace p + 1) (blockAt p f c)) ≡ true = rw t (zeros-freeText p n g) in
+      let l : nextFree p f c ≡ n = ap (linkIn p) t ∙ link-freeText p n g in
+      ((i, k, q, a), (refl, rw l b))
 
   -- the words of the records
   leaves-words : (n e : ℕ) → allWords f ≡ true → All (λ (l : Leaf). All (λ r. allWords r ≡ true) (l .records)) (leavesAt p f e n)

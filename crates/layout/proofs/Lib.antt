@@ -28,4 +28,11 @@ pub mod Sound
 pub mod Standing
 pub mod Texts
 pub mod Trees
+pub mod Turned
+pub mod TurnedBlocks
+pub mod TurnedForm
+pub mod TurnedKinds
+pub mod TurnedFiles
+pub mod TurnedMarks
+pub mod TurnedSteps
 pub mod Unique

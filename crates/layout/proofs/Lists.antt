@@ -1,14 +1,16 @@
 -- Laws of lists: what holds of each in a list, the last of a list, how often a block stands in one, words that are all the same.
-use Prim.Native.Nat.{ℕ, zero, suc, _*_, _≤_, _<_}
-use mathlib.Core.Path.{_≡_, refl, sym, _∙_}
+use Prim.Native.Nat.{ℕ, zero, suc, _+_, _*_, _-_, _≤_, _<_}
+use mathlib.Core.Path.{_≡_, refl, sym, ap, _∙_}
 use mathlib.Core.List.{List, [], _∷_, _++_, append-assoc, flatten}
 use mathlib.Core.Bool.{true, not}
 use native.Mathlib.Omega.{arith}
 use native.Mathlib.Nat.{not-suc-le-zero, zero-mul}
 use lib.Dec.{eqb}
-use lib.ListN.{length, getD, length-append}
+use lib.ListN.{length, getD, drop, length-append, length-drop}
+use lib.Seq.{take-all}
 use borrow.Author.Tests.{eq-eqb, ne-eqb, not-true}
-use Rattle.words.specs.Words.{allAre, noneIs, zeros}
+use Rattle.words.specs.Words.{part, allAre, noneIs, zeros}
+use Rattle.words.proofs.Parts.{part-all, part-append-low, part-append-high}
 use Rattle.words.proofs.Keys.{clash}
 use Rattle.words.proofs.All.{and-both}
 use Rattle.layout.specs.Tree.{Leaf, lastIn, boundOf, recordsIn, leafBlocks}
@@ -74,6 +76,18 @@ pub records-append : (xs ys : List Leaf) → recordsIn (xs ++ ys) ≡ recordsIn 
 unfolding recordsIn
 records-append [] ys = refl
 records-append (x ∷ xs) ys = rw (records-append xs ys) (sym (append-assoc (x .records) (recordsIn xs) (recordsIn ys)))
+
+-- the words from place a on
+pub part-rest : (a : ℕ) (f : List ℕ) → part a (length f - a) f ≡ drop a f
+unfolding part
+part-rest a f = take-all (length f - a) (drop a f) (rw (length-drop a f) (omega arith))
+
+-- parts of two joined lists, the first of w words
+pub part-behind : (x y : List ℕ) (w a n : ℕ) → length x ≡ w → part (w + a) n (x ++ y) ≡ part a n y
+part-behind x y w a n e = ap (λ (m : ℕ). part (m + a) n (x ++ y)) (sym e) ∙ part-append-high a n x y
+
+pub part-first : (x y : List ℕ) (w : ℕ) → length x ≡ w → part 0 w (x ++ y) ≡ x
+part-first x y w e = part-append-low 0 w x y (omega arith) ∙ part-all w x e
 
 -- words by their places
 pub none-at : (x : ℕ) (l : List ℕ) (i : ℕ) → noneIs x l ≡ true → i < length l → getD l i 0 ≡ x → ⊥

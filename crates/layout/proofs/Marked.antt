@@ -19,12 +19,12 @@ use Rattle.layout.proofs.Lists.{getD-zeros}
 use Rattle.layout.proofs.Marks.{markAll, used, used-zeros, all-used, all-length, all-pass, all-mark, one, two}
 use Rattle.layout.proofs.Few.{mark-count}
 
-marks-length : (t : Tree) (n b : ℕ) → length (marksFrom t b n) ≡ n
+pub marks-length : (t : Tree) (n b : ℕ) → length (marksFrom t b n) ≡ n
 unfolding marksFrom
 marks-length t zero b = refl
 marks-length t (suc n) b = ap suc (marks-length t n (suc b))
 
-marks-at : (t : Tree) (n b i : ℕ) → i < n → getD (marksFrom t b n) i 0 ≡ markOf t (b + i)
+pub marks-at : (t : Tree) (n b i : ℕ) → i < n → getD (marksFrom t b n) i 0 ≡ markOf t (b + i)
 unfolding marksFrom
 marks-at t zero b i h = absurd (not-suc-le-zero h)
 marks-at t (suc n) b zero h = let e : b + 0 ≡ b = omega arith in rw e

@@ -30,7 +30,7 @@ all-times P b (c ∷ cs) (h, hs) k = go (eqb b c) refl k (all-times P b cs hs)
     go false e k more = more (omega arith)
 
 -- the words before block b + 2: those before block b + 1, and that block
-one-more : (p : Description) (l : List ℕ) (b : ℕ) → part 0 (start p (suc b + 1)) l ≡ part 0 (start p (b + 1)) l ++ blockAt p l (b + 1)
+pub one-more : (p : Description) (l : List ℕ) (b : ℕ) → part 0 (start p (suc b + 1)) l ≡ part 0 (start p (b + 1)) l ++ blockAt p l (b + 1)
 unfolding blockAt
 one-more p l b =
     let n : suc b + 1 ≡ b + 1 + 1 = omega arith in

@@ -8,15 +8,18 @@ use native.Mathlib.Nat.{mul-le-mul-right}
 use lib.ListN.{length, length-append, length-replicate}
 use Rattle.words.specs.Words.{part, zeros, allWords, topWord}
 use Rattle.words.specs.Keys.{ones}
-use Rattle.words.proofs.Parts.{part-all, part-append-low, part-append-high, part-zeros}
+use Rattle.words.proofs.Parts.{part-zeros}
 use Rattle.words.proofs.All.{allWords-none, cons-allWords, append-allWords, allWords-replicate}
 use Rattle.table.specs.Tables.{laid}
 use Rattle.drum.specs.declared.Description.{Description}
-use Rattle.drum.specs.Params.{D, I, masterSize, fileSize, start}
+use Rattle.drum.specs.Params.{D, I, masterSize, fileSize, start, indexShape, detailShape}
 use Rattle.drum.specs.Blocks.{blockAt}
+use Rattle.drum.proofs.Good.{good-yes}
+use Rattle.drum.proofs.Forms.{index-tag, detail-tag}
 use Rattle.layout.specs.Create.{endRecord, created}
 use Rattle.layout.specs.Tree.{boundOf, headOf, freshLeaf, freshSection, freshTree}
 use Rattle.layout.specs.Holds.{masterEntries, masterText}
+use Rattle.layout.proofs.Lists.{part-behind, part-first}
 use Rattle.layout.proofs.Good.{Good, row-more, cap-d, cap-i, master-fits, start-first, start-next}
 
 length-laid : (w n : ℕ) (rows : List ℕ) → 1 + length rows ≤ w → length (laid w n rows) ≡ w
@@ -29,10 +32,10 @@ module _ (p : Description) where
   masterPiece = 1 ∷ 0 ∷ 3 ∷ (ones (p .k) ++ (1 ∷ zeros (masterSize p - 4 - p .k)))
 
   unfoldable pub indexPiece : List ℕ
-  indexPiece = laid (p .wpb) 1 (ones (p .k) ++ (2 ∷ []))
+  indexPiece = laid (p .wpb) (indexShape p .tag + 1) (ones (p .k) ++ (2 ∷ []))
 
   unfoldable pub detailPiece : List ℕ
-  detailPiece = laid (p .wpb) 1 (endRecord p)
+  detailPiece = laid (p .wpb) (detailShape p .tag + 1) (endRecord p)
 
   pieces : created p ≡ masterPiece ++ (indexPiece ++ (detailPiece ++ zeros ((p .n - 2) * p .wpb)))
   unfolding created masterPiece indexPiece detailPiece
@@ -61,7 +64,7 @@ module _ (p : Description) (g : Good p) where
   unfolding indexPiece
   length-index =
       let i : 1 ≤ I p = omega (arith, g .two-entries) in
-      length-laid (p .wpb) 1 (ones (p .k) ++ (2 ∷ [])) (rw (length-entry 2) (omega (arith, mul-le-mul-right (p .k + 1) i, cap-i p g)))
+      length-laid (p .wpb) (indexShape p .tag + 1) (ones (p .k) ++ (2 ∷ [])) (rw (length-entry 2) (omega (arith, mul-le-mul-right (p .k + 1) i, cap-i p g)))
 
   pub length-end : length (endRecord p) ≡ p .wpr
   unfolding endRecord
@@ -73,7 +76,7 @@ module _ (p : Description) (g : Good p) where
   unfolding detailPiece
   length-detail =
       let d : 1 ≤ D p = omega (arith, g .two-records) in
-      length-laid (p .wpb) 1 (endRecord p) (omega (arith, length-end, mul-le-mul-right (p .wpr) d, cap-d p g))
+      length-laid (p .wpb) (detailShape p .tag + 1) (endRecord p) (omega (arith, length-end, mul-le-mul-right (p .wpr) d, cap-d p g))
 
   two-blocks : p .n * p .wpb ≡ p .wpb + (p .wpb + (p .n - 2) * p .wpb)
   two-blocks =
@@ -117,18 +120,15 @@ module _ (p : Description) (g : Good p) where
   pub words-made : allWords (created p) ≡ true
   unfolding indexPiece detailPiece
   words-made =
+      let i = index-tag p (good-yes p g) in
+      let d = detail-tag p (good-yes p g) in
       rw (pieces p)
       (append-allWords (masterPiece p) _ words-master
-      (append-allWords (indexPiece p) _ (words-laid 1 _ (omega arith) (words-entry 2 (omega arith)))
-      (append-allWords (detailPiece p) rest (words-laid 1 _ (omega arith) words-end) (allWords-replicate ((p .n - 2) * p .wpb) 0 (omega arith)))))
+      (append-allWords (indexPiece p) _ (words-laid (indexShape p .tag + 1) _ (omega arith) (words-entry 2 (omega arith)))
+      (append-allWords (detailPiece p) rest (words-laid (detailShape p .tag + 1) _ (omega arith) words-end)
+      (allWords-replicate ((p .n - 2) * p .wpb) 0 (omega arith)))))
 
   -- the parts of the file
-  part-behind : (x y : List ℕ) (w a n : ℕ) → length x ≡ w → part (w + a) n (x ++ y) ≡ part a n y
-  part-behind x y w a n e = ap (λ (m : ℕ). part (m + a) n (x ++ y)) (sym e) ∙ part-append-high a n x y
-
-  part-first : (x y : List ℕ) (w : ℕ) → length x ≡ w → part 0 w (x ++ y) ≡ x
-  part-first x y w e = part-append-low 0 w x y (omega arith) ∙ part-all w x e
-
   behind-master : (a n : ℕ) → part (masterSize p + a) n (created p) ≡ part a n (indexPiece p ++ (detailPiece p ++ rest))
   behind-master a n = rw (pieces p) (part-behind (masterPiece p) _ (masterSize p) a n length-master)
 

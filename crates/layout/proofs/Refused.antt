@@ -9,33 +9,35 @@ use Rattle.words.specs.Keys.{isOnes, keyLt, keyLe, sameKey}
 use Rattle.numbers.specs.Numbers.{badFile}
 use Rattle.numbers.specs.Checked.{passed, refused}
 use Rattle.drum.specs.declared.Description.{Description}
-use Rattle.drum.specs.Params.{D, I, masterSize, fileSize, start, every, goodParams}
+use Rattle.drum.specs.Params.{D, I, masterSize, fileSize, start, every, goodParams, tagOf, indexShape, detailShape}
+use Rattle.drum.specs.Blocks.{blockAt, linkPlace, linkIn, isFree}
 use Rattle.layout.specs.Inspect.{keyHeld, above, ascends, endOk, recordsOk, rowsIn, marked, through, detailHeld, indexHeld, chainHeld, restOk, masterOk}
 use Rattle.layout.specs.Inspect.{walked, layoutMarks}
 
-abbrev small : Description
-small = record { wpb = 8; wpr = 3; k = 1; space = 0; control = 2; n = 6 }
+abbrev pub small : Description
+small = record { wpb = 8; wpr = 3; k = 1; space = 0; control = 2; n = 6; form = 1 }
 
 -- opens every definition that the test is made of
-unfoldable testing : ℕ
-unfolding part allAre noneIs allWords isOnes keyLt keyLe sameKey D I masterSize fileSize start every goodParams
+unfoldable pub testing : ℕ
+unfolding part allAre noneIs allWords isOnes keyLt keyLe sameKey D I masterSize fileSize start every goodParams tagOf indexShape detailShape
+    blockAt linkPlace linkIn isFree
     keyHeld above ascends endOk recordsOk rowsIn marked through detailHeld indexHeld chainHeld restOk masterOk walked layoutMarks
 testing = 0
 
 -- a master and four blocks; blocks 5 and 6 were never used. The master names index block 1
-abbrev file : List ℕ → List ℕ → List ℕ → List ℕ → List ℕ → List ℕ
+abbrev pub file : List ℕ → List ℕ → List ℕ → List ℕ → List ℕ → List ℕ
 file master b₁ b₂ b₃ b₄ = master ++ (b₁ ++ (b₂ ++ (b₃ ++ (b₄ ++ zeros 16))))
 
-abbrev master : List ℕ
+abbrev pub master : List ℕ
 master = 1 ∷ 2 ∷ 5 ∷ topWord ∷ 1 ∷ 0 ∷ 0 ∷ 0 ∷ []
 
-abbrev index : List ℕ
+abbrev pub index : List ℕ
 index = 2 ∷ 20 ∷ 4 ∷ topWord ∷ 3 ∷ 0 ∷ 0 ∷ 0 ∷ []
 
-abbrev end : List ℕ
+abbrev pub end : List ℕ
 end = 1 ∷ topWord ∷ 0 ∷ 0 ∷ 0 ∷ 0 ∷ 0 ∷ 0 ∷ []
 
-abbrev record20 : List ℕ
+abbrev pub record20 : List ℕ
 record20 = 1 ∷ 20 ∷ 3 ∷ 4 ∷ 0 ∷ 0 ∷ 0 ∷ 0 ∷ []
 
 -- the good file: record 20 in block 4, the end record in block 3, block 2 emptied and chained

@@ -4,33 +4,35 @@ use mathlib.Core.Path.{_≡_, refl, sym, ap, _∙_}
 use mathlib.Core.List.{List, [], _∷_}
 use mathlib.Core.Bool.{true}
 use native.Mathlib.Omega.{arith}
-use native.Mathlib.Nat.{zero-mul, mul-le-mul-right, sub-zero}
+use native.Mathlib.Nat.{zero-mul, mul-le-mul-right}
 use lib.ListN.{length, getD, drop, length-drop, length-replicate, getD-replicate}
 use lib.Seq.{getD-drop, ext-getD}
 use Rattle.words.specs.Words.{part, allAre, zeros}
-use Rattle.words.proofs.Parts.{length-part, part-none, part-cons, getD-part}
+use Rattle.words.proofs.Parts.{length-part, part-none, getD-part}
 use Rattle.words.proofs.Keys.{sameKey-true}
 use Rattle.words.proofs.All.{allAre-getD}
-use Rattle.table.specs.Tables.{laid}
 use Rattle.drum.specs.declared.Description.{Description}
-use Rattle.drum.specs.Params.{D, I, start}
+use Rattle.drum.specs.Params.{D, I, start, indexShape, detailShape}
 use Rattle.drum.specs.Blocks.{blockAt, freeText, Block}
+use Rattle.drum.proofs.Good.{good-yes}
+use Rattle.drum.proofs.Blocks.{length-block}
+use Rattle.drum.proofs.FreeTexts.{free-text}
 use Rattle.layout.specs.Inspect.{keyHeld, named}
 use Rattle.layout.specs.Tree.{Section, boundOf, leavesIn, headOf}
 use Rattle.layout.specs.Holds.{All, OneTo, masterEntries, IndexIn, DetailIn, ChainIn}
 use Rattle.layout.proofs.Good.{Sized, cap-d, cap-i, start-le, block-in}
 use Rattle.layout.proofs.Lists.{all-append}
 use Rattle.layout.proofs.Read.{LeafFacts, SectionFacts, LeavesAt, Sections, Chain, Linked, leafAt, leavesAt, sectionAt, sectionsAt, rows-length}
-use Rattle.layout.proofs.Read.{leaves-length}
-use Rattle.layout.proofs.Texts.{zeros-are, rows-flat, block-part, block-text, entry-more, entry-words, entries-flat, last-bound}
+use Rattle.layout.proofs.Read.{recordsAt, entriesAt, nextFree, leaves-length}
+use Rattle.layout.proofs.Texts.{rows-flat, block-part, block-text, entry-more, entry-words, entries-flat, last-bound}
 
 module _ (p : Description) (f : List ℕ) (z : Sized p f) where
   leaf-text : (low e : ℕ) → Block p (named p f e) → LeafFacts p f low e → DetailIn p f (leafAt p f e)
   unfolding leafAt
   leaf-text low e i w =
       let s = start p (named p f e) in
-      rw (rows-length f (p .wpr) (getD f s 0) (s + 1), rows-flat f (p .wpr) (getD f s 0) (s + 1))
-      (block-text p f (D p) (p .wpr) (named p f e) (getD f s 0) (block-in p f z (named p f e) i) (cap-d p (z .good)) (w .rows))
+      rw (rows-length f (p .wpr) (recordsAt p f s) (s + 1), rows-flat f (p .wpr) (recordsAt p f s) (s + 1))
+      (block-text p f (D p) (p .wpr) (detailShape p .tag) (named p f e) (recordsAt p f s) (block-in p f z (named p f e) i) (cap-d p (z .good)) (w .rows))
 
   leaves-texts : (n low e : ℕ) → LeavesAt p f low e n → All (DetailIn p f) (leavesAt p f e n)
   unfolding LeavesAt All leavesAt
@@ -41,12 +43,12 @@ module _ (p : Description) (f : List ℕ) (z : Sized p f) where
   unfolding sectionAt
   index-text low e i w =
       let s = start p (named p f e) in
-      let n = getD f s 0 in
+      let n = entriesAt p f s in
       let l : n * (p .k + 1) ≤ I p * (p .k + 1) = mul-le-mul-right (p .k + 1) (w .rows .fits .1) in
       let b = block-in p f z (named p f e) i in
       let k : s + 1 + n * (p .k + 1) ≤ length f = omega (arith, cap-i p (z .good)) in
       rw (leaves-length p f n (s + 1), entries-flat p f n (s + 1) k)
-      (block-text p f (I p) (p .k + 1) (named p f e) n b (cap-i p (z .good)) (w .rows))
+      (block-text p f (I p) (p .k + 1) (indexShape p .tag) (named p f e) n b (cap-i p (z .good)) (w .rows))
 
   section-leaves : (low e : ℕ) → SectionFacts p f low e → All (DetailIn p f) (sectionAt p f e .leaves)
   unfolding sectionAt
@@ -97,23 +99,13 @@ module _ (p : Description) (f : List ℕ) (z : Sized p f) where
   head-is b [] e = sym e
   head-is b (c ∷ cs) (e, h) = sym e
 
-  free-text : (c : ℕ) → Block p c → allAre 0 (part (start p c + 1) (p .wpb - 1) f) ≡ true → blockAt p f c ≡ freeText p (getD f (start p c) 0)
-  unfolding freeText laid
-  free-text c i q =
-      let l = block-in p f z c i in
-      let g = z .good .wpb-least in
-      let e : p .wpb ≡ suc (p .wpb - 1) = omega arith in
-      let a : suc (start p c) ≡ start p c + 1 = omega arith in
-      block-part p f c
-      ∙ ap (λ (n : ℕ). part (start p c) n f) e
-      ∙ rw (part-cons (start p c) (p .wpb - 1) f (omega arith), a, zeros-are (start p c + 1) (p .wpb - 1) f (omega arith) q, sub-zero)
-
   pub chain-texts : (b : ℕ) (cs : List ℕ) → Chain p f cs → Linked p f b cs → ChainIn p f cs
   unfolding Chain Linked ChainIn
   chain-texts b [] t l = tt
-  chain-texts b (c ∷ cs) (i, q, t) (e, l) =
-      let next = getD f (start p c) 0 in
-      (free-text c i q ∙ ap (freeText p) (sym (head-is next cs l)), chain-texts next cs t l)
+  chain-texts b (c ∷ cs) (i, k, q, t) (e, l) =
+      let next = nextFree p f c in
+      let w = length-block p f (z .size) c i in
+      (free-text p (blockAt p f c) k q w (good-yes p (z .good)) ∙ ap (freeText p) (sym (head-is next cs l)), chain-texts next cs t l)
 
   -- blocks never used
   pub unused-text : (lowest b : ℕ) → allAre 0 (drop (start p lowest) f) ≡ true → lowest ≤ b → Block p b → blockAt p f b ≡ zeros (p .wpb)

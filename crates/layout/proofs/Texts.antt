@@ -49,10 +49,10 @@ pub block-part : (p : Description) (f : List ℕ) (b : ℕ) → blockAt p f b �
 unfolding blockAt
 block-part p f b = refl
 
-pub block-text : (p : Description) (f : List ℕ) (most stride b n : ℕ) → start p b + p .wpb ≤ length f → 1 + most * stride ≤ p .wpb
-    → RowsOk p f most stride (start p b) n → blockAt p f b ≡ laid (p .wpb) n (part (start p b + 1) (n * stride) f)
+pub block-text : (p : Description) (f : List ℕ) (most stride tag b n : ℕ) → start p b + p .wpb ≤ length f → 1 + most * stride ≤ p .wpb
+    → RowsOk p f most stride tag (start p b) n → blockAt p f b ≡ laid (p .wpb) (tag + n) (part (start p b + 1) (n * stride) f)
 unfolding laid
-block-text p f most stride b n h k w =
+block-text p f most stride tag b n h k w =
     let u = n * stride in
     let l : n * stride ≤ most * stride = mul-le-mul-right stride (w .fits .1) in
     let z = p .wpb - (1 + u) in
@@ -60,10 +60,11 @@ block-text p f most stride b n h k w =
     let t : start p b + (1 + (u + z)) ≤ length f = omega arith in
     let g : length (part (start p b + 1) u f) ≡ u = length-part (start p b + 1) u f (omega arith) in
     let m : p .wpb - 1 - length (part (start p b + 1) u f) ≡ z = omega arith in
+    let c : getD f (start p b) 0 ≡ tag + n = omega (arith, w .count, w .fits) in
     block-part p f b
     ∙ ap (λ (v : ℕ). part (start p b) v f) e
     ∙ text-split f (start p b) u z t
-    ∙ rw (m, ← w .count, zeros-are (start p b + (1 + u)) z f (omega arith) (w .behind))
+    ∙ rw (m, c, zeros-are (start p b + (1 + u)) z f (omega arith) (w .behind))
 
 -- and taken apart
 pub record Words (p : Description) (f : List ℕ) (b n : ℕ) (ws : List ℕ) : Type 0 where

@@ -9,7 +9,7 @@ use Rattle.words.specs.Words.{part, zeros, allWords}
 use Rattle.words.specs.Keys.{ones, keyLt, keyLe}
 use Rattle.table.specs.Tables.{laid}
 use Rattle.drum.specs.declared.Description.{Description}
-use Rattle.drum.specs.Params.{D, I, masterSize, fileSize}
+use Rattle.drum.specs.Params.{D, I, masterSize, fileSize, indexShape, detailShape}
 use Rattle.drum.specs.Blocks.{blockAt, freeText, Block}
 use Rattle.layout.specs.Create.{endRecord}
 use Rattle.layout.specs.Tree.{Leaf, Section, Tree, lastIn, boundOf, leavesOf, contents, reachedBlocks, headOf, times}
@@ -40,13 +40,13 @@ masterText p t =
     let es = masterEntries (t .sections) in
     length (t .sections) ∷ headOf (t .chain) ∷ t .lowest ∷ (es ++ zeros (masterSize p - 3 - length es))
 
--- "Index block: word 0 count, then entries .. All other words are 0" [L5, L8]
+-- "Index block: word 0 count, then entries .. All other words are 0"; in the second form word 0 is "4096 plus the count" [L5, L8, K2]
 abbrev pub IndexIn : Description → List ℕ → Section → Type 0
-IndexIn p f s = blockAt p f (s .block) ≡ laid (p .wpb) (length (s .leaves)) (indexEntries (s .leaves))
+IndexIn p f s = blockAt p f (s .block) ≡ laid (p .wpb) (indexShape p .tag + length (s .leaves)) (indexEntries (s .leaves))
 
--- "Detail block: word 0 count, then records .. All other words are 0" [L6, L8]
+-- "Detail block: word 0 count, then records .. All other words are 0"; in the second form word 0 is "8192 plus the count" [L6, L8, K2]
 abbrev pub DetailIn : Description → List ℕ → Leaf → Type 0
-DetailIn p f l = blockAt p f (l .block) ≡ laid (p .wpb) (length (l .records)) (flatten (l .records))
+DetailIn p f l = blockAt p f (l .block) ≡ laid (p .wpb) (detailShape p .tag + length (l .records)) (flatten (l .records))
 
 -- "Free block: word 0 the next free block or 0. All other words are 0": each block of a chain [L7, L8]
 unfoldable pub ChainIn : Description → List ℕ → List ℕ → Type 0

@@ -11,8 +11,9 @@ use Rattle.numbers.specs.Checked.{Checked, passed, refused, _>>=_, _>>_, requir
 use Rattle.words.specs.Words.{part, zeros, allAre, noneIs, allWords}
 use Rattle.words.specs.Keys.{keyLt, keyLe, sameKey, isOnes}
 use Rattle.drum.specs.declared.Description.{Description}
-use Rattle.drum.specs.Params.{D, I, masterSize, start}
-use Rattle.drum.specs.Blocks.{sections, chainHead, lowestUnused}
+use Rattle.table.specs.declared.Shape.{Shape}
+use Rattle.drum.specs.Params.{D, I, masterSize, start, indexShape, detailShape}
+use Rattle.drum.specs.Blocks.{sections, chainHead, lowestUnused, blockAt, linkPlace, linkIn, isFree}
 
 -- the key at place a
 unfoldable pub keyHeld : Description → List ℕ → ℕ → List ℕ
@@ -45,11 +46,12 @@ recordsOk p f low e a n =
     let r = lastRow a (p .wpr) n in
     ascends p f (p .wpr) low a n && (keyLe (keyHeld p f r) (keyHeld p f e) && endOk p f e r)
 
--- "word 0 count", "No block in use is empty", "All other words are 0": the count of the rows in the block that starts at s [L8, L15]
-unfoldable pub rowsIn : Description → List ℕ → ℕ → ℕ → ℕ → Checked ℕ
-rowsIn p f most stride s = do
-  n ← within 1 most (getD f s 0)
-  require (allAre 0 (part (s + (1 + n * stride)) (p .wpb - (1 + n * stride)) f)) badFile
+-- "word 0 count", "No block in use is empty", "All other words are 0": the count of the rows in the block that starts at s, a table of this shape. "A wrong
+-- kind is one more bad number": it is a count out of range [L8, L15, K2, K4]
+unfoldable pub rowsIn : Description → List ℕ → ℕ → Shape → ℕ → Checked ℕ
+rowsIn p f most h s = do
+  n ← within 1 most (getD f s 0 - h .tag)
+  require (allAre 0 (part (s + (1 + n * h .stride)) (p .wpb - (1 + n * h .stride)) f)) badFile
   passed n
 
 -- the marks with m for block b, which had none: "reached once from the master, or on the chain once .. and only one of these" [L16, S6]
@@ -71,7 +73,7 @@ unfoldable pub detailHeld : Description → List ℕ → ℕ → ℕ → List �
 detailHeld p f low e marks = do
   ms ← marked 1 (named p f e) marks
   let s = start p (named p f e)
-  n ← rowsIn p f (D p) (p .wpr) s
+  n ← rowsIn p f (D p) (detailShape p) s
   require (recordsOk p f low e (s + 1) n) badFile
   passed ms
 
@@ -80,19 +82,21 @@ unfoldable pub indexHeld : Description → List ℕ → ℕ → ℕ → List ℕ
 indexHeld p f low e marks = do
   ms ← marked 1 (named p f e) marks
   let s = start p (named p f e)
-  n ← rowsIn p f (I p) (p .k + 1) s
+  n ← rowsIn p f (I p) (indexShape p) s
   require (sameKey (keyHeld p f (lastRow (s + 1) (p .k + 1) n)) (keyHeld p f e)) badFile
   through (detailHeld p f) (p .k + 1) low (s + 1) n ms
 
--- the chain from block b on: "Free block: word 0 the next free block or 0. All other words are 0". It has at most `fuel` blocks [L7, L8]
+-- the chain from block b on: "Free block: word 0 the next free block or 0. All other words are 0", in the second form with its kind. It has at most `fuel`
+-- blocks [L7, L8, K2, K3, K4]
 unfoldable pub chainHeld : Description → List ℕ → ℕ → ℕ → List ℕ → Checked (List ℕ)
 chainHeld p f zero b marks = elim (eqb b 0) [ true ↦ passed marks | false ↦ refused badFile ]
 chainHeld p f (suc fuel) b marks = elim (eqb b 0) [
   | true ↦ passed marks
   | false ↦ do
     ms ← marked 2 b marks
-    require (allAre 0 (part (start p b + 1) (p .wpb - 1) f)) badFile
-    chainHeld p f fuel (getD f (start p b) 0) ms
+    require (isFree p (blockAt p f b)) badFile
+    require (allAre 0 (drop (linkPlace p + 1) (blockAt p f b))) badFile
+    chainHeld p f fuel (linkIn p (blockAt p f b)) ms
 ]
 
 -- "Every block 1..N is reached .., or on the chain .., or at or above word 2, and only one of these"; those never used are 0 [L16, L8]

@@ -4,6 +4,7 @@ use mathlib.Core.Path.{_≡_}
 use mathlib.Core.Bool.{Bool, true, false}
 use mathlib.Core.List.{List}
 use lib.ListN.{length}
+use Rattle.table.specs.declared.Shape.{Shape}
 use Rattle.drum.specs.declared.Description.{Description}
 use Rattle.words.specs.Words.{zeros}
 use Rattle.numbers.specs.Numbers.{badFile}
@@ -20,6 +21,10 @@ flagged false ms = refused badFile
 abbrev pub counted : ℕ → Checked ℕ
 counted zero = refused badFile
 counted (suc n) = passed (suc n)
+
+-- the table behind word 0 of a block: rows of `stride` words, each with a key, counted with this tag
+abbrev pub rowsOf : Description → ℕ → ℕ → Shape
+rowsOf p stride tag = record { base = 1; stride = stride; width = p .k; tag = tag }
 
 -- good parameters, and the file's length
 pub record Fit (p : Description) (f : List ℕ) : Type 0 where

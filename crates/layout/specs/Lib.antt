@@ -4,3 +4,4 @@ pub mod Tree
 pub mod Holds
 pub mod Inspected
 pub mod Copied
+pub mod Turned

@@ -5,10 +5,12 @@ use super::rows::last_row;
 use super::rows::records_ok;
 use super::rows::rows_in;
 use drum::Description;
+use drum::kinds;
 ghost use mathlib.Core.Path.{_≡_};
 ghost use Prim.Native.Nat.{_+_, _*_, _≤_};
 ghost use lib.ListN.{length};
 ghost use Rattle.drum.specs.Params.{start};
+ghost use Rattle.drum.specs.Blocks.{blockAt};
 ghost use Rattle.layout.specs.Inspect.{through, detailHeld, indexHeld, chainHeld};
 ghost use Rattle.layout.specs.Inspected.{flagged, Fit};
 ghost use Rattle.words.specs.Slices.{was, became};
@@ -19,6 +21,16 @@ fn start_of(p: Description, f: &[u32], b: usize) -> usize
     ensures { λ r. ⌜ (r ≡ start p b) × (r + p .wpb ≤ length (was f)) ⌝ }
 {
     p.start(b)
+}
+
+// The words of block b.
+fn block_of<'a>(p: Description, f: &'a [u32], b: usize) -> &'a [u32]
+    requires { ⌜ Fit p (now f) × (1 ≤ b) × (b ≤ p .n) ⌝ }
+    ensures { λ r. ⌜ (now r ≡ blockAt p (was f) b) × (length (now r) ≡ p .wpb) ⌝ }
+{
+    let s = start_of(p, f, b);
+    let end = s + p.wpb;
+    &f[s..end]
 }
 
 // The detail block under the entry at place e.
@@ -34,7 +46,8 @@ pub fn detail_held(p: Description, f: &[u32], low: usize, e: usize, marks: &mut 
     }
     let s = start_of(p, f, b);
     let most = p.d();
-    let n = rows_in(p, f, most, p.wpr, s);
+    let tag = p.tag(Description::DETAIL);
+    let n = rows_in(p, f, most, p.wpr, tag, s);
     if n == 0 {
         return false;
     }
@@ -84,7 +97,8 @@ pub fn index_held(p: Description, f: &[u32], low: usize, e: usize, marks: &mut [
     }
     let s = start_of(p, f, b);
     let most = p.i();
-    let n = rows_in(p, f, most, k + 1, s);
+    let tag = p.tag(Description::INDEX);
+    let n = rows_in(p, f, most, k + 1, tag, s);
     if n == 0 {
         return false;
     }
@@ -121,7 +135,7 @@ pub fn chain_held(p: Description, f: &[u32], head: usize, marks: &mut [u8]) -> b
     requires { ⌜ length (now marks) ≡ p .n ⌝ }
     ensures { λ r. ⌜ chainHeld p (was f) (p .n) head (was marks) ≡ flagged r (became marks) ⌝ }
 {
-    let wpb = p.wpb;
+    let behind = p.link_place() + 1;
     let mut b = head;
     let mut left = p.n;
     while b != 0 {
@@ -131,11 +145,14 @@ pub fn chain_held(p: Description, f: &[u32], head: usize, marks: &mut [u8]) -> b
         if !mark(2, b, marks) {
             return false;
         }
-        let s = start_of(p, f, b);
-        if !words::all_are(f, s + 1, wpb - 1, 0) {
+        let t = block_of(p, f, b);
+        if !kinds::is_free(p, t) {
             return false;
         }
-        b = words::word_at(f, s);
+        if !words::all_are(t, behind, t.len() - behind, 0) {
+            return false;
+        }
+        b = kinds::link_in(p, t);
         left -= 1;
     }
     true

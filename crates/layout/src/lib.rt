@@ -17,7 +17,7 @@ ghost use Prim.Native.Nat.{_+_, _≤_};
 ghost use lib.ListN.{length};
 ghost use Rattle.words.specs.Words.{put, zeros};
 ghost use Rattle.words.specs.Keys.{ones};
-ghost use Rattle.drum.specs.Params.{goodParams, fileSize};
+ghost use Rattle.drum.specs.Params.{goodParams, fileSize, tagOf, indexKind, detailKind};
 ghost use Rattle.layout.specs.Create.{created, masterOn, indexOn, detailOn};
 ghost use Rattle.layout.specs.Inspect.{restOk, masterOk, walked, layoutMarks};
 ghost use Rattle.layout.specs.Inspected.{flagged, Fit, Ranged, leftMarks};
@@ -125,7 +125,7 @@ pub fn lay_out(p: Description, file: &mut [u32])
     let first = p.start(1);
     let second = p.start(2);
     lay_master(file, p.k);
-    lay_blocks(file, first, second, p.k);
+    lay_blocks(p, file, first, second);
 }
 
 // Writes 0 in every word, and then the master's that are not: one section, the lowest block never used, the section's entry.
@@ -140,29 +140,33 @@ fn lay_master(t: &mut [u32], k: usize)
 }
 
 // Writes the words of the two blocks that are not 0: of the index block at word `first`, of the detail block at word `second`.
-fn lay_blocks(t: &mut [u32], first: usize, second: usize, k: usize)
-    requires { ⌜ (first + (2 + k) ≤ length (now t)) × (second + (1 + k) ≤ length (now t)) ⌝ }
-    ensures { λ _. ⌜ became t ≡ detailOn second k (indexOn first k (was t)) ⌝ }
+fn lay_blocks(p: Description, t: &mut [u32], first: usize, second: usize)
+    requires { ⌜ (first + (2 + p .k) ≤ length (now t)) × (second + (1 + p .k) ≤ length (now t)) ⌝ }
+    ensures { λ _. ⌜
+        became t
+        ≡ detailOn second (tagOf p detailKind + 1) (p .k) (indexOn first (tagOf p indexKind + 1) (p .k) (was t))
+        ⌝ }
 {
-    lay_index(t, first, k);
-    lay_detail(t, second, k);
+    let k = p.k;
+    lay_index(t, first, p.tag(Description::INDEX), k);
+    lay_detail(t, second, p.tag(Description::DETAIL), k);
 }
 
-// Writes the index block's, at word `at`: one entry.
-fn lay_index(t: &mut [u32], at: usize, k: usize)
-    requires { ⌜ at + (2 + k) ≤ length (now t) ⌝ }
-    ensures { λ _. ⌜ became t ≡ indexOn at k (was t) ⌝ }
+// Writes the index block's, at word `at`: one entry, counted with the block's tag.
+fn lay_index(t: &mut [u32], at: usize, tag: usize, k: usize)
+    requires { ⌜ (at + (2 + k) ≤ length (now t)) × (tag ≤ 4096) ⌝ }
+    ensures { λ _. ⌜ became t ≡ indexOn at (tag + 1) k (was t) ⌝ }
 {
-    t[at] = 1;
+    words::put_word(t, at, tag + 1);
     lay_entry(t, at + 1, k, 2);
 }
 
-// Writes the detail block's, at word `at`: the end record.
-fn lay_detail(t: &mut [u32], at: usize, k: usize)
-    requires { ⌜ at + (1 + k) ≤ length (now t) ⌝ }
-    ensures { λ _. ⌜ became t ≡ detailOn at k (was t) ⌝ }
+// Writes the detail block's, at word `at`: the end record, counted with the block's tag.
+fn lay_detail(t: &mut [u32], at: usize, tag: usize, k: usize)
+    requires { ⌜ (at + (1 + k) ≤ length (now t)) × (tag ≤ 8192) ⌝ }
+    ensures { λ _. ⌜ became t ≡ detailOn at (tag + 1) k (was t) ⌝ }
 {
-    t[at] = 1;
+    words::put_word(t, at, tag + 1);
     lay_ones(t, at + 1, k);
 }
 

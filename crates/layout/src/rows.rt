@@ -4,7 +4,7 @@ ghost use mathlib.Core.Path.{_≡_};
 ghost use Prim.Native.Nat.{_+_, _*_, _≤_};
 ghost use lib.ListN.{length};
 ghost use Rattle.layout.specs.Inspect.{above as isAbove, ascends as ascending, endOk, lastRow, recordsOk, rowsIn};
-ghost use Rattle.layout.specs.Inspected.{counted};
+ghost use Rattle.layout.specs.Inspected.{counted, rowsOf};
 ghost use Rattle.words.specs.Slices.{was};
 
 // Where the last of the n rows from place a on begins.
@@ -82,13 +82,16 @@ pub fn records_ok(p: Description, f: &[u32], low: usize, e: usize, a: usize, n: 
     end_ok(p, f, e, r)
 }
 
-// The count of the rows in the block that starts at s, 0 if it is bad or a word behind the rows is not 0; the rows lie in the file.
-pub fn rows_in(p: Description, f: &[u32], most: usize, stride: usize, s: usize) -> usize
+// The count of the rows in the block that starts at s, its word 0 less the tag; 0 if it is bad or a word behind the rows is not 0. The rows
+// lie in the file.
+pub fn rows_in(p: Description, f: &[u32], most: usize, stride: usize, tag: usize, s: usize) -> usize
     requires { ⌜ (1 + most * stride ≤ p .wpb) × (s + p .wpb ≤ length (now f)) ⌝ }
-    ensures { λ r. ⌜ (rowsIn p (was f) most stride s ≡ counted r) × (s + (1 + r * stride) ≤ length (was f)) ⌝ }
+    ensures { λ r. ⌜
+        (rowsIn p (was f) most (rowsOf p stride tag) s ≡ counted r) × (s + (1 + r * stride) ≤ length (was f))
+        ⌝ }
 {
     let wpb = p.wpb;
-    let n = words::word_at(f, s);
+    let n = drum::kinds::less(words::word_at(f, s), tag);
     if n < 1 {
         return 0;
     }

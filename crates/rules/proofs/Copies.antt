@@ -137,7 +137,7 @@ opens-tree st marks t g lb lm o h =
     let out = e ∙ ap (openLayout st) (open-exact p (st .file) g (h .size) .1 t h) in
     (ap (λ (x : Opened). x .outcome .number) out, ap (λ (x : Opened). x .marks) out)
 
-opens-for : (q : Description) (g : List ℕ) (t : Tree) (fresh : Session) (buffer work others : List ℕ) → goodParams q ≡ true → Holds q g t
+pub opens-for : (q : Description) (g : List ℕ) (t : Tree) (fresh : Session) (buffer work others : List ℕ) → goodParams q ≡ true → Holds q g t
     → fresh .opened ≡ false → length buffer ≡ q .wpb → length others ≡ q .n → fresh .desc ≡ q
     → OpensWith (openFile (lent fresh g buffer work) others) (marksOf t (q .n))
 opens-for q g t fresh buffer work others good h o lb lm e =

@@ -36,15 +36,16 @@ use Rattle.rules.proofs.Kept.{Kept, Only, index-block, detail-block, re
 use Rattle.rules.proofs.Kept.{written-count, stop-kept, store-kept, way-most, way-below}
 
 -- an index block's text with an entry gone
-module _ (p : Description) (good : goodParams p ≡ true) (t : List ℕ) (l : length t ≡ p .wpb) (most : count t ≤ I p) (j : ℕ) (below : j < count t) where
-  removed-length : (u : List ℕ) → length u ≡ p .wpb → count u ≡ count t → length (removed (indexShape p) j u) ≡ p .wpb
+module _ (p : Description) (good : goodParams p ≡ true) (t : List ℕ) (l : length t ≡ p .wpb) (most : count (indexShape p) t ≤ I p) (j : ℕ)
+    (below : j < count (indexShape p) t) where
+  removed-length : (u : List ℕ) → length u ≡ p .wpb → count (indexShape p) u ≡ count (indexShape p) t → length (removed (indexShape p) j u) ≡ p .wpb
   removed-length u h c =
-      let e = index-end p good (count u) (omega arith) in
+      let e = index-end p good (count (indexShape p) u) (omega arith) in
       length-removed (indexShape p) j u (omega arith) (omega arith) ∙ h
 
   gone-length : length (entryGone p j t) ≡ p .wpb
   unfolding entryGone
-  gone-length = go (eqb (j + 1) (count t))
+  gone-length = go (eqb (j + 1) (count (indexShape p) t))
     where
       room : place (indexShape p) (j - 1) + length (keyAt (indexShape p) t j) ≤ length t
       room =
@@ -60,12 +61,12 @@ module _ (p : Description) (good : goodParams p ≡ true) (t : List ℕ) (l : le
       go false = removed-length t l refl
 
 -- the master with an entry gone
-module _ (p : Description) (good : goodParams p ≡ true) (f : List ℕ) (i : ℕ) (l : length f ≡ fileSize p) (below : i < count f)
-    (most : count f ≤ p .control) where
-  gone-room : place (masterShape p) (count f) ≤ masterSize p
-  gone-room = master-end p good (count f) most
+module _ (p : Description) (good : goodParams p ≡ true) (f : List ℕ) (i : ℕ) (l : length f ≡ fileSize p) (below : i < count (masterShape p) f)
+    (most : count (masterShape p) f ≤ p .control) where
+  gone-room : place (masterShape p) (count (masterShape p) f) ≤ masterSize p
+  gone-room = master-end p good (count (masterShape p) f) most
 
-  gone-fits : place (masterShape p) (count f) ≤ length f
+  gone-fits : place (masterShape p) (count (masterShape p) f) ≤ length f
   gone-fits =
       let g = caps p good in
       let r = gone-room in
@@ -83,12 +84,13 @@ module _ (p : Description) (good : goodParams p ≡ true) (f : List ℕ) (i : �
 
 module _ (v : Texts) (fit : Fitting (v .desc) (v .file) (v .buffer)) (flag : Bool) (work : List ℕ) (given : length work ≡ v .desc .wpr) where
   -- a record taken out
-  remove-kept : (way : Way) (i : ℕ) → WayFits v flag way → i < count (textAt v way) → Passed (Kept v) (deleteDone v flag work (delete-is.Remove way i))
+  remove-kept : (way : Way) (i : ℕ) → WayFits v flag way → i < count (detailShape (v .desc)) (textAt v way)
+      → Passed (Kept v) (deleteDone v flag work (delete-is.Remove way i))
   unfolding deleteDone
   remove-kept way i h l =
       let b = reached v flag way .buffer in
       let f = reached-fits v fit flag way h in
-      let e = detail-end (v .desc) (fit .good) (count b) (way-most v fit flag work given way h) in
+      let e = detail-end (v .desc) (fit .good) (count (detailShape (v .desc)) b) (way-most v fit flag work given way h) in
       by-passed _ (store-kept v fit flag work given _ (reached v flag way) _ f (reached-only v fit flag way h)
       (length-removed (detailShape (v .desc)) i b (way-below v fit flag work given way i l) (rw (f .buffer-is) e) ∙ f .buffer-is))
 
@@ -131,8 +133,8 @@ module _ (v : Texts) (fit : Fitting (v .desc) (v .file) (v .buffer)) (flag : Boo
         let l = length-set (v .file) 1 (w .index) in
         let n = written-length v fit moves m f l in
         let c = written-count v fit moves m f l (getD-set-other (v .file) 1 0 (w .index) 0 (λ e. omega arith)) in
-        let below : w .section < count g = rw c (path .section-below) in
-        let most : count g ≤ v .desc .control = rw c (path .sections-most) in
+        let below : w .section < count (masterShape (v .desc)) g = rw c (path .section-below) in
+        let most : count (masterShape (v .desc)) g ≤ v .desc .control = rw c (path .sections-most) in
         by-passed _ (emptied-kept _ _ (section-length (v .desc) (fit .good) g (w .section) n below most)
         (λ b k o. section-blocks (v .desc) (fit .good) g (w .section) n below most b ∙ written-only v fit moves m f l (first-set (w .index)) b k o))
 

@@ -18,6 +18,7 @@ use Rattle.table.proofs.Searches.{first-before}
 use Rattle.drum.specs.declared.Description.{Description}
 use Rattle.drum.specs.Params.{D, I, masterShape, indexShape, detailShape}
 use Rattle.drum.specs.Blocks.{Texts, textOf, Block}
+use Rattle.drum.proofs.Forms.{count-master}
 use Rattle.rules.specs.declared.Which.{Which}
 use Rattle.rules.specs.declared.Entry.{Entry}
 use Rattle.rules.specs.declared.Path.{Path}
@@ -34,29 +35,29 @@ use Rattle.rules.specs.Fits.{PathFits, FlushFits, BufferFits, WayFits, L
 use Rattle.numbers.proofs.Passed.{Passed, chain, required, ranged, limited, both}
 
 -- an entry of the table t
-pub record EntryFits (p : Description) (t : List ℕ) (most : ℕ) (e : Entry) : Type 0 where
-  pub count-most : count t ≤ most
-  pub place-below : e .place < count t
+pub record EntryFits (p : Description) (h : Shape) (t : List ℕ) (most : ℕ) (e : Entry) : Type 0 where
+  pub count-most : count h t ≤ most
+  pub place-below : e .place < count h t
   pub block-least : 1 ≤ e .block
   pub block-most : e .block ≤ p .n
 
 module _ (p : Description) (h : Shape) (most : ℕ) (which : Which) (key t : List ℕ) where
   entry-facts : (n b : ℕ) (x : Bool)
-      → within 1 most (count t) ≡ passed n
+      → within 1 most (count h t) ≡ passed n
       → require (ltb (chosen which h key t) n) badFile ≡ passed x
       → within 1 (p .n) (blockIn h t (chosen which h key t)) ≡ passed b
-      → EntryFits p t most (record { place = chosen which h key t; block = b })
+      → EntryFits p h t most (record { place = chosen which h key t; block = b })
   entry-facts n b x e r f =
-      let a = ranged 1 most (count t) n e in
+      let a = ranged 1 most (count h t) n e in
       let z = ranged 1 (p .n) (blockIn h t (chosen which h key t)) b f in
       let q = ltb-true (chosen which h key t) n (required (ltb (chosen which h key t) n) badFile x r) in
       record { count-most = a .1; place-below = omega arith; block-least = omega arith; block-most = omega arith }
 
-  entry-passed : Passed (EntryFits p t most) (entryOf p h most which key t)
+  entry-passed : Passed (EntryFits p h t most) (entryOf p h most which key t)
   unfolding entryOf
   entry-passed = search (chain, entry-facts) depth 12
 
-  pub entry-fits : (e : Entry) → entryOf p h most which key t ≡ passed e → EntryFits p t most e
+  pub entry-fits : (e : Entry) → entryOf p h most which key t ≡ passed e → EntryFits p h t most e
   entry-fits e q = entry-passed .holds e q
 
 -- a path
@@ -65,15 +66,15 @@ module _ (v : Texts) (top which : Which) (key : List ℕ) where
       → entryOf (v .desc) (masterShape (v .desc)) (v .desc .control) top key (v .file) ≡ passed m
       → entryOf (v .desc) (indexShape (v .desc)) (I (v .desc)) which key (textOf v (m .block)) ≡ passed e
       → require (not (eqb (m .block) (e .block))) badFile ≡ passed x
-      → within 1 (D (v .desc)) (count (textOf v (e .block))) ≡ passed n
+      → within 1 (D (v .desc)) (count (detailShape (v .desc)) (textOf v (e .block))) ≡ passed n
       → PathFits v (record { section = m .place; index = m .block; entry = e .place; detail = e .block })
   path-facts m e x n a b c d =
       let f = entry-fits (v .desc) (masterShape (v .desc)) (v .desc .control) top key (v .file) m a in
       let g = entry-fits (v .desc) (indexShape (v .desc)) (I (v .desc)) which key (textOf v (m .block)) e b in
-      let r = ranged 1 (D (v .desc)) (count (textOf v (e .block))) n d in
+      let r = ranged 1 (D (v .desc)) (count (detailShape (v .desc)) (textOf v (e .block))) n d in
       record {
-        sections-most = f .count-most;
-        section-below = f .place-below;
+        sections-most = rw (← count-master (v .desc) (v .file)) (f .count-most);
+        section-below = rw (← count-master (v .desc) (v .file)) (f .place-below);
         index-least = f .block-least;
         index-most = f .block-most;
         entries-most = g .count-most;
@@ -110,10 +111,11 @@ module _ (v : Texts) (test : Bool) where
   tested-none : Tested v test false
   tested-none h = absurd (clash (sym h))
 
-  tested-facts : (x y : ℕ) → within 1 (v .desc .n) (v .current) ≡ passed x → within 1 (D (v .desc)) (count (v .buffer)) ≡ passed y → Tested v test test
+  tested-facts : (x y : ℕ) → within 1 (v .desc .n) (v .current) ≡ passed x
+      → within 1 (D (v .desc)) (count (detailShape (v .desc)) (v .buffer)) ≡ passed y → Tested v test test
   tested-facts x y e f h =
       let a = ranged 1 (v .desc .n) (v .current) x e in
-      let b = ranged 1 (D (v .desc)) (count (v .buffer)) y f in
+      let b = ranged 1 (D (v .desc)) (count (detailShape (v .desc)) (v .buffer)) y f in
       (record { current-least = a .0; current-most = a .1; records-least = b .0; records-most = b .1 }, h)
 
   tested-passed : Passed (Tested v test) (onBuffer v test)
@@ -129,7 +131,7 @@ module _ (v : Texts) (flag : Bool) (key : List ℕ) where
   at-fits w a f = go (ltb i n) refl
     where
       n : ℕ
-      n = count (textOf v (w .detail))
+      n = count (detailShape (v .desc)) (textOf v (w .detail))
 
       i : ℕ
       i = rowWith (detailShape (v .desc)) key (textOf v (w .detail))
@@ -144,7 +146,7 @@ module _ (v : Texts) (flag : Bool) (key : List ℕ) where
   here-facts : (here : Bool) → inBuffer v key ≡ passed here → here ≡ true → LookFits v flag (Found Here (rowWith (detailShape (v .desc)) key (v .buffer)))
   unfolding inBuffer
   here-facts here e h =
-      let a = tested-fits v (ltb (rowWith (detailShape (v .desc)) key (v .buffer)) (count (v .buffer))) here e h in
+      let a = tested-fits v (ltb (rowWith (detailShape (v .desc)) key (v .buffer)) (count (detailShape (v .desc)) (v .buffer))) here e h in
       (a .0, ltb-true _ _ (a .1))
 
   pub look-passed : Passed (LookFits v flag) (look v flag key)
@@ -161,15 +163,15 @@ unfolding nextPath
 next-passed v w = search (chain, path-passed)
 
 -- where position is below the last key, a record is above it
-row-above : (h : Shape) (at t : List ℕ) → 1 ≤ count t → keyLt at (keyAt h t (count t - 1)) ≡ true → rowAbove h at t < count t
+row-above : (h : Shape) (at t : List ℕ) → 1 ≤ count h t → keyLt at (keyAt h t (count h t - 1)) ≡ true → rowAbove h at t < count h t
 unfolding fits
-row-above h at t c e = go (ltb (rowAbove h at t) (count t)) refl
+row-above h at t c e = go (ltb (rowAbove h at t) (count h t)) refl
   where
-    go : (b : Bool) → ltb (rowAbove h at t) (count t) ≡ b → rowAbove h at t < count t
+    go : (b : Bool) → ltb (rowAbove h at t) (count h t) ≡ b → rowAbove h at t < count h t
     go true g = ltb-true _ _ g
     go false g =
-        let l = ltb-false (rowAbove h at t) (count t) g in
-        absurd (clash (sym e ∙ first-before (fits Over h at t) (count t) (count t - 1) (omega arith)))
+        let l = ltb-false (rowAbove h at t) (count h t) g in
+        absurd (clash (sym e ∙ first-before (fits Over h at t) (count h t) (count h t - 1) (omega arith)))
 
 module _ (v : Texts) (flag : Bool) (at : List ℕ) where
   step-here : (here : Bool) → nextInBuffer v at ≡ passed here → here ≡ true → StepFits v flag (step-is.At Here (nextRow v true at (v .buffer)))
@@ -177,16 +179,17 @@ module _ (v : Texts) (flag : Bool) (at : List ℕ) where
   step-here here e h =
       let n = detailShape (v .desc) in
       let first = keyLe (keyAt n (v .buffer) 0) at in
-      let last = keyLt at (keyAt n (v .buffer) (count (v .buffer) - 1)) in
+      let last = keyLt at (keyAt n (v .buffer) (count (detailShape (v .desc)) (v .buffer) - 1)) in
       let a = tested-fits v (first && last) here e h in
       (a .0, row-above n at (v .buffer) (a .0 .records-least) (both first last (a .1) .1))
 
-  step-at : (w : Path) (x : Bool) (i : ℕ) → PathFits v w → require (flushOk v flag) badFile ≡ passed x → ltb i (count (textOf v (w .detail))) ≡ true
+  step-at : (w : Path) (x : Bool) (i : ℕ) → PathFits v w → require (flushOk v flag) badFile ≡ passed x
+      → ltb i (count (detailShape (v .desc)) (textOf v (w .detail))) ≡ true
       → StepFits v flag (step-is.At (By w) i)
   step-at w x i p e l = ((p, flush-due v flag x e), ltb-true _ _ l)
 
   step-beyond : (w x : Path) (y z : Bool) (i : ℕ) → nextPath v w ≡ passed x → require (flushOk v flag) badFile ≡ passed y
-      → require (ltb i (count (textOf v (x .detail)))) badFile ≡ passed z → StepFits v flag (step-is.Beyond w x i)
+      → require (ltb i (count (detailShape (v .desc)) (textOf v (x .detail)))) badFile ≡ passed z → StepFits v flag (step-is.Beyond w x i)
   step-beyond w x y z i e f l = (next-passed v w .holds x e, flush-due v flag y f, ltb-true _ _ (required _ badFile z l))
 
   pub covering-fits : (placed : Bool) (w : Path) → cond placed (pathTo v at) (firstPath v) ≡ passed w → PathFits v w

@@ -12,9 +12,10 @@ use Rattle.words.proofs.Parts.{length-part}
 use Rattle.table.specs.Tables.{count, place, row, inserted, replaced}
 use Rattle.table.proofs.Lengths.{length-replaced, length-inserted}
 use Rattle.drum.specs.declared.Description.{Description}
-use Rattle.drum.specs.Params.{D, fileSize, goodParams, detailShape}
+use Rattle.drum.specs.Params.{D, fileSize, goodParams, masterShape, detailShape}
 use Rattle.drum.specs.Blocks.{Transfer, Read, written, writes, blockAt, sections, Texts, Fitting, Block}
 use Rattle.drum.proofs.Good.{caps}
+use Rattle.drum.proofs.Forms.{count-master}
 use Rattle.drum.proofs.Blocks.{length-textOf, length-block}
 use Rattle.drum.proofs.Written.{Moves, moves-append, length-written, only-written, master-word-written}
 use Rattle.rules.specs.declared.Path.{Path}
@@ -53,7 +54,7 @@ pub detail-block : (v : Texts) (w : Path) → PathFits v w → Block (v .desc) (
 detail-block v w h = (h .detail-least, h .detail-most)
 
 -- row i of a detail block's text lies in it
-pub row-within : (p : Description) (t : List ℕ) (i : ℕ) → goodParams p ≡ true → length t ≡ p .wpb → count t ≤ D p → i < count t
+pub row-within : (p : Description) (t : List ℕ) (i : ℕ) → goodParams p ≡ true → length t ≡ p .wpb → count (detailShape p) t ≤ D p → i < count (detailShape p) t
     → place (detailShape p) i + p .wpr ≤ length t
 row-within p t i good h most l =
     let r = detail-row p good i (omega arith) in
@@ -114,20 +115,21 @@ module _ (v : Texts) (fit : Fitting (v .desc) (v .file) (v .buffer)) where
       → length (written (v .desc) moves (withFree head lowest (v .file))) ≡ fileSize (v .desc)
   freed-length moves m head lowest = written-length moves m (withFree head lowest (v .file)) (free-length (v .desc) (fit .good) head lowest (v .file))
 
-  pub freed-only : (moves : List Transfer) → Moves (v .desc) moves → (head lowest : ℕ) → Only v moves (written (v .desc) moves (withFree head lowest (v .file)))
+  pub freed-only : (moves : List Transfer) → Moves (v .desc) moves → (head lowest : ℕ)
+      → Only v moves (written (v .desc) moves (withFree head lowest (v .file)))
   freed-only moves m head lowest =
       written-only moves m (withFree head lowest (v .file)) (free-length (v .desc) (fit .good) head lowest (v .file))
       (free-blocks (v .desc) (fit .good) head lowest (v .file))
 
   -- and the sections that the master has then
   pub written-count : (moves : List Transfer) → Moves (v .desc) moves → (f : List ℕ) → length f ≡ length (v .file)
-      → getD f 0 0 ≡ sections (v .file) → count (written (v .desc) moves f) ≡ sections (v .file)
+      → getD f 0 0 ≡ sections (v .file) → count (masterShape (v .desc)) (written (v .desc) moves f) ≡ sections (v .file)
   written-count moves m f l e =
       let g = caps (v .desc) (fit .good) in
-      master-word-written (v .desc) f (l ∙ fit .file-is) moves m 0 (omega arith) ∙ e
+      count-master (v .desc) (written (v .desc) moves f) ∙ master-word-written (v .desc) f (l ∙ fit .file-is) moves m 0 (omega arith) ∙ e
 
   pub freed-count : (moves : List Transfer) → Moves (v .desc) moves → (head lowest : ℕ)
-      → count (written (v .desc) moves (withFree head lowest (v .file))) ≡ sections (v .file)
+      → count (masterShape (v .desc)) (written (v .desc) moves (withFree head lowest (v .file))) ≡ sections (v .file)
   unfolding withFree
   freed-count moves m head lowest =
       written-count moves m (withFree head lowest (v .file)) (free-length (v .desc) (fit .good) head lowest (v .file))
@@ -139,7 +141,8 @@ unfolding reached bringing
 reached-text v flag Here = refl
 reached-text v flag (By w) = refl
 
-pub way-counts : (v : Texts) (flag : Bool) (way : Way) → WayFits v flag way → (1 ≤ count (textAt v way)) × (count (textAt v way) ≤ D (v .desc))
+pub way-counts : (v : Texts) (flag : Bool) (way : Way) → WayFits v flag way
+    → (1 ≤ count (detailShape (v .desc)) (textAt v way)) × (count (detailShape (v .desc)) (textAt v way) ≤ D (v .desc))
 way-counts v flag Here h = (h .records-least, h .records-most)
 way-counts v flag (By w) h = (h .0 .records-least, h .0 .records-most)
 
@@ -151,8 +154,9 @@ module _ (v : Texts) (fit : Fitting (v .desc) (v .file) (v .buffer)) (flag : Boo
       let f = reached-fits v fit flag way h in
       record { file-is = f .file-is; buffer-is = f .buffer-is; work-is = given; only = reached-only v fit flag way h }
 
-  give-kept : (r : Reached) (n i : ℕ) (keyed : Bool) → Fitting (v .desc) (r .file) (r .buffer) → Only v (r .moves) (r .file) → count (r .buffer) ≤ D (v .desc)
-      → i < count (r .buffer)
+  give-kept : (r : Reached) (n i : ℕ) (keyed : Bool) → Fitting (v .desc) (r .file) (r .buffer) → Only v (r .moves) (r .file)
+      → count (detailShape (v .desc)) (r .buffer) ≤ D (v .desc)
+      → i < count (detailShape (v .desc)) (r .buffer)
       → Kept v (giving v r n i keyed)
   unfolding giving row detailShape
   give-kept r n i keyed f o c l = record {
@@ -175,25 +179,25 @@ module _ (v : Texts) (fit : Fitting (v .desc) (v .file) (v .buffer)) (flag : Boo
   pub record-length : length (recordIn (v .desc) work) ≡ v .desc .wpr
   record-length = length-part 0 (v .desc .wpr) work (omega arith)
 
-  pub replace-length : (t : List ℕ) (i : ℕ) → length t ≡ v .desc .wpb → count t ≤ D (v .desc) → i < count t
+  pub replace-length : (t : List ℕ) (i : ℕ) → length t ≡ v .desc .wpb → count (detailShape (v .desc)) t ≤ D (v .desc) → i < count (detailShape (v .desc)) t
       → length (replaced (detailShape (v .desc)) i (recordIn (v .desc) work) t) ≡ v .desc .wpb
   replace-length t i h c l =
       let r = record-length in
       let w = row-within (v .desc) t i (fit .good) h c l in
       length-replaced (detailShape (v .desc)) i t (recordIn (v .desc) work) (rw r w) ∙ h
 
-  pub insert-length : (t : List ℕ) (i : ℕ) → length t ≡ v .desc .wpb → i ≤ count t → count t < D (v .desc)
+  pub insert-length : (t : List ℕ) (i : ℕ) → length t ≡ v .desc .wpb → i ≤ count (detailShape (v .desc)) t → count (detailShape (v .desc)) t < D (v .desc)
       → length (inserted (detailShape (v .desc)) i (recordIn (v .desc) work) t) ≡ v .desc .wpb
   unfolding detailShape
   insert-length t i h l c =
-      let q = detail-row (v .desc) (fit .good) (count t) c in
+      let q = detail-row (v .desc) (fit .good) (count (detailShape (v .desc)) t) c in
       length-inserted (detailShape (v .desc)) i t (recordIn (v .desc) work) l record-length (rw h q) ∙ h
 
   -- what the buffer holds once a way is gone
-  pub way-most : (way : Way) → WayFits v flag way → count (reached v flag way .buffer) ≤ D (v .desc)
+  pub way-most : (way : Way) → WayFits v flag way → count (detailShape (v .desc)) (reached v flag way .buffer) ≤ D (v .desc)
   way-most way h = rw (reached-text v flag way) (way-counts v flag way h .1)
 
-  pub way-below : (way : Way) (i : ℕ) → i < count (textAt v way) → i < count (reached v flag way .buffer)
+  pub way-below : (way : Way) (i : ℕ) → i < count (detailShape (v .desc)) (textAt v way) → i < count (detailShape (v .desc)) (reached v flag way .buffer)
   way-below way i l = rw (reached-text v flag way) l
 
   -- SEEK and UPDAT

@@ -8,3 +8,4 @@ pub mod NsertKept
 pub mod XtendKept
 pub mod Computing
 pub mod Copies
+pub mod Turns

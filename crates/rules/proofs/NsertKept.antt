@@ -42,7 +42,8 @@ use Rattle.rules.proofs.Rooms.{detail-key, index-base, index-row, index
 use Rattle.rules.proofs.Kept.{Kept, index-block, detail-block, reached-text, reached-moves, reached-fits, reached-only, record-length, insert-length, stop-kept, store-kept, land-kept, freed-length, freed-only, freed-count}
 
 -- the texts of a split have WPB words, their entries K+1
-module _ (v : Texts) (fit : Fitting (v .desc) (v .file) (v .buffer)) (w : Path) (path : PathFits v w) (i : ℕ) (r : List ℕ) (whole : length r ≡ v .desc .wpr) where
+module _ (v : Texts) (fit : Fitting (v .desc) (v .file) (v .buffer)) (w : Path) (path : PathFits v w) (i : ℕ) (r : List ℕ)
+    (whole : length r ≡ v .desc .wpr) where
   pub low-length : length (detailLow v w i r) ≡ v .desc .wpb
   unfolding detailLow detailShape
   low-length =
@@ -66,12 +67,12 @@ module _ (v : Texts) (fit : Fitting (v .desc) (v .file) (v .buffer)) (w : Path) 
       let l = detail-key (v .desc) (fit .good) (detailLow v w i r) (lowCount (D (v .desc)) - 1) low-length (omega arith) in
       simp length-append (omega arith)
 
-  pub entered-length : (b : ℕ) → count (textOf v (w .index)) < I (v .desc) → length (indexEntered v w i r b) ≡ v .desc .wpb
+  pub entered-length : (b : ℕ) → count (indexShape (v .desc)) (textOf v (w .index)) < I (v .desc) → length (indexEntered v w i r b) ≡ v .desc .wpb
   unfolding indexEntered indexShape
   entered-length b room =
       let t = textOf v (w .index) in
       let l = length-textOf v (w .index) fit (index-block v w path) in
-      let q = index-row (v .desc) (fit .good) (count t) room in
+      let q = index-row (v .desc) (fit .good) (count (indexShape (v .desc)) t) room in
       let e = path .entry-below in
       length-entered (indexShape (v .desc)) (w .entry) t (detailEntry v w i r) b (index-base (v .desc)) (omega arith) entry-length (omega arith) ∙ l
 
@@ -102,7 +103,7 @@ module _ (v : Texts) (fit : Fitting (v .desc) (v .file) (v .buffer)) (w : Path) 
 
   -- every transfer is of a good block, and what is written has WPB words
   module _ (flag : Bool) (due : FlushFits v flag) (b : ℕ) (new : Block (v .desc) b) where
-    split-moves : count (textOf v (w .index)) < I (v .desc) → Moves (v .desc) (reached v flag (By w) .moves ++ splitMoves v w i r b)
+    split-moves : count (indexShape (v .desc)) (textOf v (w .index)) < I (v .desc) → Moves (v .desc) (reached v flag (By w) .moves ++ splitMoves v w i r b)
     unfolding splitMoves
     split-moves room =
         moves-append (v .desc) (reached v flag (By w) .moves) _ (reached-moves v fit flag (By w) (path, due))
@@ -115,11 +116,12 @@ module _ (v : Texts) (fit : Fitting (v .desc) (v .file) (v .buffer)) (w : Path) 
         (detail-block v w path, low-length, (new, high-length, (index-block v w path, index-low-length b, (newer, index-high-length b, tt))))
 
 -- the master with an entry that becomes two
-module _ (p : Description) (good : goodParams p ≡ true) (f : List ℕ) (i : ℕ) (r : List ℕ) (x : ℕ) (l : length f ≡ fileSize p) (below : i < count f) (most : count f < p .control) (whole : length r ≡ p .k + 1) where
-  section-room : place (masterShape p) (count f) + (p .k + 1) ≤ masterSize p
-  section-room = master-row p good (count f) most
+module _ (p : Description) (good : goodParams p ≡ true) (f : List ℕ) (i : ℕ) (r : List ℕ) (x : ℕ) (l : length f ≡ fileSize p)
+    (below : i < count (masterShape p) f) (most : count (masterShape p) f < p .control) (whole : length r ≡ p .k + 1) where
+  section-room : place (masterShape p) (count (masterShape p) f) + (p .k + 1) ≤ masterSize p
+  section-room = master-row p good (count (masterShape p) f) most
 
-  section-fits : place (masterShape p) (count f) + (p .k + 1) ≤ length f
+  section-fits : place (masterShape p) (count (masterShape p) f) + (p .k + 1) ≤ length f
   section-fits =
       let g = caps p good in
       let q = section-room in
@@ -145,13 +147,18 @@ module _ (v : Texts) (fit : Fitting (v .desc) (v .file) (v .buffer)) (flag : Boo
     unfolding insertDone
     stop-deed n = record { kept = by-passed _ (stop-kept v fit flag work given n (By w) (path, due)) }
 
-    room-deed : (i n : ℕ) → i ≤ count (textOf v (w .detail)) → ltb (count (textOf v (w .detail))) (D (v .desc)) ≡ true → Deed (insert-is.Room w i n)
+    room-deed : (i n : ℕ) → i ≤ count (detailShape (v .desc)) (textOf v (w .detail))
+        → ltb (count (detailShape (v .desc)) (textOf v (w .detail))) (D (v .desc)) ≡ true → Deed (insert-is.Room w i n)
     unfolding insertDone
     room-deed i n low e =
         let t = textOf v (w .detail) in
         let f = reached-fits v fit flag (By w) (path, due) in
-        let l = insert-length v fit flag work given t i (length-textOf v (w .detail) fit (detail-block v w path)) low (ltb-true (count t) (D (v .desc)) e) in
-        record { kept = by-passed _ (store-kept v fit flag work given n (reached v flag (By w)) _ f (reached-only v fit flag (By w) (path, due)) (rw (reached-text v flag (By w)) l)) }
+        let whole = length-textOf v (w .detail) fit (detail-block v w path) in
+        let l = insert-length v fit flag work given t i whole low (ltb-true (count (detailShape (v .desc)) t) (D (v .desc)) e) in
+        record {
+          kept = by-passed _ (store-kept v fit flag work given n (reached v flag (By w)) _ f (reached-only v fit flag (By w) (path, due))
+              (rw (reached-text v flag (By w)) l));
+        }
 
     half-block : (n i b : ℕ) → Block (v .desc) b → Block (v .desc) (halfOf n i (w .detail) b)
     half-block n i b new = go (ltb i (lowCount n))
@@ -160,7 +167,7 @@ module _ (v : Texts) (fit : Fitting (v .desc) (v .file) (v .buffer)) (flag : Boo
         go true = detail-block v w path
         go false = new
 
-    split-deed : (i n : ℕ) (d : Taken) → ltb (count (textOf v (w .index))) (I (v .desc)) ≡ true
+    split-deed : (i n : ℕ) (d : Taken) → ltb (count (indexShape (v .desc)) (textOf v (w .index))) (I (v .desc)) ≡ true
         → takeOne v flag w ≡ passed d → eqb (d .block) 0 ≡ false → Deed (insert-is.Split w i d n)
     unfolding insertDone splitFile
     split-deed i n d room e z =
@@ -168,8 +175,8 @@ module _ (v : Texts) (fit : Fitting (v .desc) (v .file) (v .buffer)) (flag : Boo
         let new = one-new v flag w d e z .new .block in
         let m = split-moves v fit w path i r (record-length v fit flag work given) flag due (d .block) new (ltb-true _ _ room) in
         record {
-          kept = by-passed _ (land-kept v fit flag work given n _ _ _ (half-block (D (v .desc)) i (d .block) new) (freed-length v fit _ m (d .head) (d .lowest))
-              (freed-only v fit _ m (d .head) (d .lowest)));
+          kept = by-passed _ (land-kept v fit flag work given n _ _ _ (half-block (D (v .desc)) i (d .block) new)
+              (freed-length v fit _ m (d .head) (d .lowest)) (freed-only v fit _ m (d .head) (d .lowest)));
         }
 
     both-deed : (i n : ℕ) (t : Pair) → takeTwo v flag w ≡ passed t → eqb (t .detail) 0 ≡ false → Deed (insert-is.Both w i (t .detail) (t .index) n)
@@ -187,13 +194,14 @@ module _ (v : Texts) (fit : Fitting (v .desc) (v .file) (v .buffer)) (flag : Boo
         let f = written (v .desc) moves (withFree (x .head) (x .lowest) (v .file)) in
         let l = freed-length v fit moves m (x .head) (x .lowest) in
         let s = freed-count v fit moves m (x .head) (x .lowest) in
-        let below : w .section < count f = rw s (path .section-below) in
-        let most : count f < v .desc .control = rw s (two .section) in
+        let below : w .section < count (masterShape (v .desc)) f = rw s (path .section-below) in
+        let most : count (masterShape (v .desc)) f < v .desc .control = rw s (two .section) in
         let entry = index-entry-length v fit w path i r whole b in
         record {
           kept = by-passed _ (land-kept v fit flag work given n _ _ _ (half-block (D (v .desc)) i b new)
               (section-length (v .desc) (fit .good) f (w .section) _ (x .block) l below most entry)
-              (λ y k o. section-blocks (v .desc) (fit .good) f (w .section) _ (x .block) l below most entry y ∙ freed-only v fit moves m (x .head) (x .lowest) y k o));
+              (λ y k o. section-blocks (v .desc) (fit .good) f (w .section) _ (x .block) l below most entry y
+              ∙ freed-only v fit moves m (x .head) (x .lowest) y k o));
         }
 
   -- what the plan passes
@@ -201,8 +209,8 @@ module _ (v : Texts) (fit : Fitting (v .desc) (v .file) (v .buffer)) (flag : Boo
   unfolding insertDone
   duplicate-deed way i n h = record { kept = by-passed _ (stop-kept v fit flag work given _ way (h .0)) }
 
-  above-low : (key : List ℕ) (w : Path) → rowAbove (detailShape (v .desc)) key (textOf v (w .detail)) ≤ count (textOf v (w .detail))
-  above-low key w = first-le (fits Over (detailShape (v .desc)) key (textOf v (w .detail))) (count (textOf v (w .detail)))
+  above-low : (key : List ℕ) (w : Path) → rowAbove (detailShape (v .desc)) key (textOf v (w .detail)) ≤ count (detailShape (v .desc)) (textOf v (w .detail))
+  above-low key w = first-le (fits Over (detailShape (v .desc)) key (textOf v (w .detail))) (count (detailShape (v .desc)) (textOf v (w .detail)))
 
   after-kept : (key : List ℕ) (l : Look) → LookFits v flag l → Passed Deed (insertAfter v flag key l)
   unfolding insertAfter insertAt roomDeed splitDeed bothDeed

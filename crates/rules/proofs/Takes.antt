@@ -47,10 +47,10 @@ module _ (v : Texts) (head lowest : ℕ) where
       → Most (v .desc) (record { block = lowest; head = 0; lowest = lowest + 1 })
   from-lowest none e f g = record { block-most = left-passed (v .desc) head lowest .holds none e .lowest-most f g; head-most = omega arith }
 
-  from-chain : (none : Bool) (link : ℕ) → noneLeft (v .desc) head lowest ≡ passed none → upTo (v .desc .n) (linkIn (textOf v head)) ≡ passed link
+  from-chain : (none : Bool) (link : ℕ) → noneLeft (v .desc) head lowest ≡ passed none → upTo (v .desc .n) (linkIn (v .desc) (textOf v head)) ≡ passed link
       → Most (v .desc) (record { block = head; head = link; lowest = lowest })
   from-chain none link e f =
-      let l = limited (v .desc .n) (linkIn (textOf v head)) link f in
+      let l = limited (v .desc .n) (linkIn (v .desc) (textOf v head)) link f in
       record { block-most = left-passed (v .desc) head lowest .holds none e .head-most; head-most = omega arith }
 
   granted-passed : Passed (Most (v .desc)) (granted v head lowest)

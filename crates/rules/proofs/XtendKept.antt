@@ -41,34 +41,38 @@ use Rattle.rules.proofs.Rooms.{detail-read, index-base, index-end, inde
 use Rattle.rules.proofs.Kept.{Kept, Only, index-block, detail-block, reached-text, way-counts, reached-moves, reached-fits, reached-only, insert-length, replace-length, store-kept, land-kept, freed-length, freed-only, freed-count}
 
 -- a table of entries whose last bound becomes the key, and with a new entry behind it
-module _ (p : Description) (h : Shape) (stride : h .stride ≡ p .k + 1) (base : 1 ≤ h .base) (t key : List ℕ) (whole : length key ≡ p .k) (some : 1 ≤ count t) (all : place h (count t) ≤ length t) where
-  bounded-room : place h (count t - 1) + length key ≤ length t
+module _ (p : Description) (h : Shape) (stride : h .stride ≡ p .k + 1) (base : 1 ≤ h .base) (t key : List ℕ) (whole : length key ≡ p .k)
+    (some : 1 ≤ count h t) (all : place h (count h t) ≤ length t) where
+  bounded-room : place h (count h t - 1) + length key ≤ length t
   bounded-room =
-      let r = row-lt (count t - 1) (count t) (h .stride) (omega arith) in
+      let r = row-lt (count h t - 1) (count h t) (h .stride) (omega arith) in
       omega arith
 
   pub bounded-length : length (bounded h key t) ≡ length t
   unfolding bounded
-  bounded-length = length-replaced h (count t - 1) t key bounded-room
+  bounded-length = length-replaced h (count h t - 1) t key bounded-room
 
-  pub bounded-count : count (bounded h key t) ≡ count t
+  pub bounded-count : count h (bounded h key t) ≡ count h t
   unfolding bounded
-  bounded-count = count-replaced h (count t - 1) t key bounded-room base
+  bounded-count = count-replaced h (count h t - 1) t key bounded-room base
 
-  module _ (b : ℕ) (room : place h (count t) + h .stride ≤ length t) where
-    still : place h (count (bounded h key t)) + h .stride ≤ length (bounded h key t)
+  module _ (b : ℕ) (room : place h (count h t) + h .stride ≤ length t) where
+    still : place h (count h (bounded h key t)) + h .stride ≤ length (bounded h key t)
     still = rw (bounded-count, bounded-length) room
 
     pub extended-length : length (extended p h key b t) ≡ length t
     unfolding extended
-    extended-length = length-inserted h (count t) (bounded h key t) (onesEntry p b) (rw bounded-count (omega arith)) (ones-length p b ∙ sym stride) still ∙ bounded-length
+    extended-length =
+        length-inserted h (count h t) (bounded h key t) (onesEntry p b) (rw bounded-count (omega arith)) (ones-length p b ∙ sym stride) still
+        ∙ bounded-length
 
-    extended-part : (a n : ℕ) → place h (count t) + h .stride ≤ a → part a n (extended p h key b t) ≡ part a n t
+    extended-part : (a n : ℕ) → place h (count h t) + h .stride ≤ a → part a n (extended p h key b t) ≡ part a n t
     unfolding extended bounded
     extended-part a n l =
         let r = bounded-room in
-        part-inserted h (count t) (bounded h key t) (onesEntry p b) (rw bounded-count (omega arith)) (ones-length p b ∙ sym stride) still a n base (rw bounded-count l)
-        ∙ part-replaced h (count t - 1) t key bounded-room a n (omega (arith, row-lt (count t - 1) (count t) (h .stride) (omega arith)))
+        part-inserted h (count h t) (bounded h key t) (onesEntry p b) (rw bounded-count (omega arith)) (ones-length p b ∙ sym stride) still
+        a n base (rw bounded-count l)
+        ∙ part-replaced h (count h t - 1) t key bounded-room a n (omega (arith, row-lt (count h t - 1) (count h t) (h .stride) (omega arith)))
 
 module _ (v : Texts) (fit : Fitting (v .desc) (v .file) (v .buffer)) (flag : Bool) (work : List ℕ) (given : length work ≡ v .desc .wpr) where
   key-length : length (keyIn (v .desc) work) ≡ v .desc .k
@@ -90,39 +94,42 @@ module _ (v : Texts) (fit : Fitting (v .desc) (v .file) (v .buffer)) (flag : Boo
     unfolding oldText
     old-length =
         let c = way-counts v flag way reach in
-        replace-length v fit flag work given (textAt v way) (count (textAt v way) - 1) text-length (c .1) (omega arith)
+        replace-length v fit flag work given (textAt v way) (count (detailShape (v .desc)) (textAt v way) - 1) text-length (c .1) (omega arith)
 
     pub end-length : length (endText v way) ≡ v .desc .wpb
     unfolding endText
     end-length =
         let g = caps (v .desc) (fit .good) in
         let c = way-counts v flag way reach in
-        let l = detail-read (v .desc) (fit .good) (textAt v way) (count (textAt v way) - 1) text-length (omega arith) in
-        length-laid (v .desc .wpb) 1 (row (detailShape (v .desc)) (textAt v way) (count (textAt v way) - 1)) (omega arith)
+        let h = detailShape (v .desc) in
+        let l = detail-read (v .desc) (fit .good) (textAt v way) (count h (textAt v way) - 1) text-length (omega arith) in
+        length-laid (v .desc .wpb) (h .tag + 1) (row h (textAt v way) (count h (textAt v way) - 1)) (omega arith)
 
     -- the index block's
     module _ (w : Path) (path : PathFits v w) where
       index-length : length (textOf v (w .index)) ≡ v .desc .wpb
       index-length = length-textOf v (w .index) fit (index-block v w path)
 
-      index-all : place (indexShape (v .desc)) (count (textOf v (w .index))) ≤ length (textOf v (w .index))
-      index-all = rw index-length (index-end (v .desc) (fit .good) (count (textOf v (w .index))) (path .entries-most))
+      index-all : place (indexShape (v .desc)) (count (indexShape (v .desc)) (textOf v (w .index))) ≤ length (textOf v (w .index))
+      index-all = rw index-length (index-end (v .desc) (fit .good) (count (indexShape (v .desc)) (textOf v (w .index))) (path .entries-most))
 
       pub index-bounded : length (bounded (indexShape (v .desc)) (keyIn (v .desc) work) (textOf v (w .index))) ≡ v .desc .wpb
       unfolding indexShape
       index-bounded =
           let e = path .entry-below in
-          bounded-length (v .desc) (indexShape (v .desc)) refl (index-base (v .desc)) (textOf v (w .index)) (keyIn (v .desc) work) key-length (omega arith) index-all ∙ index-length
+          bounded-length (v .desc) (indexShape (v .desc)) refl (index-base (v .desc)) (textOf v (w .index)) (keyIn (v .desc) work) key-length (omega arith) index-all
+          ∙ index-length
 
-      pub index-extended : (b : ℕ) → count (textOf v (w .index)) < I (v .desc)
+      pub index-extended : (b : ℕ) → count (indexShape (v .desc)) (textOf v (w .index)) < I (v .desc)
           → length (extended (v .desc) (indexShape (v .desc)) (keyIn (v .desc) work) b (textOf v (w .index))) ≡ v .desc .wpb
       unfolding indexShape
       index-extended b room =
           let e = path .entry-below in
-          extended-length (v .desc) (indexShape (v .desc)) refl (index-base (v .desc)) (textOf v (w .index)) (keyIn (v .desc) work) key-length (omega arith) index-all b
-          (rw index-length (index-row (v .desc) (fit .good) (count (textOf v (w .index))) room)) ∙ index-length
+          extended-length (v .desc) (indexShape (v .desc)) refl (index-base (v .desc)) (textOf v (w .index)) (keyIn (v .desc) work) key-length (omega arith)
+          index-all b (rw index-length (index-row (v .desc) (fit .good) (count (indexShape (v .desc)) (textOf v (w .index))) room)) ∙ index-length
 
-      new-moves : (b : ℕ) → Block (v .desc) b → count (textOf v (w .index)) < I (v .desc) → Moves (v .desc) (reached v flag way .moves ++ newMoves v way w work b)
+      new-moves : (b : ℕ) → Block (v .desc) b → count (indexShape (v .desc)) (textOf v (w .index)) < I (v .desc)
+          → Moves (v .desc) (reached v flag way .moves ++ newMoves v way w work b)
       unfolding newMoves
       new-moves b new room =
           moves-append (v .desc) (reached v flag way .moves) _ (reached-moves v fit flag way reach)
@@ -133,21 +140,23 @@ module _ (v : Texts) (fit : Fitting (v .desc) (v .file) (v .buffer)) (flag : Boo
       both-moves b x new newer =
           let g = caps (v .desc) (fit .good) in
           let l = ones-length (v .desc) b in
+          let entry-alone = length-laid (v .desc .wpb) (indexShape (v .desc) .tag + 1) (onesEntry (v .desc) b) (omega arith) in
           moves-append (v .desc) (reached v flag way .moves) _ (reached-moves v fit flag way reach)
-          (detail-block v w path, old-length, (index-block v w path, index-bounded, (new, end-length, (newer, length-laid (v .desc .wpb) 1 (onesEntry (v .desc) b) (omega arith), tt))))
+          (detail-block v w path, old-length, (index-block v w path, index-bounded, (new, end-length, (newer, entry-alone, tt))))
 
 -- the master with a new section
-module _ (p : Description) (good : goodParams p ≡ true) (f key : List ℕ) (x : ℕ) (l : length f ≡ fileSize p) (whole : length key ≡ p .k) (some : 1 ≤ count f) (most : count f < p .control) where
-  section-room : place (masterShape p) (count f) + (p .k + 1) ≤ masterSize p
-  section-room = master-row p good (count f) most
+module _ (p : Description) (good : goodParams p ≡ true) (f key : List ℕ) (x : ℕ) (l : length f ≡ fileSize p) (whole : length key ≡ p .k)
+    (some : 1 ≤ count (masterShape p) f) (most : count (masterShape p) f < p .control) where
+  section-room : place (masterShape p) (count (masterShape p) f) + (p .k + 1) ≤ masterSize p
+  section-room = master-row p good (count (masterShape p) f) most
 
-  section-fits : place (masterShape p) (count f) + (p .k + 1) ≤ length f
+  section-fits : place (masterShape p) (count (masterShape p) f) + (p .k + 1) ≤ length f
   section-fits =
       let g = caps p good in
       let q = section-room in
       omega arith
 
-  section-all : place (masterShape p) (count f) ≤ length f
+  section-all : place (masterShape p) (count (masterShape p) f) ≤ length f
   section-all = let q = section-fits in omega arith
 
   section-length : length (extended p (masterShape p) key x f) ≡ fileSize p
@@ -179,40 +188,41 @@ module _ (v : Texts) (fit : Fitting (v .desc) (v .file) (v .buffer)) (flag : Boo
           });
         }
 
-    room-deed : (x n : ℕ) → count (textAt v way) < D (v .desc) → Deed (extend-is.Room way x n)
+    room-deed : (x n : ℕ) → count (detailShape (v .desc)) (textAt v way) < D (v .desc) → Deed (extend-is.Room way x n)
     unfolding extendDone reading
     room-deed x n room =
         let t = textAt v way in
         let f = reached-fits v fit flag way reach in
-        let l = insert-length v fit flag work given t (count t - 1) (text-length v fit flag work given way reach) (omega arith) room in
+        let l = insert-length v fit flag work given t (count (detailShape (v .desc)) t - 1) (text-length v fit flag work given way reach) (omega arith) room in
         record {
           kept = by-passed _ (store-kept v fit flag work given n (reading x (reached v flag way)) _ f
               (reading-only v fit flag work given x (reached v flag way) (reached-only v fit flag way reach)) (rw (reached-text v flag way) l));
         }
 
-    room-alone : (x n : ℕ) → eqb (count (textAt v way)) 1 ≡ true → Deed (extend-is.Room way x n)
+    room-alone : (x n : ℕ) → eqb (count (detailShape (v .desc)) (textAt v way)) 1 ≡ true → Deed (extend-is.Room way x n)
     room-alone x n e =
         let g = caps (v .desc) (fit .good) .facts in
-        let c = eqb-true (count (textAt v way)) 1 e in
+        let c = eqb-true (count (detailShape (v .desc)) (textAt v way)) 1 e in
         room-deed x n (omega arith)
 
-    room-more : (x n : ℕ) → ltb (count (textAt v way)) (FD (v .desc)) ≡ true → Deed (extend-is.Room way x n)
+    room-more : (x n : ℕ) → ltb (count (detailShape (v .desc)) (textAt v way)) (FD (v .desc)) ≡ true → Deed (extend-is.Room way x n)
     room-more x n e =
         let g = caps (v .desc) (fit .good) in
-        let c = ltb-true (count (textAt v way)) (FD (v .desc)) e in
+        let c = ltb-true (count (detailShape (v .desc)) (textAt v way)) (FD (v .desc)) e in
         room-deed x n (omega arith)
 
-    new-deed : (w : Path) (n : ℕ) (d : Taken) → lastOf v way ≡ passed w → ltb (count (textOf v (w .index))) (FI (v .desc)) ≡ true
+    new-deed : (w : Path) (n : ℕ) (d : Taken) → lastOf v way ≡ passed w → ltb (count (indexShape (v .desc)) (textOf v (w .index))) (FI (v .desc)) ≡ true
         → takeOne v flag w ≡ passed d → eqb (d .block) 0 ≡ false → Deed (extend-is.New way w d n)
     unfolding extendDone newFile
     new-deed w n d last room e z =
         let g = caps (v .desc) (fit .good) in
         let path = lastOf-fits v flag way w reach last in
         let new = one-new v flag w d e z .new .block in
-        let c = ltb-true (count (textOf v (w .index))) (FI (v .desc)) room in
+        let c = ltb-true (count (indexShape (v .desc)) (textOf v (w .index))) (FI (v .desc)) room in
         let m = new-moves v fit flag work given way reach w path (d .block) new (omega arith) in
         record {
-          kept = by-passed _ (land-kept v fit flag work given n _ _ _ new (freed-length v fit _ m (d .head) (d .lowest)) (freed-only v fit _ m (d .head) (d .lowest)));
+          kept = by-passed _ (land-kept v fit flag work given n _ _ _ new (freed-length v fit _ m (d .head) (d .lowest))
+              (freed-only v fit _ m (d .head) (d .lowest)));
         }
 
     both-deed : (w : Path) (n : ℕ) (t : Pair) → lastOf v way ≡ passed w → takeTwo v flag w ≡ passed t → eqb (t .detail) 0 ≡ false
@@ -229,13 +239,14 @@ module _ (v : Texts) (fit : Fitting (v .desc) (v .file) (v .buffer)) (flag : Boo
         let l = freed-length v fit moves m (x .head) (x .lowest) in
         let s = freed-count v fit moves m (x .head) (x .lowest) in
         let q = path .section-below in
-        let some : 1 ≤ count f = rw s (omega arith) in
-        let most : count f < v .desc .control = rw s (two .section) in
+        let some : 1 ≤ count (masterShape (v .desc)) f = rw s (omega arith) in
+        let most : count (masterShape (v .desc)) f < v .desc .control = rw s (two .section) in
         let key = key-length v fit flag work given in
         record {
           kept = by-passed _ (land-kept v fit flag work given n _ _ _ new
               (section-length (v .desc) (fit .good) f (keyIn (v .desc) work) (x .block) l key some most)
-              (λ b k o. section-blocks (v .desc) (fit .good) f (keyIn (v .desc) work) (x .block) l key some most b ∙ freed-only v fit moves m (x .head) (x .lowest) b k o));
+              (λ b k o. section-blocks (v .desc) (fit .good) f (keyIn (v .desc) work) (x .block) l key some most b
+              ∙ freed-only v fit moves m (x .head) (x .lowest) b k o));
         }
 
   -- what the plan passes

@@ -7,7 +7,7 @@ use Rattle.numbers.specs.Numbers.{done, atEnd, badFile}
 use Rattle.numbers.specs.Checked.{Checked, passed, refused, _>>=_, _>>_, require}
 use Rattle.words.specs.Keys.{keyLt, keyLe, isOnes}
 use Rattle.table.specs.Tables.{count, keyAt, rowAbove}
-use Rattle.drum.specs.Params.{detailShape}
+use Rattle.drum.specs.Params.{detailShape, indexShape}
 use Rattle.drum.specs.Blocks.{Transfer, Read, Texts, textOf}
 use Rattle.rules.specs.declared.Which.the-variants.{First, Place}
 use Rattle.rules.specs.declared.Path.{Path}
@@ -28,12 +28,12 @@ nextRow v placed at t = cond placed (rowAbove (detailShape (v .desc)) at t) 0
 unfoldable pub nextInBuffer : Texts → List ℕ → Checked Bool
 nextInBuffer v at =
     let h = detailShape (v .desc) in
-    onBuffer v (keyLe (keyAt h (v .buffer) 0) at && keyLt at (keyAt h (v .buffer) (count (v .buffer) - 1)))
+    onBuffer v (keyLe (keyAt h (v .buffer) 0) at && keyLt at (keyAt h (v .buffer) (count (detailShape (v .desc)) (v .buffer) - 1)))
 
 -- the way to "the next detail block": the next entry of the index block, or the first of the next section's [C8]
 unfoldable pub nextPath : Texts → Path → Checked Path
 nextPath v w =
-    cond (ltb (w .entry + 1) (count (textOf v (w .index))))
+    cond (ltb (w .entry + 1) (count (indexShape (v .desc)) (textOf v (w .index))))
     (pathBy v (Place (w .section)) (Place (w .entry + 1)) [])
     (pathBy v (Place (w .section + 1)) First [])
 
@@ -41,14 +41,14 @@ nextPath v w =
 unfoldable pub advBeyond : Texts → Bool → List ℕ → Path → Checked Step
 advBeyond v placed at w = do
   x ← nextPath v w
-  require (ltb (nextRow v placed at (textOf v (x .detail))) (count (textOf v (x .detail)))) badFile
+  require (ltb (nextRow v placed at (textOf v (x .detail))) (count (detailShape (v .desc)) (textOf v (x .detail)))) badFile
   passed (Beyond w x (nextRow v placed at (textOf v (x .detail))))
 
 -- "Else write if flagged, index, detail of the block covering position" [C7]
 unfoldable pub advAt : Texts → Bool → Bool → List ℕ → Path → Checked Step
 advAt v flag placed at w = do
   require (flushOk v flag) badFile
-  cond (ltb (nextRow v placed at (textOf v (w .detail))) (count (textOf v (w .detail))))
+  cond (ltb (nextRow v placed at (textOf v (w .detail))) (count (detailShape (v .desc)) (textOf v (w .detail))))
       (passed (At (By w) (nextRow v placed at (textOf v (w .detail)))))
       (advBeyond v placed at w)
 

@@ -27,7 +27,7 @@ use Rattle.rules.specs.Lookup.{look, reached, textAt, stopping, storing}
 unfoldable pub emptyDeed : Texts → Way → Path → Checked Delete
 emptyDeed v way w = do
   head ← upTo (v .desc .n) (chainHead (v .file))
-  passed (cond (eqb (count (textOf v (w .index))) 1) (Both way w head) (Empty way w head))
+  passed (cond (eqb (count (indexShape (v .desc)) (textOf v (w .index))) 1) (Both way w head) (Empty way w head))
 
 -- the way to the block: the one it was brought by; of a buffered block the one for the key, whose "index entry .. that names another block
 -- than the one in the buffer" is bad [C22, B8]
@@ -42,7 +42,7 @@ emptyAt v key Here = do
 unfoldable pub deleteAfter : Texts → List ℕ → Look → Checked Delete
 deleteAfter v key look-is.Bad = refused badFile
 deleteAfter v key (look-is.Missing w) = passed (Stop w)
-deleteAfter v key (look-is.Found way i) = cond (eqb (count (textAt v way)) 1) (emptyAt v key way) (passed (Remove way i))
+deleteAfter v key (look-is.Found way i) = cond (eqb (count (detailShape (v .desc)) (textAt v way)) 1) (emptyAt v key way) (passed (Remove way i))
 
 -- the lookup, and then what DLETE will do [C17]
 unfoldable pub deleteDeed : Texts → Bool → List ℕ → Checked Delete
@@ -54,7 +54,7 @@ deleteDeed v flag key = do
 unfoldable pub entryGone : Description → ℕ → List ℕ → List ℕ
 entryGone p j t =
     let g = indexShape p in
-    removed g j (cond (eqb (j + 1) (count t)) (replaced g (j - 1) (keyAt g t j) t) t)
+    removed g j (cond (eqb (j + 1) (count g t)) (replaced g (j - 1) (keyAt g t j) t) t)
 
 -- "Write detail, read index, write index: 3.": the emptied block has the link, the index block the text t [C21]
 unfoldable pub emptyMoves : Description → Path → ℕ → List ℕ → List Transfer

@@ -8,7 +8,7 @@ use Rattle.numbers.specs.Numbers.{noneFree, badFile, done}
 use Rattle.numbers.specs.Checked.{Checked, passed, refused, _>>=_, _>>_, require, within, upTo}
 use Rattle.drum.specs.declared.Description.{Description}
 use Rattle.drum.specs.Params.{D}
-use Rattle.drum.specs.Blocks.{Texts, textOf, linkIn, sections, chainHead, lowestUnused}
+use Rattle.drum.specs.Blocks.{Texts, textOf, linkIn, isFree, sections, chainHead, lowestUnused}
 use Rattle.rules.specs.declared.Path.{Path}
 use Rattle.rules.specs.declared.Taken.{Taken}
 use Rattle.rules.specs.declared.Pair.{Pair}
@@ -22,13 +22,15 @@ noneLeft p head lowest = do
     passed (ltb (p .n) lowest))
       (passed false)
 
--- one new block (0: none is free), and words 1 and 2 then: the chain's head, whose link becomes the head; else the lowest never used [C32, B9]
+-- one new block (0: none is free), and words 1 and 2 then: the chain's head, whose link becomes the head; else the lowest never used. "A wrong kind is one
+-- more bad number": the head's, looked at where it is taken [C32, B9, K4]
 unfoldable pub granted : Texts → ℕ → ℕ → Checked Taken
 granted v head lowest = do
   none ← noneLeft (v .desc) head lowest
   cond none (passed (record { block = 0; head = head; lowest = lowest }))
       (cond (eqb head 0) (passed (record { block = lowest; head = 0; lowest = lowest + 1 })) (do
-        link ← upTo (v .desc .n) (linkIn (textOf v head))
+        require (isFree (v .desc) (textOf v head)) badFile
+        link ← upTo (v .desc .n) (linkIn (v .desc) (textOf v head))
         passed (record { block = head; head = link; lowest = lowest })))
 
 -- "a new block equal to any other block in the call's list of transfers" is bad: those are the index block and the detail block of the way,

@@ -10,7 +10,9 @@ pub mod Free
 pub mod Open
 pub mod Close
 pub mod Copy
+pub mod Turning
 pub mod Copies
+pub mod Turns
 pub mod Seek
 pub mod Adv
 pub mod Nsert

@@ -23,7 +23,7 @@ unfoldable pub onBuffer : Texts → Bool → Checked Bool
 onBuffer v test =
     cond (eqb (v .current) 0) (passed false) (do
       within 1 (v .desc .n) (v .current)
-      within 1 (D (v .desc)) (count (v .buffer))
+      within 1 (D (v .desc)) (count (detailShape (v .desc)) (v .buffer))
       passed test)
 
 -- the block that a flagged buffer is written to has a good number [B2]
@@ -32,14 +32,14 @@ flushOk v flag = not flag || between 1 (v .desc .n) (v .current)
 
 -- "Key in the buffered block: 0." [C1]
 unfoldable pub inBuffer : Texts → List ℕ → Checked Bool
-inBuffer v key = onBuffer v (ltb (rowWith (detailShape (v .desc)) key (v .buffer)) (count (v .buffer)))
+inBuffer v key = onBuffer v (ltb (rowWith (detailShape (v .desc)) key (v .buffer)) (count (detailShape (v .desc)) (v .buffer)))
 
 -- where the key is in the block at the end of the way w [C2]
 abbrev pub lookAt : Texts → List ℕ → Path → Look
 lookAt v key w =
     let t = textOf v (w .detail) in
     let i = rowWith (detailShape (v .desc)) key t in
-    cond (ltb i (count t)) (Found (By w) i) (Missing w)
+    cond (ltb i (count (detailShape (v .desc)) t)) (Found (By w) i) (Missing w)
 
 -- "Else write the buffer if flagged (1) ..; read the index block .. (1); read the detail block .. (1)." [C2]
 unfoldable pub lookOutside : Texts → Bool → List ℕ → Checked Look

@@ -7,7 +7,7 @@ use Rattle.numbers.specs.Numbers.{notFound, noRoom, badFile}
 use Rattle.numbers.specs.Checked.{Checked, passed, refused, _>>=_, _>>_}
 use Rattle.table.specs.Tables.{count, rowAbove}
 use Rattle.table.specs.Splits.{lowCount}
-use Rattle.drum.specs.Params.{D, I, detailShape}
+use Rattle.drum.specs.Params.{D, I, detailShape, indexShape}
 use Rattle.drum.specs.Blocks.{Texts, textOf, chainHead, lowestUnused}
 use Rattle.rules.specs.declared.Path.{Path}
 use Rattle.rules.specs.declared.Way.the-variants.{By}
@@ -25,7 +25,7 @@ halfCount n i = cond (ltb i (lowCount n)) (lowCount n) (n + 1 - lowCount n)
 -- "if the block has room, insert": at place i [C11]
 unfoldable pub roomDeed : Texts → Path → ℕ → Checked Insert
 roomDeed v w i = do
-  number ← storedNumber (v .desc) (count (textOf v (w .detail)) + 1) (chainHead (v .file)) (lowestUnused (v .file))
+  number ← storedNumber (v .desc) (count (detailShape (v .desc)) (textOf v (w .detail)) + 1) (chainHead (v .file)) (lowestUnused (v .file))
   passed (Room w i number)
 
 -- "Full": one new block is needed [C12, N8, N9]
@@ -47,8 +47,8 @@ bothDeed v flag w i = do
 -- "not found": the record goes to place i of the block at the end of the way w [C11, C12, C15]
 unfoldable pub insertAt : Texts → Bool → Path → ℕ → Checked Insert
 insertAt v flag w i =
-    cond (ltb (count (textOf v (w .detail))) (D (v .desc))) (roomDeed v w i)
-    (cond (ltb (count (textOf v (w .index))) (I (v .desc))) (splitDeed v flag w i) (bothDeed v flag w i))
+    cond (ltb (count (detailShape (v .desc)) (textOf v (w .detail))) (D (v .desc))) (roomDeed v w i)
+    (cond (ltb (count (indexShape (v .desc)) (textOf v (w .index))) (I (v .desc))) (splitDeed v flag w i) (bothDeed v flag w i))
 
 -- "NSERT duplicate"; else before the first record above the key [C10, N6]
 unfoldable pub insertAfter : Texts → Bool → List ℕ → Look → Checked Insert

@@ -9,7 +9,7 @@ use Rattle.numbers.specs.Checked.{Checked, passed, refused, _>>=_, _>>_, requir
 use Rattle.table.specs.declared.Shape.{Shape}
 use Rattle.table.specs.Tables.{count, rowFrom, blockIn}
 use Rattle.drum.specs.declared.Description.{Description}
-use Rattle.drum.specs.Params.{D, I, masterShape, indexShape}
+use Rattle.drum.specs.Params.{D, I, masterShape, indexShape, detailShape}
 use Rattle.drum.specs.Blocks.{Texts, textOf}
 use Rattle.rules.specs.declared.Which.{Which}
 use Rattle.rules.specs.declared.Which.the-variants.{First, Last, Place, Covering}
@@ -19,14 +19,14 @@ use Rattle.rules.specs.declared.Path.{Path}
 -- the place in the table t that is wanted
 abbrev pub chosen : Which → Shape → List ℕ → List ℕ → ℕ
 chosen First h key t = 0
-chosen Last h key t = count t - 1
+chosen Last h key t = count h t - 1
 chosen (Place i) h key t = i
 chosen Covering h key t = rowFrom h key t
 
 -- the entry there: "a count outside ..", "no bound reached", "a block used outside 1..N" are bad [B1, B2, B3]
 unfoldable pub entryOf : Description → Shape → ℕ → Which → List ℕ → List ℕ → Checked Entry
 entryOf p h most which key t = do
-  n ← within 1 most (count t)
+  n ← within 1 most (count h t)
   require (ltb (chosen which h key t) n) badFile
   b ← within 1 (p .n) (blockIn h t (chosen which h key t))
   passed (record { place = chosen which h key t; block = b })
@@ -35,7 +35,7 @@ entryOf p h most which key t = do
 unfoldable pub pathAt : Texts → Entry → Entry → Checked Path
 pathAt v m e = do
   require (not (eqb (m .block) (e .block))) badFile
-  within 1 (D (v .desc)) (count (textOf v (e .block)))
+  within 1 (D (v .desc)) (count (detailShape (v .desc)) (textOf v (e .block)))
   passed (record { section = m .place; index = m .block; entry = e .place; detail = e .block })
 
 -- the way by master entry m and the entry of its index block that is wanted: "a count outside .. 1..I" [B1]

@@ -21,7 +21,7 @@ use Rattle.rules.specs.Free.{takeOne, takeTwo, storedNumber}
 
 -- the key of the last record is ONES [C23]
 abbrev pub endsInOnes : Description → List ℕ → Bool
-endsInOnes p t = isOnes (keyAt (detailShape p) t (count t - 1))
+endsInOnes p t = isOnes (keyAt (detailShape p) t (count (detailShape p) t - 1))
 
 -- "else write if flagged, index and detail of the last block"; "for XTEND a last record whose key is not ONES" is bad [C23, B6]
 unfoldable pub lastOutside : Texts → Bool → Checked Way
@@ -49,7 +49,7 @@ lastOf v Here = do
 -- "Fewer than FD records: insert before the end record": x is the index block that was read for it, or 0 [C26]
 unfoldable pub lastRoom : Texts → Way → ℕ → Checked Extend
 lastRoom v way x = do
-  number ← storedNumber (v .desc) (count (textAt v way) + 1) (chainHead (v .file)) (lowestUnused (v .file))
+  number ← storedNumber (v .desc) (count (detailShape (v .desc)) (textAt v way) + 1) (chainHead (v .file)) (lowestUnused (v .file))
   passed (Room way x number)
 
 -- "not above the bound before that block (never, with none before)": w is the path to that block [C25]
@@ -84,21 +84,22 @@ sectionDeed v flag way w n = do
 -- "If the index holds FI or more" [C27, C29]
 unfoldable pub newAt : Texts → Bool → Way → Path → ℕ → Checked Extend
 newAt v flag way w n =
-    cond (ltb (count (textOf v (w .index))) (FI (v .desc))) (startDeed v flag way w n) (sectionDeed v flag way w n)
+    cond (ltb (count (indexShape (v .desc)) (textOf v (w .index))) (FI (v .desc))) (startDeed v flag way w n) (sectionDeed v flag way w n)
 
 -- the path to the last block, and then its new block [C27]
 unfoldable pub newDeed : Texts → Bool → Way → Checked Extend
 newDeed v flag way = do
   w ← lastOf v way
-  newAt v flag way w (count (textAt v way))
+  newAt v flag way w (count (detailShape (v .desc)) (textAt v way))
 
 -- "Out of sequence (5) when the key is not above the highest ordinary key there" [C25, C26, C27]
 unfoldable pub extendAt : Texts → Bool → List ℕ → Way → Checked Extend
 extendAt v flag key way =
+    let h = detailShape (v .desc) in
     let t = textAt v way in
-    cond (eqb (count t) 1) (aloneDeed v key way)
-    (cond (not (keyLt (keyAt (detailShape (v .desc)) t (count t - 2)) key)) (passed (Stop way 0 outOfSequence))
-    (cond (ltb (count t) (FD (v .desc))) (lastRoom v way 0) (newDeed v flag way)))
+    cond (eqb (count h t) 1) (aloneDeed v key way)
+    (cond (not (keyLt (keyAt h t (count h t - 2)) key)) (passed (Stop way 0 outOfSequence))
+    (cond (ltb (count h t) (FD (v .desc))) (lastRoom v way 0) (newDeed v flag way)))
 
 -- the way to the last block, and then what XTEND will do [C23]
 unfoldable pub extendDeed : Texts → Bool → List ℕ → Checked Extend

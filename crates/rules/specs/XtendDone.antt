@@ -1,5 +1,5 @@
 -- Document 01, XTEND: what it does.
-use Prim.Native.Nat.{ℕ, _-_}
+use Prim.Native.Nat.{ℕ, _+_, _-_}
 use mathlib.Core.Bool.{Bool, true, false, cond}
 use mathlib.Core.List.{List, [], _∷_, _++_}
 use lib.Dec.{eqb}
@@ -35,11 +35,13 @@ reading x r = record {
 -- the old block: "the record takes the end record's place" [C27]
 unfoldable pub oldText : Texts → Way → List ℕ → List ℕ
 oldText v way work =
-    replaced (detailShape (v .desc)) (count (textAt v way) - 1) (recordIn (v .desc) work) (textAt v way)
+    replaced (detailShape (v .desc)) (count (detailShape (v .desc)) (textAt v way) - 1) (recordIn (v .desc) work) (textAt v way)
 
 -- the new block: "the end record starts a new block" [C27]
 unfoldable pub endText : Texts → Way → List ℕ
-endText v way = laid (v .desc .wpb) 1 (row (detailShape (v .desc)) (textAt v way) (count (textAt v way) - 1))
+endText v way =
+    let h = detailShape (v .desc) in
+    laid (v .desc .wpb) (h .tag + 1) (row h (textAt v way) (count h (textAt v way) - 1))
 
 -- the entry "with a new ONES" bound for block b [C27]
 unfoldable pub onesEntry : Description → ℕ → List ℕ
@@ -47,11 +49,11 @@ onesEntry p b = ones (p .k) ++ (b ∷ [])
 
 -- a table of entries: "the old bound becomes the key"; and with "a new ONES entry" for block b behind it [C27, C29]
 unfoldable pub bounded : Shape → List ℕ → List ℕ → List ℕ
-bounded h key t = replaced h (count t - 1) key t
+bounded h key t = replaced h (count h t - 1) key t
 
 -- and with "a new ONES entry" for block b behind it [C27, C29]
 unfoldable pub extended : Description → Shape → List ℕ → ℕ → List ℕ → List ℕ
-extended p h key b t = inserted h (count t) (onesEntry p b) (bounded h key t)
+extended p h key b t = inserted h (count h t) (onesEntry p b) (bounded h key t)
 
 -- "Write old, read index, write index, write new: 4." [C28]
 unfoldable pub newMoves : Texts → Way → Path → List ℕ → ℕ → List Transfer
@@ -69,7 +71,7 @@ sectionMoves v way w work b x =
     ∷ Read (w .index)
     ∷ Write (w .index) (bounded (indexShape (v .desc)) (keyIn (v .desc) work) (textOf v (w .index)))
     ∷ Write b (endText v way)
-    ∷ Write x (laid (v .desc .wpb) 1 (onesEntry (v .desc) b))
+    ∷ Write x (laid (v .desc .wpb) (indexShape (v .desc) .tag + 1) (onesEntry (v .desc) b))
     ∷ []
 
 -- the file then: words 1 and 2 of the master, what the list writes, and "section, the old section's bound becoming the key" [C28]
@@ -89,7 +91,7 @@ extendDone v flag work Bad = refused badFile
 extendDone v flag work (Stop way x n) = passed (stopping n work (reading x (reached v flag way)))
 extendDone v flag work (Room way x n) =
     let here = reading x (reached v flag way) in
-    passed (storing n work here (inserted (detailShape (v .desc)) (count (here .buffer) - 1) (recordIn (v .desc) work) (here .buffer)))
+    passed (storing n work here (inserted (detailShape (v .desc)) (count (detailShape (v .desc)) (here .buffer) - 1) (recordIn (v .desc) work) (here .buffer)))
 extendDone v flag work (New way w d n) =
     passed (landing (v .desc) n work (reached v flag way .moves ++ newMoves v way w work (d .block)) (d .block) (newFile v flag way w work d))
 extendDone v flag work (Both way w b x n) =

@@ -1,6 +1,7 @@
 -- One block after the other.
+use native.Mathlib.Omega.{arith}
 use borrow.Author.Needs.{needs}
-use Rattle.layout.proofs.CodeCreate.{laid-blocks}
+use Rattle.layout.proofs.CodeCreate.{laid-blocks, tag-at-most}
 use Rattle.layout.proofs.lay_blocks.Statement.{statement}
 use Rattle.layout.proofs.lay_blocks.Tie as tie
 
@@ -9,6 +10,8 @@ lay-blocks-spec =
     tie.close
     (tie.spec
     (λ c κs. search needs)
+    (λ c κs. (omega arith, search tag-at-most))
     (λ c κs. search needs)
+    (λ c κs. (omega arith, search tag-at-most))
     (λ c. search needs)
     (λ c. search laid-blocks))

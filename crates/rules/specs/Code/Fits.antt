@@ -3,7 +3,7 @@ use Prim.Native.Nat.{ℕ, _≤_, _<_}
 use mathlib.Core.Path.{_≡_}
 use mathlib.Core.Bool.{Bool, true}
 use Rattle.table.specs.Tables.{count}
-use Rattle.drum.specs.Params.{D, I}
+use Rattle.drum.specs.Params.{D, I, detailShape, indexShape}
 use Rattle.drum.specs.Blocks.{Texts, textOf, sections, Block}
 use Rattle.rules.specs.declared.Path.{Path}
 use Rattle.rules.specs.declared.Taken.{Taken}
@@ -22,13 +22,13 @@ pub record PathFits (v : Texts) (w : Path) : Type 0 where
   pub section-below : w .section < sections (v .file)
   pub index-least : 1 ≤ w .index
   pub index-most : w .index ≤ v .desc .n
-  pub entries-most : count (textOf v (w .index)) ≤ I (v .desc)
-  pub entry-below : w .entry < count (textOf v (w .index))
+  pub entries-most : count (indexShape (v .desc)) (textOf v (w .index)) ≤ I (v .desc)
+  pub entry-below : w .entry < count (indexShape (v .desc)) (textOf v (w .index))
   pub detail-least : 1 ≤ w .detail
   pub detail-most : w .detail ≤ v .desc .n
   pub apart : w .index ≡ w .detail → ⊥
-  pub records-least : 1 ≤ count (textOf v (w .detail))
-  pub records-most : count (textOf v (w .detail)) ≤ D (v .desc)
+  pub records-least : 1 ≤ count (detailShape (v .desc)) (textOf v (w .detail))
+  pub records-most : count (detailShape (v .desc)) (textOf v (w .detail)) ≤ D (v .desc)
 
 -- a flagged buffer has a block to be written to
 abbrev pub FlushFits : Texts → Bool → Type 0
@@ -38,8 +38,8 @@ FlushFits v flag = flag ≡ true → (1 ≤ v .current) × (v .current ≤ v .de
 pub record BufferFits (v : Texts) : Type 0 where
   pub current-least : 1 ≤ v .current
   pub current-most : v .current ≤ v .desc .n
-  pub records-least : 1 ≤ count (v .buffer)
-  pub records-most : count (v .buffer) ≤ D (v .desc)
+  pub records-least : 1 ≤ count (detailShape (v .desc)) (v .buffer)
+  pub records-most : count (detailShape (v .desc)) (v .buffer) ≤ D (v .desc)
 
 -- a way: the buffered block is good; or the path is, and the buffer can be written
 abbrev pub WayFits : Texts → Bool → Way → Type 0
@@ -49,14 +49,14 @@ WayFits v flag (By w) = PathFits v w × FlushFits v flag
 -- what a lookup comes to: a place in the block at the end of the way
 abbrev pub LookFits : Texts → Bool → Look → Type 0
 LookFits v flag look-is.Bad = Unit {0}
-LookFits v flag (look-is.Found way i) = WayFits v flag way × (i < count (textAt v way))
+LookFits v flag (look-is.Found way i) = WayFits v flag way × (i < count (detailShape (v .desc)) (textAt v way))
 LookFits v flag (look-is.Missing w) = PathFits v w × FlushFits v flag
 
 -- what ADV comes to: a place in the block reached, or in the block after the one that the first path leads to
 abbrev pub StepFits : Texts → Bool → Step → Type 0
 StepFits v flag step-is.Bad = Unit {0}
-StepFits v flag (step-is.At way i) = WayFits v flag way × (i < count (textAt v way))
-StepFits v flag (step-is.Beyond w x i) = PathFits v x × FlushFits v flag × (i < count (textOf v (x .detail)))
+StepFits v flag (step-is.At way i) = WayFits v flag way × (i < count (detailShape (v .desc)) (textAt v way))
+StepFits v flag (step-is.Beyond w x i) = PathFits v x × FlushFits v flag × (i < count (detailShape (v .desc)) (textOf v (x .detail)))
 
 -- a new block: one of 1..N, and neither block of the path
 pub record New (v : Texts) (w : Path) (b : ℕ) : Type 0 where

@@ -17,6 +17,7 @@ detail-held-spec =
     (λ c. search detail-unmarked)
     (λ c κs. (search, search block-least, search block-most))
     (λ c κs. search needs)
+    (λ c κs. search needs)
     (λ c κs. (search records-room, search))
     (λ c. search needs)
     (λ c. search detail-rows)

@@ -17,6 +17,7 @@ index-held-spec =
     (λ c. search index-unmarked)
     (λ c κs. (search, search block-least, search block-most))
     (λ c κs. search needs)
+    (λ c κs. search needs)
     (λ c. search needs)
     (λ c κs. (search entries-room, search))
     (λ c. search needs)

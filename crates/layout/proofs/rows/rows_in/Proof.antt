@@ -11,6 +11,7 @@ rows-in-spec =
     tie.close
     (tie.spec
     (λ c κs. search needs)
+    (λ c κs. search needs)
     (λ c. (search rows-few, omega arith))
     (λ c. (search rows-many, omega arith))
     (λ c. search used-span)
