@@ -106,10 +106,20 @@ pub stopped : (v : Texts) (flag : Bool) (number : ℕ) (work : List ℕ) (r : Do
     → gave r f b [] ≡ told v flag [] (passed (stopping number [] x)) → gave r f b work ≡ told v flag work (passed (stopping number work x))
 unfolding stopping
 stopped v flag number work r f b x e =
-    λ j. record { number = e j .number; transfers = e j .transfers; current = e j .current; flag = e j .flag; keyed = e j .keyed; file = e j .file; buffer = e j .buffer; work = work }
+    λ j. record {
+      number = e j .number;
+      transfers = e j .transfers;
+      current = e j .current;
+      flag = e j .flag;
+      keyed = e j .keyed;
+      file = e j .file;
+      buffer = e j .buffer;
+      work = work;
+    }
 
 -- a row of the block reached lies in its text
-pub row-reached : (v : Texts) → Fitting (v .desc) (v .file) (v .buffer) → (flag : Bool) (way : Way) → WayFits v flag way → (i : ℕ) → i < count (textAt v way)
+pub row-reached : (v : Texts) → Fitting (v .desc) (v .file) (v .buffer) → (flag : Bool) (way : Way) → WayFits v flag way → (i : ℕ)
+    → i < count (detailShape (v .desc)) (textAt v way)
     → (b : List ℕ) → b ≡ reached v flag way .buffer → place (detailShape (v .desc)) i + v .desc .wpr ≤ length b
 row-reached v fit flag way h i l b e =
     let t : b ≡ textAt v way = e ∙ reached-text v flag way in

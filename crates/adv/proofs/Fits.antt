@@ -6,7 +6,7 @@ use Prim.Native.Nat.{ℕ, _+_, _≤_}
 use lib.Dec.{ltb}
 use Rattle.table.specs.Tables.{count}
 use Rattle.drum.specs.declared.Description.{Description}
-use Rattle.drum.specs.Params.{D}
+use Rattle.drum.specs.Params.{D, indexShape, detailShape}
 use Rattle.drum.specs.Blocks.{Texts, seen, textOf}
 use Rattle.rules.specs.declared.Which.{Which}
 use Rattle.rules.specs.declared.Which.the-variants.{First, Place}
@@ -29,12 +29,13 @@ use Rattle.adv.specs.Answers.{asStep}
 next-passed : (v : Texts) (w : Path) → Passed (PathFits v) (nextPath v w)
 unfolding nextPath
 next-passed v w =
-    by-test (ltb (w .entry + 1) (count (textOf v (w .index)))) _ _
+    by-test (ltb (w .entry + 1) (count (indexShape (v .desc)) (textOf v (w .index)))) _ _
     (λ e. path-passed v (Place (w .section)) (Place (w .entry + 1)) [])
     (λ e. path-passed v (Place (w .section + 1)) First [])
 
 -- where the next record is in the buffer, a good block is buffered
-pub here-most : (p : Description) (cur : ℕ) (b key : List ℕ) (t : Test) → asTest t ≡ nextInBuffer (seen p cur [] b) key → t ≡ Yes → count b ≤ D p
+pub here-most : (p : Description) (cur : ℕ) (b key : List ℕ) (t : Test) → asTest t ≡ nextInBuffer (seen p cur [] b) key → t ≡ Yes
+    → count (detailShape p) b ≤ D p
 unfolding nextInBuffer
 here-most p cur b key t e h = test-fits (seen p cur [] b) _ (sym e ∙ ap asTest h) .0 .records-most
 
@@ -64,5 +65,5 @@ module _ (v : Texts) (flag placed : Bool) (key : List ℕ) where
 
 -- the text at the end of a path has a block's count
 pub text-count : (p : Description) (cur : ℕ) (f b t : List ℕ) (w : Path) → t ≡ textOf (seen p cur f b) (w .detail)
-    → PathFits (seen p cur f b) w → count t ≤ D p
+    → PathFits (seen p cur f b) w → count (detailShape p) t ≤ D p
 text-count p cur f b t w e h = rw e (h .records-most)

@@ -31,7 +31,8 @@ row-none placed n h = simp (not-true placed h)
 
 -- else the search is the definition's, and its rows lie in the text
 module _ (p : Description) (h : Shape) (eh : h ≡ detailShape p) where
-  pub rows-within : (t : List ℕ) (n : ℕ) → n ≡ count t → goodParams p ≡ true → length t ≡ p .wpb → count t ≤ D p → place h n ≤ length t
+  pub rows-within : (t : List ℕ) (n : ℕ) → n ≡ count (detailShape p) t → goodParams p ≡ true → length t ≡ p .wpb → count (detailShape p) t ≤ D p
+      → place h n ≤ length t
   unfolding detailShape
   rows-within t n en good long most =
       let g = caps p good in
@@ -49,7 +50,7 @@ module _ (p : Description) (h : Shape) (eh : h ≡ detailShape p) where
   key-there key l = rw eh (omega arith)
 
 pub row-above : (p : Description) (h : Shape) (placed : Bool) (position t : List ℕ) (n i : ℕ) → i ≡ firstWhere (fits Over h (part 0 (h .width) position) t) n
-    → h ≡ detailShape p → n ≡ count t → not placed ≡ false → i ≡ nextRow (seen p 0 [] []) placed (part 0 (p .k) position) t
+    → h ≡ detailShape p → n ≡ count (detailShape p) t → not placed ≡ false → i ≡ nextRow (seen p 0 [] []) placed (part 0 (p .k) position) t
 row-above p h placed position t n i ei eh en on =
     let f = detail-found p h Over position t n i eh ei in
     simp (not-false placed on) (f ∙ ap (λ (m : ℕ). firstWhere (fits Over (detailShape p) (part 0 (p .k) position) t) m) en)
@@ -57,7 +58,7 @@ row-above p h placed position t n i ei eh en on =
 -- whether position lies between the buffer's first key and its last
 module _ (p : Description) (t key : List ℕ) where
   abbrev Spans : Bool
-  Spans = keyLe (keyAt (detailShape p) t 0) key && keyLt key (keyAt (detailShape p) t (count t - 1))
+  Spans = keyLe (keyAt (detailShape p) t 0) key && keyLt key (keyAt (detailShape p) t (count (detailShape p) t - 1))
 
   first-key : keyAt (detailShape p) t 0 ≡ part 1 (p .k) t
   unfolding keyAt detailShape
@@ -65,7 +66,7 @@ module _ (p : Description) (t key : List ℕ) where
       let z : 1 + 0 * p .wpr ≡ 1 = omega arith in
       ap (λ (a : ℕ). part a (p .k) t) z
 
-  last-key : (n : ℕ) → n ≡ count t → part (1 + (n - 1) * p .wpr) (p .k) t ≡ keyAt (detailShape p) t (count t - 1)
+  last-key : (n : ℕ) → n ≡ count (detailShape p) t → part (1 + (n - 1) * p .wpr) (p .k) t ≡ keyAt (detailShape p) t (count (detailShape p) t - 1)
   unfolding keyAt detailShape
   last-key n e = ap (λ (m : ℕ). part (1 + (m - 1) * p .wpr) (p .k) t) e
 
@@ -73,17 +74,17 @@ module _ (p : Description) (t key : List ℕ) where
   unfolding keyLe
   not-spans r e h = rw (first-key, ← e, h)
 
-  pub spans-by : (n : ℕ) (r s : Bool) → n ≡ count t → r ≡ keyLt key (part 1 (p .k) t) → r ≡ false
+  pub spans-by : (n : ℕ) (r s : Bool) → n ≡ count (detailShape p) t → r ≡ keyLt key (part 1 (p .k) t) → r ≡ false
       → s ≡ keyLt key (part (1 + (n - 1) * p .wpr) (p .k) t) → s ≡ Spans
   unfolding keyLe
   spans-by n r s en e h f = rw (first-key, ← e, h) (f ∙ ap (keyLt key) (last-key n en))
 
 -- the test is made where a block is buffered; every other answer is the definition's
 module _ (p : Description) (cur : ℕ) (b : List ℕ) (r : Test) (e : asTest r ≡ onBuffer (seen p cur [] b) true) where
-  pub held-least : r ≡ Yes → 1 ≤ count b
+  pub held-least : r ≡ Yes → 1 ≤ count (detailShape p) b
   held-least h = buffer-fits (seen p cur [] b) (sym e ∙ ap asTest h) .records-least
 
-  pub held-most : r ≡ Yes → count b ≤ D p
+  pub held-most : r ≡ Yes → count (detailShape p) b ≤ D p
   held-most h = buffer-fits (seen p cur [] b) (sym e ∙ ap asTest h) .records-most
 
   module _ (key : List ℕ) where

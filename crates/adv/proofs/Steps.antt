@@ -7,6 +7,7 @@ use borrow.Author.Tests.{lt-ltb, le-ltb, not-true, not-false}
 use Rattle.numbers.specs.Numbers.{badFile}
 use Rattle.numbers.specs.Checked.{Checked, passed, refused, _>>=_}
 use Rattle.table.specs.Tables.{count}
+use Rattle.drum.specs.Params.{detailShape, indexShape}
 use Rattle.drum.specs.declared.Description.{Description}
 use Rattle.drum.specs.Blocks.{Texts, seen, textOf}
 use Rattle.rules.specs.declared.Which.{Which}
@@ -35,18 +36,19 @@ module _ (p : Description) (cur : ℕ) (f b : List ℕ) where
 
   -- the way to the next detail block
   module _ (w : Path) (key t : List ℕ) (n : ℕ) (r : Route) where
-    pub next-entry : asRoute r ≡ pathBy v (Place (w .section)) (Place (w .entry + 1)) key → t ≡ textOf v (w .index) → n ≡ count t → w .entry + 1 < n
+    pub next-entry : asRoute r ≡ pathBy v (Place (w .section)) (Place (w .entry + 1)) key → t ≡ textOf v (w .index) → n ≡ count (indexShape p) t
+        → w .entry + 1 < n
         → asRoute r ≡ nextPath v w
     unfolding nextPath
     next-entry er et en h =
-        let l : w .entry + 1 < count (textOf v (w .index)) = rw (← et, ← en) h in
+        let l : w .entry + 1 < count (indexShape (v .desc)) (textOf v (w .index)) = rw (← et, ← en) h in
         er ∙ rw (lt-ltb _ _ l) (place-any v key [] (w .section) (w .entry + 1))
 
-    pub next-section : asRoute r ≡ pathBy v (Place (w .section + 1)) First key → t ≡ textOf v (w .index) → n ≡ count t → n ≤ w .entry + 1
+    pub next-section : asRoute r ≡ pathBy v (Place (w .section + 1)) First key → t ≡ textOf v (w .index) → n ≡ count (indexShape p) t → n ≤ w .entry + 1
         → asRoute r ≡ nextPath v w
     unfolding nextPath
     next-section er et en h =
-        let l : count (textOf v (w .index)) ≤ w .entry + 1 = rw (← et, ← en) h in
+        let l : count (indexShape (v .desc)) (textOf v (w .index)) ≤ w .entry + 1 = rw (← et, ← en) h in
         er ∙ rw (le-ltb _ _ l) (place-first-any v key [] (w .section + 1))
 
   module _ (placed : Bool) (key : List ℕ) (w : Path) where
@@ -59,12 +61,12 @@ module _ (p : Description) (cur : ℕ) (f b : List ℕ) where
           rw g
 
       module _ (x : Path) (h : route ≡ route-is.To x) (t : List ℕ) (n i : ℕ) (et : t ≡ textOf v (x .detail))
-          (en : n ≡ count t) (ei : i ≡ nextRow v placed key t) where
+          (en : n ≡ count (detailShape p) t) (ei : i ≡ nextRow v placed key t) where
         pub beyond-bad : n ≤ i → refused badFile ≡ advBeyond v placed key w
         unfolding advBeyond
         beyond-bad l =
             let g : nextPath v w ≡ passed x = sym e ∙ ap asRoute h in
-            let m : count (textOf v (x .detail)) ≤ nextRow v placed key (textOf v (x .detail)) = rw (← et, ← ei, ← en) l in
+            let m : count (detailShape (v .desc)) (textOf v (x .detail)) ≤ nextRow v placed key (textOf v (x .detail)) = rw (← et, ← ei, ← en) l in
             rw (g, le-ltb _ _ m)
 
         pub beyond-found : i < n → passed (step-is.Beyond w x i) ≡ advBeyond v placed key w
@@ -72,7 +74,7 @@ module _ (p : Description) (cur : ℕ) (f b : List ℕ) where
         beyond-found l =
             let g : nextPath v w ≡ passed x = sym e ∙ ap asRoute h in
             let j : i ≡ nextRow v placed key (textOf v (x .detail)) = rw (← et) ei in
-            let m : i < count (textOf v (x .detail)) = rw (← et, ← en) l in
+            let m : i < count (detailShape (v .desc)) (textOf v (x .detail)) = rw (← et, ← en) l in
             rw (g, ← j, lt-ltb _ _ m)
 
     -- in the block at the end of the way
@@ -83,20 +85,21 @@ module _ (p : Description) (cur : ℕ) (f b : List ℕ) where
           let g : flushOk v flag ≡ false = sym ec ∙ not-true can h in
           rw g
 
-      module _ (h : not can ≡ false) (t : List ℕ) (n i : ℕ) (et : t ≡ textOf v (w .detail)) (en : n ≡ count t) (ei : i ≡ nextRow v placed key t) where
+      module _ (h : not can ≡ false) (t : List ℕ) (n i : ℕ) (et : t ≡ textOf v (w .detail)) (en : n ≡ count (detailShape p) t)
+          (ei : i ≡ nextRow v placed key t) where
         pub at-found : i < n → passed (step-is.At (By w) i) ≡ advAt v flag placed key w
         unfolding advAt
         at-found l =
             let g : flushOk v flag ≡ true = sym ec ∙ not-false can h in
             let j : i ≡ nextRow v placed key (textOf v (w .detail)) = rw (← et) ei in
-            let m : i < count (textOf v (w .detail)) = rw (← et, ← en) l in
+            let m : i < count (detailShape (v .desc)) (textOf v (w .detail)) = rw (← et, ← en) l in
             rw (g, ← j, lt-ltb _ _ m)
 
         pub at-beyond : (s : Step) → asStep s ≡ advBeyond v placed key w → n ≤ i → asStep s ≡ advAt v flag placed key w
         unfolding advAt
         at-beyond s es l =
             let g : flushOk v flag ≡ true = sym ec ∙ not-false can h in
-            let m : count (textOf v (w .detail)) ≤ nextRow v placed key (textOf v (w .detail)) = rw (← et, ← ei, ← en) l in
+            let m : count (detailShape (v .desc)) (textOf v (w .detail)) ≤ nextRow v placed key (textOf v (w .detail)) = rw (← et, ← ei, ← en) l in
             es ∙ rw (g, le-ltb _ _ m)
 
   -- by way of the master, with position and without

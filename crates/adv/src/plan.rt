@@ -29,14 +29,14 @@ ghost use Rattle.words.specs.Slices.{was};
 // The first record of a detail block's text above position, or its first record while position is none; else the count.
 fn next_row(p: Description, placed: bool, position: &[u32], t: &[u32]) -> usize
     requires { ⌜
-        (goodParams p ≡ true) × (length (now t) ≡ p .wpb) × (count (now t) ≤ D p) × (p .k ≤ length (now position))
+        (goodParams p ≡ true) × (length (now t) ≡ p .wpb) × (count (detailShape p) (now t) ≤ D p) × (p .k ≤ length (now position))
         ⌝ }
     ensures { λ r. ⌜ r ≡ nextRow (seen p 0 [] []) placed (part 0 (p .k) (was position)) (was t) ⌝ }
 {
     if !placed {
         return 0;
     }
-    let n = words::word_at(t, 0);
+    let n = drum::kinds::records_in(p, t);
     table::find(Want::Over, p.detail_shape(), t, n, position, 0)
 }
 
@@ -45,21 +45,21 @@ fn spans(p: Description, position: &[u32], buffer: &[u32]) -> bool
     requires { ⌜
         (goodParams p ≡ true)
         × (length (now buffer) ≡ p .wpb)
-        × (1 ≤ count (now buffer))
-        × (count (now buffer) ≤ D p)
+        × (1 ≤ count (detailShape p) (now buffer))
+        × (count (detailShape p) (now buffer) ≤ D p)
         × (p .k ≤ length (now position))
         ⌝ }
     ensures { λ r. ⌜
         r
         ≡ (keyLe (keyAt (detailShape p) (was buffer) 0) (part 0 (p .k) (was position)) && keyLt
-        (part 0 (p .k) (was position)) (keyAt (detailShape p) (was buffer) (count (was buffer) - 1)))
+        (part 0 (p .k) (was position)) (keyAt (detailShape p) (was buffer) (count (detailShape p) (was buffer) - 1)))
         ⌝ }
 {
     let k = p.k;
     if words::key_below(position, 0, buffer, 1, k) {
         return false;
     }
-    let last = words::word_at(buffer, 0) - 1;
+    let last = drum::kinds::records_in(p, buffer) - 1;
     words::key_below(position, 0, buffer, 1 + last * p.wpr, k)
 }
 
@@ -91,7 +91,7 @@ fn next_path<'a>(at: Held, file: &'a [u32], buffer: &'a [u32], position: &[u32],
     ensures { λ r. ⌜ asRoute r ≡ nextPath (seenBy at (was file) (was buffer)) w ⌝ }
 {
     let t = drum::text_of(at.desc, at.current, file, buffer, w.index);
-    let n = words::word_at(t, 0);
+    let n = drum::kinds::entries_in(at.desc, t);
     let next = w.entry + 1;
     if next < n {
         let top = Which::Place(w.section);
@@ -127,7 +127,7 @@ fn adv_beyond<'a>(
         Route::Bad => Step::Bad,
         Route::To(x) => {
             let t = drum::text_of(p, current, file, buffer, x.detail);
-            let n = words::word_at(t, 0);
+            let n = drum::kinds::records_in(p, t);
             let i = next_row(p, placed, position, t);
             if n <= i {
                 return Step::Bad;
@@ -161,7 +161,7 @@ fn adv_at<'a>(
         return Step::Bad;
     }
     let t = drum::text_of(p, at.current, file, buffer, w.detail);
-    let n = words::word_at(t, 0);
+    let n = drum::kinds::records_in(p, t);
     let i = next_row(p, placed, position, t);
     if i < n {
         return Step::At(Way::By(w), i);

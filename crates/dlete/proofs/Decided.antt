@@ -10,6 +10,7 @@ use Rattle.numbers.specs.Numbers.{badFile}
 use Rattle.numbers.specs.Checked.{passed, refused}
 use Rattle.table.specs.Tables.{count}
 use Rattle.drum.specs.declared.Description.{Description}
+use Rattle.drum.specs.Params.{indexShape, detailShape}
 use Rattle.drum.specs.Blocks.{Fitting, Texts, seen, textOf, chainHead}
 use Rattle.drum.proofs.Good.{caps}
 use Rattle.drum.proofs.Blocks.{length-textOf}
@@ -65,7 +66,7 @@ module _ (p : Description) (cur : ℕ) (f b : List ℕ) where
     unfolding emptyDeed
     head-bad l = simp (← is, lt-leb _ _ l)
 
-    module _ (most : head ≤ p .n) (n : ℕ) (t : List ℕ) (et : t ≡ textOf v (w .index)) (en : n ≡ count t) where
+    module _ (most : head ≤ p .n) (n : ℕ) (t : List ℕ) (et : t ≡ textOf v (w .index)) (en : n ≡ count (indexShape p) t) where
       pub both-deed : n ≡ 1 → passed (Both way w head) ≡ emptyDeed v way w
       unfolding emptyDeed
       both-deed h = simp (← is, le-leb _ _ most, ← et, ← en, eq-eqb _ _ h)
@@ -75,7 +76,7 @@ module _ (p : Description) (cur : ℕ) (f b : List ℕ) where
       one-deed h = simp (← is, le-leb _ _ most, ← et, ← en, ne-eqb _ _ h)
 
   -- a record found on a path: the text at its end tells whether the block is left empty
-  module _ (w : Path) (i n : ℕ) (t : List ℕ) (et : t ≡ textOf v (w .detail)) (en : n ≡ count t) where
+  module _ (w : Path) (i n : ℕ) (t : List ℕ) (et : t ≡ textOf v (w .detail)) (en : n ≡ count (detailShape p) t) where
     pub by-removed : (n ≡ 1 → ⊥) → passed (Remove (By w) i) ≡ deleteAfter v [] (look-is.Found (By w) i)
     unfolding deleteAfter
     by-removed h = simp (← et, ← en, ne-eqb _ _ h)
@@ -86,7 +87,7 @@ module _ (p : Description) (cur : ℕ) (f b : List ℕ) where
     by-emptied h r e = simp (← et, ← en, eq-eqb _ _ h) e
 
   -- a record found in the buffer, which tells the same; then the path for the key must lead to the buffered block
-  module _ (key : List ℕ) (i n : ℕ) (en : n ≡ count b) where
+  module _ (key : List ℕ) (i n : ℕ) (en : n ≡ count (detailShape p) b) where
     pub here-removed : (n ≡ 1 → ⊥) → passed (Remove Here i) ≡ deleteAfter v key (look-is.Found Here i)
     unfolding deleteAfter
     here-removed h = simp (← en, ne-eqb _ _ h)

@@ -15,6 +15,7 @@ use Rattle.drum.specs.Params.{fileSize, masterShape}
 use Rattle.drum.specs.Blocks.{Fitting, Block, Read, Write, written, freeText, blockAt, putBlock, Texts, seen, textOf, sections}
 use Rattle.drum.specs.Inside.{HasBlock}
 use Rattle.drum.proofs.Good.{caps}
+use Rattle.drum.proofs.Forms.{count-master}
 use Rattle.drum.proofs.Lent.{held, held-still}
 use Rattle.drum.proofs.Blocks.{length-putBlock, block-same, block-other, block-over, block-swap, block-set, master-set, length-textOf, length-freeText}
 use Rattle.drum.proofs.Written.{Moves, moves-append, written-append, master-word-written, master-set-written}
@@ -122,11 +123,11 @@ module _ (v : Texts) (fit : Fitting (v .desc) (v .file) (v .buffer)) (flag : Boo
     -- its master: as many sections as before
     sections-kept : (f : List ℕ)
         → f ≡ written (v .desc) (reached v flag way .moves ++ emptyMoves (v .desc) w link t) (set (v .file) 1 head)
-        → count f ≡ sections (v .file)
+        → sections f ≡ sections (v .file)
     sections-kept f e =
         let g = caps (v .desc) (fit .good) in
         let n : length (set (v .file) 1 head) ≡ fileSize (v .desc) = length-set (v .file) 1 head ∙ fit .file-is in
-        ap count e
+        ap sections e
         ∙ master-word-written (v .desc) (set (v .file) 1 head) n (reached v flag way .moves ++ emptyMoves (v .desc) w link t) all-moves 0 (omega arith)
         ∙ getD-set-other (v .file) 1 0 head 0 (λ q. omega arith)
 
@@ -141,13 +142,13 @@ module _ (v : Texts) (fit : Fitting (v .desc) (v .file) (v .buffer)) (flag : Boo
       → Removable (masterShape (v .desc)) f (w .section)
   unfolding bothAll masterShape
   master-row f e n =
-      let s : count f ≡ sections (v .file) =
-      sections-kept (w .index) (freeText (v .desc) (w .detail)) (length-freeText (v .desc) (w .detail) (fit .good)) f e in
+      let s : count (masterShape (v .desc)) f ≡ sections (v .file) =
+      count-master (v .desc) f ∙ sections-kept (w .index) (freeText (v .desc) (w .detail)) (length-freeText (v .desc) (w .detail) (fit .good)) f e in
       let g = caps (v .desc) (fit .good) in
       let q = g .facts in
       let a = fits .path .sections-most in
       let b = fits .path .section-below in
-      let r = row-le (count f) (v .desc .control) (v .desc .k + 1) (omega arith) in
+      let r = row-le (count (masterShape (v .desc)) f) (v .desc .control) (v .desc .k + 1) (omega arith) in
       record { within = omega arith; below = omega arith; most = omega arith }
 
 -- the index block's entry, where the index block has others
@@ -203,9 +204,9 @@ module _ (p : Description) (cur : ℕ) (f b : List ℕ) (flag : Bool) (way : Way
   headed f₀ f₁ head e₁ e₀ = e₁ ∙ ap (λ (z : List ℕ). set z 1 head) e₀
 
   -- the index block loses the entry
-  pub entry-ready : (f₀ f₁ : List ℕ) → f₁ ≡ set f₀ 1 (w .detail) → f₀ ≡ freed v flag way w link
-      → OneFits v flag way w link → Fitting p f b → EntryIn p f₁ (w .index) (w .entry)
-  entry-ready f₀ f₁ e₁ e₀ one fit =
+  pub entry-ready : (f₀ f₁ : List ℕ) → OneFits v flag way w link → Fitting p f b → f₀ ≡ freed v flag way w link
+      → f₁ ≡ set f₀ 1 (w .detail) → EntryIn p f₁ (w .index) (w .entry)
+  entry-ready f₀ f₁ one fit e₀ e₁ =
       let e = headed f₀ f₁ (w .detail) e₁ e₀ in
       record {
         file-is = freed-fits v fit flag way w link (one .emptied) (w .detail) f₁ e;
@@ -213,11 +214,11 @@ module _ (p : Description) (cur : ℕ) (f b : List ℕ) (flag : Bool) (way : Way
         entry = rw (index-freed v fit flag way w link (one .emptied) (w .detail) f₁ e) (one-entry v flag way w link fit one);
       }
 
-  pub one-file : (f₀ f₁ f₂ : List ℕ) → f₂ ≡ putBlock p f₁ (w .index) (entryGone p (w .entry) (blockAt p f₁ (w .index)))
-      → f₁ ≡ set f₀ 1 (w .detail) → f₀ ≡ freed v flag way w link → OneFits v flag way w link → Fitting p f b
+  pub one-file : (f₀ f₁ f₂ : List ℕ) → OneFits v flag way w link → Fitting p f b → f₀ ≡ freed v flag way w link
+      → f₁ ≡ set f₀ 1 (w .detail) → f₂ ≡ putBlock p f₁ (w .index) (entryGone p (w .entry) (blockAt p f₁ (w .index)))
       → f₂ ≡ emptyFile v flag way w link
   unfolding emptyAll emptyFile
-  one-file f₀ f₁ f₂ e₂ h₁ e₀ one fit =
+  one-file f₀ f₁ f₂ one fit e₀ h₁ e₂ =
       let e₁ = headed f₀ f₁ (w .detail) h₁ e₀ in
       let t : List ℕ = entryGone p (w .entry) (textOf v (w .index)) in
       let ht : length t ≡ p .wpb = length-gone p (textOf v (w .index)) (w .entry) (one-entry v flag way w link fit one) in
@@ -226,8 +227,8 @@ module _ (p : Description) (cur : ℕ) (f b : List ℕ) (flag : Bool) (way : Way
       emptied-by v fit flag way w link (one .emptied) (w .detail) t ht f₁ f₂ e₁ g
 
   -- or the index block is emptied too, and its master entry goes
-  module _ (f₀ f₁ : List ℕ) (e₁ : f₁ ≡ set f₀ 1 (w .index)) (e₀ : f₀ ≡ freed v flag way w link) (fits : EmptyFits v flag way w link)
-      (fit : Fitting p f b) where
+  module _ (f₀ f₁ : List ℕ) (fits : EmptyFits v flag way w link) (fit : Fitting p f b) (e₀ : f₀ ≡ freed v flag way w link)
+      (e₁ : f₁ ≡ set f₀ 1 (w .index)) where
     freed-is : length f₁ ≡ fileSize p
     freed-is = freed-fits v fit flag way w link fits (w .index) f₁ (headed f₀ f₁ (w .index) e₁ e₀)
 
@@ -244,14 +245,14 @@ module _ (p : Description) (cur : ℕ) (f b : List ℕ) (flag : Bool) (way : Way
           let n : length f₂ ≡ fileSize p = ap length e₂ ∙ length-putBlock p f₁ freed-is (w .index) k _ (length-freeText p (w .detail) (fit .good)) in
           master-row v fit flag way w link fits f₂ both-is n
 
-      pub section-within : place h (count f₂) ≤ length f₂
+      pub section-within : place h (count h f₂) ≤ length f₂
       section-within = rw eh (section-row .within)
 
-      pub section-below : w .section < count f₂
-      section-below = section-row .below
+      pub section-below : w .section < count h f₂
+      section-below = rw eh (section-row .below)
 
-      pub section-most : count f₂ ≤ 262143
-      section-most = section-row .most
+      pub section-most : h .tag + count h f₂ ≤ 262143
+      section-most = rw eh (section-row .most)
 
       pub both-file : (f₃ : List ℕ) → f₃ ≡ removed h (w .section) f₂ → f₃ ≡ bothFile v flag way w link
       unfolding bothFile

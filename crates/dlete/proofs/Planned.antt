@@ -9,6 +9,7 @@ use lib.Dec.{eqb}
 use Rattle.numbers.specs.Numbers.{badFile}
 use Rattle.numbers.specs.Checked.{passed, _>>_, require, upTo}
 use Rattle.table.specs.Tables.{count}
+use Rattle.drum.specs.Params.{detailShape, indexShape}
 use lib.ListN.{length}
 use Rattle.words.specs.Words.{part}
 use Rattle.drum.specs.declared.Description.{Description}
@@ -34,18 +35,18 @@ module _ (v : Texts) (flag : Bool) (key : List ℕ) where
   -- an emptied block
   module _ (way : Way) (w : Path) (h : WayFits v flag way) (path : PathFits v w) where
     empty-facts : (head : ℕ) → upTo (v .desc .n) (chainHead (v .file)) ≡ passed head
-        → DeleteFits v flag (cond (eqb (count (textOf v (w .index))) 1) (Both way w head) (Empty way w head))
-    empty-facts head e = go (eqb (count (textOf v (w .index))) 1) refl
+        → DeleteFits v flag (cond (eqb (count (indexShape (v .desc)) (textOf v (w .index))) 1) (Both way w head) (Empty way w head))
+    empty-facts head e = go (eqb (count (indexShape (v .desc)) (textOf v (w .index))) 1) refl
       where
         fits : EmptyFits v flag way w head
         fits =
             let a = limited (v .desc .n) (chainHead (v .file)) head e in
             record { reached = h; path = path; chained = omega arith }
 
-        go : (t : Bool) → eqb (count (textOf v (w .index))) 1 ≡ t → DeleteFits v flag (cond t (Both way w head) (Empty way w head))
+        go : (t : Bool) → eqb (count (indexShape (v .desc)) (textOf v (w .index))) 1 ≡ t → DeleteFits v flag (cond t (Both way w head) (Empty way w head))
         go true q = fits
         go false q =
-            let n = eqb-false (count (textOf v (w .index))) 1 q in
+            let n = eqb-false (count (indexShape (v .desc)) (textOf v (w .index))) 1 q in
             let l = path .entry-below in
             record { emptied = fits; others = omega arith }
 
@@ -71,7 +72,8 @@ module _ (v : Texts) (flag : Bool) (key : List ℕ) where
   after-passed (look-is.Missing w) h = by-passed (Stop w) (record { path = h .0; flushed = h .1 })
   after-passed (look-is.Found way i) h =
       let gone : RemoveFits v flag way i = record { reached = h .0; below = h .1 } in
-      by-test (eqb (count (textAt v way)) 1) (emptyAt v key way) (passed (Remove way i)) (λ e. at-passed way (h .0)) (λ e. by-passed (Remove way i) gone)
+      by-test (eqb (count (detailShape (v .desc)) (textAt v way)) 1) (emptyAt v key way) (passed (Remove way i))
+      (λ e. at-passed way (h .0)) (λ e. by-passed (Remove way i) gone)
 
   looked-fits : (l : Look) → look v flag key ≡ passed l → LookFits v flag l
   looked-fits look-is.Bad e = tt

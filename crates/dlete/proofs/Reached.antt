@@ -2,7 +2,7 @@
 use mathlib.Core.Path.{_≡_, ap, _∙_}
 use mathlib.Core.Bool.{Bool, true}
 use mathlib.Core.List.{List, []}
-use Prim.Native.Nat.{ℕ, _≤_, _<_}
+use Prim.Native.Nat.{ℕ, _+_, _≤_, _<_}
 use native.Mathlib.Omega.{arith}
 use lib.ListN.{length}
 use Rattle.numbers.specs.Numbers.{done}
@@ -14,6 +14,7 @@ use Rattle.drum.specs.declared.Description.{Description}
 use Rattle.drum.specs.Params.{D, detailShape}
 use Rattle.drum.specs.Blocks.{Fitting, Texts, seen}
 use Rattle.drum.proofs.Good.{caps}
+use Rattle.drum.proofs.Forms.{detail-tag}
 use Rattle.rules.specs.declared.Way.{Way}
 use Rattle.rules.specs.Lookup.{reached, textAt, storing}
 use Rattle.rules.specs.Told.{gave, told}
@@ -34,19 +35,19 @@ module _ (p : Description) (cur : ℕ) (f b : List ℕ) (flag : Bool) (way : Way
         let et : t ≡ reached v flag way .buffer = ap (λ (z : Come). z .buffer) e in
         let ex : t ≡ textAt v way = et ∙ reached-text v flag way in
         let n : length t ≡ p .wpb = ap length et ∙ reached-fits v fit flag way (fits .reached) .buffer-is in
-        let m : count t ≤ D p = rw ex (way-counts v flag way (fits .reached) .1) in
+        let m : count (detailShape p) t ≤ D p = rw ex (way-counts v flag way (fits .reached) .1) in
         let q = caps p (fit .good) in
-        let r = row-le (count t) (D p) (p .wpr) m in
-        record { within = omega arith; below = rw ex (fits .below); most = omega arith }
+        let r = row-le (count (detailShape p) t) (D p) (p .wpr) m in
+        record { within = omega arith; below = rw ex (fits .below); most = omega (arith, detail-tag p (fit .good)) }
 
-    pub reached-within : h ≡ detailShape p → place h (count t) ≤ length t
+    pub reached-within : h ≡ detailShape p → place h (count h t) ≤ length t
     reached-within eh = rw eh (reached-row .within)
 
-    pub reached-below : i < count t
-    reached-below = reached-row .below
+    pub reached-below : h ≡ detailShape p → i < count h t
+    reached-below eh = rw eh (reached-row .below)
 
-    pub reached-most : count t ≤ 262143
-    reached-most = reached-row .most
+    pub reached-most : h ≡ detailShape p → h .tag + count h t ≤ 262143
+    reached-most eh = rw eh (reached-row .most)
 
   pub removed-told : (u : List ℕ) → came a g t ≡ come (reached v flag way) → u ≡ removed h i t → h ≡ detailShape p
       → gave (record { number = done; transfers = a .transfers; current = a .current; flag = true; keyed = true }) g u []

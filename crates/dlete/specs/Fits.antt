@@ -6,7 +6,7 @@ use mathlib.Core.List.{List}
 use lib.ListN.{length}
 use Rattle.table.specs.Tables.{count}
 use Rattle.drum.specs.declared.Description.{Description}
-use Rattle.drum.specs.Params.{I, goodParams, fileSize}
+use Rattle.drum.specs.Params.{I, goodParams, fileSize, detailShape, indexShape}
 use Rattle.drum.specs.Blocks.{Block, blockAt, Texts, textOf}
 use Rattle.rules.specs.declared.Path.{Path}
 use Rattle.rules.specs.declared.Way.{Way}
@@ -19,9 +19,9 @@ use Rattle.rules.specs.Fits.{PathFits, FlushFits, WayFits}
 pub record HasEntry (p : Description) (t : List ℕ) (j : ℕ) : Type 0 where
   pub good : goodParams p ≡ true
   pub text-is : length t ≡ p .wpb
-  pub others : 1 < count t
-  pub most : count t ≤ I p
-  pub below : j < count t
+  pub others : 1 < count (indexShape p) t
+  pub most : count (indexShape p) t ≤ I p
+  pub below : j < count (indexShape p) t
 
 -- the same of index block b, where it lies in the file
 pub record EntryIn (p : Description) (f : List ℕ) (b j : ℕ) : Type 0 where
@@ -37,7 +37,7 @@ pub record StopFits (v : Texts) (flag : Bool) (w : Path) : Type 0 where
 -- a record taken out of its block: the way that reaches the block is good, and the record is in it
 pub record RemoveFits (v : Texts) (flag : Bool) (way : Way) (i : ℕ) : Type 0 where
   pub reached : WayFits v flag way
-  pub below : i < count (textAt v way)
+  pub below : i < count (detailShape (v .desc)) (textAt v way)
 
 -- an emptied block: the way that reaches it, the path to it, and the head of the chain are good
 pub record EmptyFits (v : Texts) (flag : Bool) (way : Way) (w : Path) (head : ℕ) : Type 0 where
@@ -48,7 +48,7 @@ pub record EmptyFits (v : Texts) (flag : Bool) (way : Way) (w : Path) (head : �
 -- an emptied block whose index block is not left empty
 pub record OneFits (v : Texts) (flag : Bool) (way : Way) (w : Path) (head : ℕ) : Type 0 where
   pub emptied : EmptyFits v flag way w head
-  pub others : 1 < count (textOf v (w .index))
+  pub others : 1 < count (indexShape (v .desc)) (textOf v (w .index))
 
 -- what a plan of DLETE tells the code that carries it out
 abbrev pub DeleteFits : Texts → Bool → Delete → Type 0

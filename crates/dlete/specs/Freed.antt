@@ -15,7 +15,7 @@ use Rattle.rules.specs.Lookup.{reached}
 unfoldable pub handed : Description → ℕ → List ℕ → List ℕ
 handed p j t =
     let g = indexShape p in
-    cond (eqb (j + 1) (count t)) (replaced g (j - 1) (keyAt g t j) t) t
+    cond (eqb (j + 1) (count g t)) (replaced g (j - 1) (keyAt g t j) t) t
 
 -- the file after the steps of the way, with the index block's current text in it, which may stand in the buffer alone, and with the
 -- emptied block, which has the link

@@ -31,7 +31,7 @@ fn hand_bound(p: Description, t: &mut [u32], j: usize)
     requires { ⌜ HasEntry p (now t) j ⌝ }
     ensures { λ _. ⌜ became t ≡ handed p j (was t) ⌝ }
 {
-    let n = words::word_at(t, 0);
+    let n = drum::kinds::entries_in(p, t);
     if j + 1 != n {
         return;
     }

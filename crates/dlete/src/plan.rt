@@ -37,7 +37,7 @@ fn empty_deed<'a>(
         return Delete::Bad;
     }
     let t = drum::text_of(p, current, file, buffer, w.index);
-    if words::word_at(t, 0) == 1 {
+    if drum::kinds::entries_in(p, t) == 1 {
         return Delete::Both(way, w, head);
     }
     Delete::Empty(way, w, head)
@@ -53,7 +53,7 @@ fn delete_here<'a>(at: Held, file: &'a [u32], buffer: &'a [u32], key: &[u32], i:
 {
     let p = at.desc;
     let current = at.current;
-    if words::word_at(buffer, 0) != 1 {
+    if drum::kinds::records_in(p, buffer) != 1 {
         return Delete::Remove(Way::Here, i);
     }
     let route = lookup::path_by(at, file, buffer, Which::Covering, Which::Covering, key);
@@ -81,7 +81,7 @@ fn delete_by<'a>(
     ensures { λ r. ⌜ asDelete r ≡ deleteAfter (atEntry p current file buffer) [] (look-is.Found (way-is.By w) i) ⌝ }
 {
     let t = drum::text_of(p, current, file, buffer, w.detail);
-    if words::word_at(t, 0) != 1 {
+    if drum::kinds::records_in(p, t) != 1 {
         return Delete::Remove(Way::By(w), i);
     }
     empty_deed(p, current, file, buffer, Way::By(w), w)

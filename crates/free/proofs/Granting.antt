@@ -11,7 +11,7 @@ use Rattle.numbers.specs.Numbers.{badFile, done, noneFree}
 use Rattle.numbers.specs.Checked.{Checked, passed, refused, _>>=_, _>>_, within}
 use Rattle.drum.specs.declared.Description.{Description}
 use Rattle.drum.specs.Params.{D, goodParams}
-use Rattle.drum.specs.Blocks.{Fitting, Texts, seen, textOf, linkIn}
+use Rattle.drum.specs.Blocks.{Fitting, Texts, seen, textOf, linkIn, isFree}
 use Rattle.drum.proofs.Good.{good-facts, caps}
 use Rattle.drum.proofs.Blocks.{length-textOf}
 use Rattle.rules.specs.declared.Path.{Path}
@@ -60,7 +60,7 @@ empty-chain v lowest = rw (le-leb 0 (v .desc .n) (omega arith)) (go (within 1 (v
     go (passed x) true a b = refl
     go (passed x) false a b = refl
 
--- the chain's head, tested: too high, none, with a bad link, or a new block
+-- the chain's head, tested: too high, none, of a wrong kind, with a bad link, or a new block
 module _ (p : Description) (cur : ℕ) (f b : List ℕ) (head lowest : ℕ) where
   abbrev v : Texts
   v = seen p cur f b
@@ -72,21 +72,29 @@ module _ (p : Description) (cur : ℕ) (f b : List ℕ) (head lowest : ℕ) wher
   pub chain-empty : (g : Grant) → asGrant g ≡ lowestGranted (p .n) lowest → head ≡ 0 → asGrant g ≡ granted v head lowest
   chain-empty g e z = rw z (e ∙ (let q = empty-chain v lowest in rw q))
 
-  -- the head's text has a link
-  pub head-text : (t : List ℕ) → t ≡ textOf v head → head ≤ p .n → (head ≡ 0 → ⊥) → Fitting p f b → 0 < length t
+  -- the head's text has a link, in one of its first two words
+  pub head-text : (t : List ℕ) → t ≡ textOf v head → head ≤ p .n → (head ≡ 0 → ⊥) → Fitting p f b → 1 < length t
   head-text t e most some fit =
       let g = caps p (fit .good) in
       let l = ap length e ∙ length-textOf v head fit (omega arith, most) in
       omega arith
 
-  module _ (t : List ℕ) (link : ℕ) (et : t ≡ textOf v head) (el : link ≡ linkIn t) (most : head ≤ p .n) (some : head ≡ 0 → ⊥) where
-    pub link-bad : p .n < link → refused badFile ≡ granted v head lowest
-    unfolding granted noneLeft
-    link-bad h = simp (le-leb _ _ most, ne-eqb _ _ some, ← et, ← el, lt-leb _ _ h)
+  pub head-some : (t : List ℕ) → t ≡ textOf v head → head ≤ p .n → (head ≡ 0 → ⊥) → Fitting p f b → 0 < length t
+  head-some t e most some fit = let l = head-text t e most some fit in omega arith
 
-    pub chain-head : link ≤ p .n → passed (record { block = head; head = link; lowest = lowest }) ≡ granted v head lowest
+  module _ (t : List ℕ) (et : t ≡ textOf v head) (free : Bool) (ef : free ≡ isFree p t) (most : head ≤ p .n) (some : head ≡ 0 → ⊥) where
+    pub kind-bad : not free ≡ true → refused badFile ≡ granted v head lowest
     unfolding granted noneLeft
-    chain-head h = simp (le-leb _ _ most, ne-eqb _ _ some, ← et, ← el, le-leb _ _ h)
+    kind-bad k = simp (le-leb _ _ most, ne-eqb _ _ some, ← et, ← ef, not-true free k)
+
+    module _ (link : ℕ) (el : link ≡ linkIn p t) (kind : not free ≡ false) where
+      pub link-bad : p .n < link → refused badFile ≡ granted v head lowest
+      unfolding granted noneLeft
+      link-bad h = simp (le-leb _ _ most, ne-eqb _ _ some, ← et, ← ef, not-false free kind, ← el, lt-leb _ _ h)
+
+      pub chain-head : link ≤ p .n → passed (record { block = head; head = link; lowest = lowest }) ≡ granted v head lowest
+      unfolding granted noneLeft
+      chain-head h = simp (le-leb _ _ most, ne-eqb _ _ some, ← et, ← ef, not-false free kind, ← el, le-leb _ _ h)
 
 -- a block is another than each that the call may read or write, or it is one of them
 module _ (cur : ℕ) (flag : Bool) (w : Path) (b : ℕ) where

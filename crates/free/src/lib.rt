@@ -87,7 +87,10 @@ fn take_block<'a>(
         return take_lowest(n, lowest);
     }
     let t = drum::text_of(p, current, file, buffer, head);
-    let link = words::word_at(t, 0);
+    if !drum::kinds::is_free(p, t) {
+        return Grant::Bad;
+    }
+    let link = drum::kinds::link_in(p, t);
     if n < link {
         return Grant::Bad;
     }

@@ -21,7 +21,7 @@ use Rattle.lookup.specs.Tables.{Entries, CountedRows}
 
 -- the rows counted lie in the table, and so does the block that one of them names
 module _ (p : Description) (h : Shape) (most : ℕ) (t key : List ℕ) (n : ℕ) where
-  pub rows-counted : Entries p h most t key → n ≡ count t → 1 ≤ n → n ≤ most → CountedRows h t n key
+  pub rows-counted : Entries p h most t key → n ≡ count h t → 1 ≤ n → n ≤ most → CountedRows h t n key
   rows-counted w e some le =
       let r = row-le n most (h .stride) le in
       record { counted = e; some = some; room = omega arith; width-least = omega arith; key-long = omega arith }
@@ -40,14 +40,14 @@ module _ (which : Which) (h : Shape) (key t : List ℕ) where
   chosen-place i e = rw e
 
   module _ (n : ℕ) where
-    pub chosen-last : n ≡ count t → which ≡ Last → n - 1 ≡ chosen which h key t
+    pub chosen-last : n ≡ count h t → which ≡ Last → n - 1 ≡ chosen which h key t
     chosen-last en e = rw (e, en)
 
-    pub chosen-covering : (i : ℕ) → i ≡ firstWhere (fits NotBelow h key t) n → n ≡ count t → which ≡ Covering → i ≡ chosen which h key t
+    pub chosen-covering : (i : ℕ) → i ≡ firstWhere (fits NotBelow h key t) n → n ≡ count h t → which ≡ Covering → i ≡ chosen which h key t
     chosen-covering i f en e = rw (e, ← en) f
 
 -- n the count, i the place, b the block
-module _ (p : Description) (h : Shape) (most : ℕ) (which : Which) (t key : List ℕ) (n : ℕ) (en : n ≡ count t) where
+module _ (p : Description) (h : Shape) (most : ℕ) (which : Which) (t key : List ℕ) (n : ℕ) (en : n ≡ count h t) where
   pub entry-few : n < 1 → refused badFile ≡ entryOf p h most which (part 0 (p .k) key) t
   unfolding entryOf
   entry-few l = simp (← en, lt-leb _ _ l)

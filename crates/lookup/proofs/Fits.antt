@@ -56,7 +56,7 @@ module _ (v : Texts) (test : Bool) where
   -- the file is not asked; and a test is made where the test that always holds is
   pub test-and : onBuffer v test ≡ (onBuffer (seen (v .desc) (v .current) [] (v .buffer)) true >>= (λ here. passed (here && test)))
   unfolding onBuffer
-  test-and = go (eqb (v .current) 0) (within 1 (v .desc .n) (v .current)) (within 1 (D (v .desc)) (count (v .buffer)))
+  test-and = go (eqb (v .current) 0) (within 1 (v .desc .n) (v .current)) (within 1 (D (v .desc)) (count (detailShape (v .desc)) (v .buffer)))
     where
       go : (t : Bool) (m n : Checked ℕ)
           → cond t (passed false) (m >> (n >> passed test)) ≡ (cond t (passed false) (m >> (n >> passed true)) >>= (λ here. passed (here && test)))

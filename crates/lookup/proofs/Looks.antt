@@ -40,7 +40,7 @@ module _ (p : Description) (cur : ℕ) (b : List ℕ) where
     unfolding onBuffer
     buffered-high l = simp (ne-eqb _ _ on, lt-leb _ _ l, and-false)
 
-    module _ (n : ℕ) (en : n ≡ count b) (most : cur ≤ p .n) where
+    module _ (n : ℕ) (en : n ≡ count (detailShape p) b) (most : cur ≤ p .n) where
       least : 1 ≤ cur
       least = omega arith
 
@@ -71,7 +71,7 @@ module _ (p : Description) (cur : ℕ) (f b : List ℕ) (key : List ℕ) where
 
   -- at the end of a way
   module _ (w : Path) (h : Shape) (t : List ℕ) (n i : ℕ) (ei : i ≡ firstWhere (fits Equal h (part 0 (h .width) key) t) n)
-      (eh : h ≡ detailShape p) (et : t ≡ textOf v (w .detail)) (en : n ≡ count t) where
+      (eh : h ≡ detailShape p) (et : t ≡ textOf v (w .detail)) (en : n ≡ count (detailShape p) t) where
     row-is : i ≡ firstWhere (fits Equal (detailShape p) (part 0 (p .k) key) t) n
     row-is = detail-found p h Equal key t n i eh ei
 
@@ -98,7 +98,7 @@ module _ (p : Description) (cur : ℕ) (f b : List ℕ) (key : List ℕ) where
 
   -- in the buffered block
   module _ (flag : Bool) (h : Shape) (n i : ℕ) (ei : i ≡ firstWhere (fits Equal h (part 0 (h .width) key) b) n)
-      (eh : h ≡ detailShape p) (en : n ≡ count b) (good : BufferFits v) where
+      (eh : h ≡ detailShape p) (en : n ≡ count (detailShape p) b) (good : BufferFits v) where
     here-is : i ≡ firstWhere (fits Equal (detailShape p) (part 0 (p .k) key) b) n
     here-is = detail-found p h Equal key b n i eh ei
 

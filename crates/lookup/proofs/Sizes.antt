@@ -34,12 +34,13 @@ module _ (p : Description) (cur : ℕ) (f b t : List ℕ) (a : ℕ) (e : t ≡ t
 
 -- the count of the block at the end of a way
 pub text-count : (p : Description) (cur : ℕ) (f b t : List ℕ) (w : Path) → t ≡ textOf (seen p cur f b) (w .detail)
-    → PathFits (seen p cur f b) w → count t ≤ D p
+    → PathFits (seen p cur f b) w → count (detailShape p) t ≤ D p
 text-count p cur f b t w e h = rw e (h .records-most)
 
 -- a detail block's rows lie in its text, their keys in the rows
 module _ (p : Description) (h : Shape) (eh : h ≡ detailShape p) where
-  pub rows-within : (t : List ℕ) (n : ℕ) → n ≡ count t → goodParams p ≡ true → length t ≡ p .wpb → count t ≤ D p → place h n ≤ length t
+  pub rows-within : (t : List ℕ) (n : ℕ) → n ≡ count (detailShape p) t → goodParams p ≡ true → length t ≡ p .wpb → count (detailShape p) t ≤ D p
+      → place h n ≤ length t
   unfolding detailShape
   rows-within t n en good long most =
       let g = caps p good in

@@ -9,7 +9,7 @@ use Rattle.numbers.specs.Checked.{passed, refused}
 use Rattle.table.specs.declared.Shape.{Shape}
 use Rattle.table.specs.Tables.{count}
 use Rattle.drum.specs.declared.Description.{Description}
-use Rattle.drum.specs.Params.{D, I, masterShape, indexShape}
+use Rattle.drum.specs.Params.{D, I, masterShape, indexShape, detailShape}
 use Rattle.drum.specs.Blocks.{Texts, seen, textOf}
 use Rattle.rules.specs.declared.Which.{Which}
 use Rattle.rules.specs.declared.Entry.{Entry}
@@ -46,7 +46,7 @@ module _ (p : Description) (cur : ℕ) (f b : List ℕ) where
     unfolding pathAt
     at-same s = simp (eq-eqb _ _ s)
 
-    module _ (t : List ℕ) (n : ℕ) (et : t ≡ textOf v (e .block)) (en : n ≡ count t) (apart : m .block ≡ e .block → ⊥) where
+    module _ (t : List ℕ) (n : ℕ) (et : t ≡ textOf v (e .block)) (en : n ≡ count (detailShape p) t) (apart : m .block ≡ e .block → ⊥) where
       pub at-few : n < 1 → refused badFile ≡ pathAt v m e
       unfolding pathAt
       at-few l = simp (ne-eqb _ _ apart, ← et, ← en, lt-leb _ _ l)

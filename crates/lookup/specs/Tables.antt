@@ -17,7 +17,7 @@ pub record Entries (p : Description) (h : Shape) (most : ℕ) (t key : List ℕ)
 
 -- the table t of n rows, and a key
 pub record CountedRows (h : Shape) (t : List ℕ) (n : ℕ) (key : List ℕ) : Type 0 where
-  pub counted : n ≡ count t
+  pub counted : n ≡ count h t
   pub some : 1 ≤ n
   pub room : place h n ≤ length t
   pub width-least : h .width ≤ h .stride

@@ -67,7 +67,7 @@ pub fn entry_of(p: Description, h: Shape, most: usize, which: Which, t: &[u32], 
     requires { ⌜ Entries p h most (now t) (now key) ⌝ }
     ensures { λ r. ⌜ asPick r ≡ entryOf p h most which (part 0 (p .k) (was key)) (was t) ⌝ }
 {
-    let n = words::word_at(t, 0);
+    let n = table::count_of(h, t);
     if n < 1 {
         return Pick::Bad;
     }
@@ -106,7 +106,7 @@ fn path_at<'a>(
         return Route::Bad;
     }
     let t = drum::text_of(p, current, file, buffer, detail);
-    let n = words::word_at(t, 0);
+    let n = drum::kinds::records_in(p, t);
     if n < 1 {
         return Route::Bad;
     }
@@ -181,7 +181,7 @@ pub fn on_buffer(p: Description, current: usize, buffer: &[u32]) -> Test
     if p.n < current {
         return Test::Bad;
     }
-    let n = words::word_at(buffer, 0);
+    let n = drum::kinds::records_in(p, buffer);
     if n < 1 {
         return Test::Bad;
     }
@@ -221,7 +221,7 @@ fn look_at<'a>(
     ensures { λ r. ⌜ asLook r ≡ passed (lookAt (atEntry p current file buffer) (part 0 (p .k) (was key)) w) ⌝ }
 {
     let t = drum::text_of(p, current, file, buffer, w.detail);
-    let n = words::word_at(t, 0);
+    let n = drum::kinds::records_in(p, t);
     let i = table::find(Want::Equal, p.detail_shape(), t, n, key, 0);
     if i < n {
         return Look::Found(Way::By(w), i);
@@ -274,7 +274,7 @@ fn look_buffered<'a>(
         ⌝ }
     ensures { λ r. ⌜ asLook r ≡ looked (atEntry p current file buffer) flag (part 0 (p .k) (was key)) ⌝ }
 {
-    let n = words::word_at(buffer, 0);
+    let n = drum::kinds::records_in(p, buffer);
     let i = table::find(Want::Equal, p.detail_shape(), buffer, n, key, 0);
     if i < n {
         return Look::Found(Way::Here, i);

@@ -13,6 +13,7 @@ use Rattle.table.specs.Splits.{renamed, entered}
 use Rattle.drum.specs.declared.Description.{Description}
 use Rattle.drum.specs.Params.{D, I, fileSize, masterShape, indexShape, detailShape}
 use Rattle.drum.specs.Blocks.{Fitting, Block, Transfer, Write, written, blockAt, putBlock, Texts, seen, textOf, sections}
+use Rattle.drum.proofs.Forms.{count-master}
 use Rattle.drum.proofs.Blocks.{length-putBlock, block-same, block-other, block-over, block-swap, length-textOf}
 use Rattle.drum.proofs.Written.{Moves, written-append, moves-append}
 use Rattle.rules.specs.declared.Path.{Path}
@@ -110,6 +111,7 @@ module _ (v : Texts) (flag : Bool) (c : Overflow) (r : List ℕ) (x : CutFits v 
       moves-append p ms ws (reached-moves v fit flag (By w) (x .path, x .flush))
       (index-block v w (x .path), length-index, (detail-block v w (x .path), low-is, (x .new .new .block, high-is, tt))) in
       ap sections (sym (written-append p ms ws (withFree (c .new .head) (c .new .lowest) (v .file))))
+      ∙ sym (count-master p (written p (ms ++ ws) (withFree (c .new .head) (c .new .lowest) (v .file))))
       ∙ freed-count v fit (ms ++ ws) m (c .new .head) (c .new .lowest)
 
   -- the index block written over it
@@ -122,7 +124,7 @@ module _ (v : Texts) (flag : Bool) (c : Overflow) (r : List ℕ) (x : CutFits v 
 
   -- the entry made, and the index block's text with it: the file of a split
   module _ (f₁ e : List ℕ) (e₁ : f₁ ≡ cutFile v flag c r) (ee : part 0 (p .k + 1) e ≡ detailEntry v w (c .place) r) where
-    pub entered-is : count (textOf v (w .index)) < I p → (f₂ : List ℕ)
+    pub entered-is : count (indexShape p) (textOf v (w .index)) < I p → (f₂ : List ℕ)
         → f₂ ≡ putBlock p f₁ (w .index) (entered (indexShape p) (w .entry) (part 0 (p .k + 1) e) b (blockAt p f₁ (w .index)))
         → f₂ ≡ splitFile v flag w (c .place) r (c .new)
     unfolding splitFile splitMoves written indexEntered reachedFile before

@@ -12,7 +12,7 @@ use Rattle.table.specs.Tables.{count, rowAbove, fits}
 use Rattle.table.specs.declared.Want.the-variants.{Over}
 use Rattle.table.proofs.Searches.{first-le}
 use Rattle.drum.specs.declared.Description.{Description}
-use Rattle.drum.specs.Params.{D, I, detailShape}
+use Rattle.drum.specs.Params.{D, I, detailShape, indexShape}
 use Rattle.drum.specs.Blocks.{Texts, seen, textOf}
 use Rattle.rules.specs.declared.Path.{Path}
 use Rattle.rules.specs.declared.Way.the-variants.{By}
@@ -36,15 +36,15 @@ module _ (v : Texts) (flag : Bool) (w : Path) (path : PathFits v w) (flush : Flu
   stop-fits : WayFits v flag (By w)
   stop-fits = (path, flush)
 
-  module _ (place : i ≤ count (textOf v (w .detail))) where
+  module _ (place : i ≤ count (detailShape (v .desc)) (textOf v (w .detail))) where
     most : i ≤ D (v .desc)
     most = omega (arith, place, path .records-most)
 
-    room-fits : ltb (count (textOf v (w .detail))) (D (v .desc)) ≡ true → RoomFits v flag w i
+    room-fits : ltb (count (detailShape (v .desc)) (textOf v (w .detail))) (D (v .desc)) ≡ true → RoomFits v flag w i
     room-fits e = record { flush = flush; path = path; place = place; room = ltb-true _ _ e }
 
-    split-fits : (d : Taken) → ltb (count (textOf v (w .index))) (I (v .desc)) ≡ true → takeOne v flag w ≡ passed d → eqb (d .block) 0 ≡ false
-        → SplitFits v flag (oneSplit w i d)
+    split-fits : (d : Taken) → ltb (count (indexShape (v .desc)) (textOf v (w .index))) (I (v .desc)) ≡ true → takeOne v flag w ≡ passed d
+        → eqb (d .block) 0 ≡ false → SplitFits v flag (oneSplit w i d)
     split-fits d room e z = record {
       cut = record { flush = flush; path = path; place = most; new = one-new v flag w d e z };
       room = ltb-true _ _ room;
@@ -74,7 +74,7 @@ module _ (v : Texts) (flag : Bool) (key : List ℕ) where
   after-passed (look-is.Found way i) h = by-passed (Stop way notFound) (h .0)
   after-passed (look-is.Missing w) h =
       at-passed v flag w (h .0) (h .1) (rowAbove (detailShape (v .desc)) key (textOf v (w .detail)))
-      (first-le (fits Over (detailShape (v .desc)) key (textOf v (w .detail))) (count (textOf v (w .detail))))
+      (first-le (fits Over (detailShape (v .desc)) key (textOf v (w .detail))) (count (detailShape (v .desc)) (textOf v (w .detail))))
 
   deed-passed : Passed (InsertFits v flag) (insertDeed v flag key)
   unfolding insertDeed

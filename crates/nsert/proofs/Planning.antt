@@ -4,6 +4,8 @@ use mathlib.Core.Bool.{Bool}
 use mathlib.Core.List.{List}
 use Prim.Native.Nat.{ℕ, _+_, _-_, _≤_, _<_}
 use native.Mathlib.Omega.{arith}
+use mir.Syntax.{w64}
+use mir.Val.{Fits}
 use borrow.Author.Tests.{lt-ltb, le-ltb, eq-eqb, ne-eqb}
 use lib.ListN.{length}
 use Rattle.numbers.specs.Numbers.{badFile, noRoom, notFound}
@@ -14,7 +16,7 @@ use Rattle.table.specs.declared.Want.the-variants.{Over}
 use Rattle.table.specs.Tables.{count, place, rowAbove, firstWhere, fits}
 use Rattle.table.specs.Splits.{lowCount}
 use Rattle.drum.specs.declared.Description.{Description}
-use Rattle.drum.specs.Params.{D, I, detailShape}
+use Rattle.drum.specs.Params.{D, I, detailShape, indexShape}
 use Rattle.drum.specs.Blocks.{Fitting, Block, Texts, seen, textOf, chainHead, lowestUnused}
 use Rattle.drum.proofs.Good.{caps}
 use Rattle.drum.proofs.Blocks.{length-textOf}
@@ -67,8 +69,8 @@ module _ (p : Description) (cur : ℕ) (f b : List ℕ) where
       omega arith
 
   -- the count, where the text was read for it
-  pub counted : (x n : ℕ) (t : List ℕ) → n ≡ count t → t ≡ textOf v x → n ≡ count (textOf v x)
-  counted x n t e h = e ∙ ap count h
+  pub counted : (h : Shape) (x n : ℕ) (t : List ℕ) → n ≡ count h t → t ≡ textOf v x → n ≡ count h (textOf v x)
+  counted h x n t e et = e ∙ ap (count h) et
 
   -- a record's place: the rows lie in the text, keys in rows, and the key in its words; what was found is the first record above it
   module _ (h : Shape) (eh : h ≡ detailShape p) where
@@ -80,7 +82,7 @@ module _ (p : Description) (cur : ℕ) (f b : List ℕ) where
     unfolding detailShape
     key-in key l = rw eh (omega arith)
 
-    module _ (w : Path) (t : List ℕ) (n : ℕ) (en : n ≡ count t) (et : t ≡ textOf v (w .detail)) where
+    module _ (w : Path) (t : List ℕ) (n : ℕ) (en : n ≡ count (detailShape p) t) (et : t ≡ textOf v (w .detail)) where
       pub rows-in : PathFits v w → Fitting p f b → place h n ≤ length t
       rows-in path fit =
           let l = length-textOf v (w .detail) fit (path .detail-least, path .detail-most) in
@@ -92,10 +94,16 @@ module _ (p : Description) (cur : ℕ) (f b : List ℕ) where
       found-above key i e = simp (← et, ← en) (detail-found p h Over key t n i eh e)
 
   -- a block with room: the number is good or bad
-  module _ (w : Path) (n : ℕ) (en : n ≡ count (textOf v (w .detail))) where
+  module _ (w : Path) (h : Shape) (n : ℕ) (en : n ≡ count h (textOf v (w .detail))) (es : h ≡ detailShape p) where
+    pub count-next : PathFits v w → Fitting p f b → Fits w64 (n + 1)
+    count-next path fit =
+        let g = caps p (fit .good) in
+        let m : n ≤ D p = rw (en, es) (path .records-most) in
+        record { fits = omega arith }
+
     module _ (i head : ℕ) (eh : head ≡ chainHead f) (x : Number) (ex : asNumber x ≡ storedNumber p (n + 1) head (lowestUnused f)) where
-      stored-is : storedNumber p (count (textOf v (w .detail)) + 1) (chainHead f) (lowestUnused f) ≡ asNumber x
-      stored-is = rw (← en, ← eh) (sym ex)
+      stored-is : storedNumber p (count (detailShape p) (textOf v (w .detail)) + 1) (chainHead f) (lowestUnused f) ≡ asNumber x
+      stored-is = rw (← es, ← en, ← eh) (sym ex)
 
       pub room-bad : x ≡ number-is.Bad → refused badFile ≡ roomDeed v w i
       unfolding roomDeed
@@ -154,19 +162,20 @@ module _ (p : Description) (cur : ℕ) (f b : List ℕ) where
         both-is y e = simp (← eg, ed, ne-eqb _ _ some, both-stored, e)
 
   -- the counts of the two blocks decide
-  module _ (flag : Bool) (w : Path) (i : ℕ) (r : Insert) (n d : ℕ) (en : n ≡ count (textOf v (w .detail))) (ed : d ≡ D p) where
+  module _ (flag : Bool) (w : Path) (i : ℕ) (r : Insert) (h : Shape) (n d : ℕ) (en : n ≡ count h (textOf v (w .detail))) (es : h ≡ detailShape p)
+      (ed : d ≡ D p) where
     pub has-room : n < d → asInsert r ≡ roomDeed v w i → asInsert r ≡ insertAt v flag w i
     unfolding insertAt
-    has-room l e = simp (← en, ← ed, lt-ltb _ _ l) e
+    has-room l e = simp (← es, ← en, ← ed, lt-ltb _ _ l) e
 
-    module _ (full : d ≤ n) (m x : ℕ) (em : m ≡ count (textOf v (w .index))) (ex : x ≡ I p) where
+    module _ (full : d ≤ n) (k : Shape) (m x : ℕ) (em : m ≡ count k (textOf v (w .index))) (ek : k ≡ indexShape p) (ex : x ≡ I p) where
       pub is-full : m < x → asInsert r ≡ splitDeed v flag w i → asInsert r ≡ insertAt v flag w i
       unfolding insertAt
-      is-full l e = simp (← en, ← ed, le-ltb _ _ full, ← em, ← ex, lt-ltb _ _ l) e
+      is-full l e = simp (← es, ← en, ← ed, le-ltb _ _ full, ← ek, ← em, ← ex, lt-ltb _ _ l) e
 
       pub both-full : x ≤ m → asInsert r ≡ bothDeed v flag w i → asInsert r ≡ insertAt v flag w i
       unfolding insertAt
-      both-full l e = simp (← en, ← ed, le-ltb _ _ full, ← em, ← ex, le-ltb _ _ l) e
+      both-full l e = simp (← es, ← en, ← ed, le-ltb _ _ full, ← ek, ← em, ← ex, le-ltb _ _ l) e
 
   -- what the lookup comes to, case by case
   module _ (flag : Bool) (key : List ℕ) (l : Look) (el : asLook l ≡ look v flag key) where

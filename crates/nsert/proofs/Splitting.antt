@@ -16,6 +16,7 @@ use Rattle.drum.specs.Params.{D, I, goodParams, masterSize, fileSize, masterSha
 use Rattle.drum.specs.Blocks.{Fitting, Block, blockAt, putBlock, Texts, seen, textOf, sections}
 use Rattle.drum.specs.Inside.{HasBlock}
 use Rattle.drum.proofs.Good.{caps}
+use Rattle.drum.proofs.Forms.{index-tag, detail-tag, count-master}
 use Rattle.drum.proofs.Blocks.{length-putBlock, length-textOf, master-word}
 use Rattle.rules.specs.declared.Path.{Path}
 use Rattle.rules.specs.declared.Way.the-variants.{By}
@@ -45,13 +46,27 @@ unfolding detailShape
 full-detail p i g h =
     let q = caps p g in
     let f = q .facts in
-    record { base-one = refl; stride-least = omega arith; rows-least = f .two-records; rows-fit = q .records-fit; place-most = h }
+    record {
+      base-one = refl;
+      stride-least = omega arith;
+      rows-least = f .two-records;
+      rows-fit = q .records-fit;
+      tag-most = detail-tag p g;
+      place-most = h;
+    }
 
 full-index : (p : Description) (i : ℕ) → goodParams p ≡ true → i ≤ I p → FullTable p (indexShape p) (I p) i
 unfolding indexShape
 full-index p i g h =
     let q = caps p g in
-    record { base-one = refl; stride-least = omega arith; rows-least = q .facts .two-entries; rows-fit = q .entries-fit; place-most = h }
+    record {
+      base-one = refl;
+      stride-least = omega arith;
+      rows-least = q .facts .two-entries;
+      rows-fit = q .entries-fit;
+      tag-most = omega (arith, index-tag p g);
+      place-most = h;
+    }
 
 -- the words lent for a record and for an entry are as long as those of the tables
 module _ (p : Description) (h : Shape) where
@@ -238,8 +253,9 @@ module _ (p : Description) (c : Overflow) (x : ℕ) (f b : List ℕ) (h : Shape)
     above-enters g eg a fit le lf =
         let q = caps p (fit .good) in
         let k = a .entry-below in
-        let s : sections f₁ ≡ sections f =
-        ap sections halved-is
+        let s : count (masterShape p) f₁ ≡ sections f =
+        count-master p f₁
+        ∙ ap sections halved-is
         ∙ sections-halved p (indexShape p) (I p) (c .path .entry) (part 0 (p .k + 1) e) (named (indexShape p)) (c .path .index) x f (fit .good)
         (fit .file-is) (a .index) (a .new) (full-index p (c .path .entry) (fit .good) (omega arith)) (length-part 0 (p .k + 1) e (omega arith)) in
         let r = master-row p (fit .good) (sections f) (a .section-left) in
@@ -250,8 +266,8 @@ module _ (p : Description) (c : Overflow) (x : ℕ) (f b : List ℕ) (h : Shape)
           counted = rw eg (omega arith);
           key-within = rw eg (omega arith);
           room = rw (eg, s) (omega arith);
-          below = rw s (a .section-below);
-          count-most = rw s (omega arith);
+          below = rw (eg, s) (a .section-below);
+          count-most = rw (eg, s) (omega arith);
         }
 
     pub above-file : (g : Shape) (u f₂ : List ℕ) → f₂ ≡ entered g (c .path .section) (part 0 (g .stride) u) x f₁ → g ≡ masterShape p

@@ -19,6 +19,7 @@ use Rattle.drum.specs.declared.Description.{Description}
 use Rattle.drum.specs.Params.{D, detailShape}
 use Rattle.drum.specs.Blocks.{Fitting, Texts, seen, textOf, blockAt, Block}
 use Rattle.drum.proofs.Good.{caps}
+use Rattle.drum.proofs.Forms.{detail-tag}
 use Rattle.drum.proofs.Blocks.{length-textOf}
 use Rattle.rules.specs.declared.Done.{Done}
 use Rattle.rules.specs.declared.Path.{Path}
@@ -106,21 +107,21 @@ module _ (p : Description) (cur : ℕ) (f b : List ℕ) (flag : Bool) (w : Path)
     room-base = rw eh (omega arith)
 
     module _ (x : RoomFits v flag w i) (fit : Fitting p f b) where
-      pub room-row : place h (count t) + h .stride ≤ length t
+      pub room-row : place h (count h t) + h .stride ≤ length t
       unfolding detailShape
       room-row =
           let l = length-textOf v (w .detail) fit (x .path .detail-least, x .path .detail-most) in
-          rw (eh, text-is, l) (detail-row p (fit .good) (count (textOf v (w .detail))) (x .room))
+          rw (eh, text-is, l) (detail-row p (fit .good) (count (detailShape p) (textOf v (w .detail))) (x .room))
 
-      pub room-place : i ≤ count t
-      room-place = rw text-is (x .place)
+      pub room-place : i ≤ count h t
+      room-place = rw (eh, text-is) (x .place)
 
-      pub room-most : count t < 262143
+      pub room-most : h .tag + count h t < 262143
       room-most =
           let q = caps p (fit .good) in
           let k = q .facts in
           let m = x .room in
-          rw text-is (omega arith)
+          rw (eh, text-is) (omega (arith, detail-tag p (fit .good)))
 
     pub room-long : (work : List ℕ) → length work ≡ p .wpr → 0 + h .stride ≤ length work
     unfolding detailShape

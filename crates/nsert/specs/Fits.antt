@@ -6,7 +6,7 @@ use mathlib.Core.List.{List}
 use lib.ListN.{length}
 use Rattle.table.specs.Tables.{count}
 use Rattle.drum.specs.declared.Description.{Description}
-use Rattle.drum.specs.Params.{D, I}
+use Rattle.drum.specs.Params.{D, I, detailShape, indexShape}
 use Rattle.drum.specs.Blocks.{Texts, textOf, sections, Block}
 use Rattle.rules.specs.declared.Path.{Path}
 use Rattle.rules.specs.declared.Taken.{Taken}
@@ -19,8 +19,8 @@ use Rattle.nsert.specs.declared.splits.Overflow.{Overflow}
 pub record RoomFits (v : Texts) (flag : Bool) (w : Path) (i : ℕ) : Type 0 where
   pub flush : FlushFits v flag
   pub path : PathFits v w
-  pub place : i ≤ count (textOf v (w .detail))
-  pub room : count (textOf v (w .detail)) < D (v .desc)
+  pub place : i ≤ count (detailShape (v .desc)) (textOf v (w .detail))
+  pub room : count (detailShape (v .desc)) (textOf v (w .detail)) < D (v .desc)
 
 -- the detail block is split: what both kinds of a split have
 pub record CutFits (v : Texts) (flag : Bool) (c : Overflow) : Type 0 where
@@ -39,7 +39,7 @@ pub record HalfFits (p : Description) (c : Overflow) : Type 0 where
 -- what a plan to split tells it [C12]
 pub record SplitFits (v : Texts) (flag : Bool) (c : Overflow) : Type 0 where
   pub cut : CutFits v flag c
-  pub room : count (textOf v (c .path .index)) < I (v .desc)
+  pub room : count (indexShape (v .desc)) (textOf v (c .path .index)) < I (v .desc)
 
 -- what a plan to split the index block too tells it: x is the new index block [C15]
 pub record BothFits (v : Texts) (flag : Bool) (c : Overflow) (x : ℕ) : Type 0 where

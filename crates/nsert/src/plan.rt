@@ -10,6 +10,7 @@ use rules::Insert;
 use rules::Look;
 use rules::Path;
 use rules::Way;
+use table::Shape;
 use table::Want;
 ghost use mathlib.Core.Path.{_≡_};
 ghost use Prim.Native.Nat.{_≤_};
@@ -23,13 +24,13 @@ ghost use Rattle.rules.specs.Fits.{PathFits};
 ghost use Rattle.rules.specs.Nsert.{halfCount, roomDeed, splitDeed, bothDeed, insertAt, insertDeed};
 ghost use Rattle.nsert.specs.Answers.{asInsert};
 
-// The count of block b, in its current text.
-fn count_of<'a>(at: Held, file: &'a [u32], buffer: &'a [u32], b: usize) -> usize
+// The count of block b, a table of this shape, in its current text.
+fn count_of<'a>(at: Held, file: &'a [u32], buffer: &'a [u32], b: usize, h: Shape) -> usize
     requires { ⌜ Fitting (at .desc) (now file) (now buffer) × Block (at .desc) b ⌝ }
-    ensures { λ r. ⌜ r ≡ count (textOf (atEntry (at .desc) (at .current) file buffer) b) ⌝ }
+    ensures { λ r. ⌜ r ≡ count h (textOf (atEntry (at .desc) (at .current) file buffer) b) ⌝ }
 {
     let t = drum::text_of(at.desc, at.current, file, buffer, b);
-    words::word_at(t, 0)
+    table::count_of(h, t)
 }
 
 // How many records the half has in which the one put in at place i of n falls.
@@ -51,7 +52,7 @@ fn room_deed<'a>(at: Held, file: &'a [u32], buffer: &'a [u32], w: Path, i: usize
         ⌝ }
     ensures { λ r. ⌜ asInsert r ≡ roomDeed (atEntry (at .desc) (at .current) file buffer) w i ⌝ }
 {
-    let n = count_of(at, file, buffer, w.detail);
+    let n = count_of(at, file, buffer, w.detail, at.desc.detail_shape());
     let head = words::word_at(file, 1);
     let Number::Is(x) = free::stored(at.desc, n + 1, head, file[2]) else {
         return Insert::Bad;
@@ -103,10 +104,10 @@ fn insert_at<'a>(at: Held, file: &'a [u32], buffer: &'a [u32], w: Path, i: usize
         ⌝ }
     ensures { λ r. ⌜ asInsert r ≡ insertAt (atEntry (at .desc) (at .current) file buffer) (at .flag) w i ⌝ }
 {
-    if count_of(at, file, buffer, w.detail) < at.desc.d() {
+    if count_of(at, file, buffer, w.detail, at.desc.detail_shape()) < at.desc.d() {
         return room_deed(at, file, buffer, w, i);
     }
-    if count_of(at, file, buffer, w.index) < at.desc.i() {
+    if count_of(at, file, buffer, w.index, at.desc.index_shape()) < at.desc.i() {
         return split_deed(at, file, buffer, w, i);
     }
     both_deed(at, file, buffer, w, i)
@@ -126,7 +127,7 @@ fn place_of<'a>(at: Held, file: &'a [u32], buffer: &'a [u32], key: &[u32], w: Pa
         ⌝ }
 {
     let t = drum::text_of(at.desc, at.current, file, buffer, w.detail);
-    let n = words::word_at(t, 0);
+    let n = drum::kinds::records_in(at.desc, t);
     table::find(Want::Over, at.desc.detail_shape(), t, n, key, 0)
 }
 

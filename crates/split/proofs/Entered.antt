@@ -15,6 +15,7 @@ use Rattle.drum.specs.declared.Description.{Description}
 use Rattle.drum.specs.Params.{I, indexShape}
 use Rattle.drum.specs.Blocks.{blockAt, putBlock}
 use Rattle.drum.specs.Inside.{HasBlock, Takes}
+use Rattle.drum.proofs.Forms.{index-tag}
 use Rattle.drum.proofs.Good.{caps}
 use Rattle.drum.proofs.Blocks.{length-block, block-same}
 use Rattle.drum.proofs.Lent.{held-still, changed-twice}
@@ -23,25 +24,25 @@ use Rattle.split.specs.Cuts.{Enters, EntersIn}
 -- the entry lies in the table, and what names its block too
 pub entry-end : (h : Shape) (i : ℕ) (t : List ℕ) → Enters h i t → place h i + h .width < length t
 entry-end h i t e =
-    let r = row-lt i (count t) (h .stride) (e .below) in
+    let r = row-lt i (count h t) (h .stride) (e .below) in
     omega arith
 
 module _ (h : Shape) (i b : ℕ) (t u : List ℕ) (e : u ≡ renamed h i b t) where
   module _ (enters : Enters h i t) where
-    named-count : count u ≡ count t
-    named-count = ap count e ∙ count-renamed h i t b (enters .counted)
+    named-count : count h u ≡ count h t
+    named-count = ap (count h) e ∙ count-renamed h i t b (enters .counted)
 
-    pub named-room : place h (count u) + h .stride ≤ length u
+    pub named-room : place h (count h u) + h .stride ≤ length u
     named-room =
         let l : length u ≡ length t = ap length e ∙ length-renamed h i t b in
         rw (named-count, l) (enters .room)
 
-    pub named-place : i ≤ count u
+    pub named-place : i ≤ count h u
     named-place =
         let l = enters .below in
         rw named-count (omega arith)
 
-    pub named-most : count u < 262143
+    pub named-most : h .tag + count h u < 262143
     named-most = rw named-count (enters .count-most)
 
   pub entered-by : (s r : List ℕ) → s ≡ inserted h i r u → s ≡ entered h i r b t
@@ -59,7 +60,9 @@ module _ (p : Description) (f : List ℕ) (x i : ℕ) (enters : EntersIn p f x i
       let g = caps p (enters .held .good) in
       let q = g .facts in
       let l = block-length in
-      let r = row-lt (count (blockAt p f x)) (I p) (p .k + 1) (enters .room) in
+      let r = row-lt (count (indexShape p) (blockAt p f x)) (I p) (p .k + 1) (enters .room) in
+      let t = index-tag p (enters .held .good) in
+      let l₁ = enters .room in
       record { counted = omega arith; key-within = omega arith; room = omega arith; below = enters .below; count-most = omega arith }
 
   module _ (h : Shape) (eh : h ≡ indexShape p) where

@@ -69,6 +69,9 @@ module _ (x : Cut) (low : ℕ) (f t : List ℕ) (sh : Shares x low f t) where
   pub rows-most : x .rows ≤ 4096
   rows-most = full-most (x .desc) (x .shape) (x .rows) (x .place) (sh .fitting .good) (sh .full)
 
+  pub tag-few : x .shape .tag ≤ 8192
+  tag-few = sh .full .tag-most
+
   pub new-held : HasBlock (x .desc) f (x .new)
   new-held = held (x .desc) f t (x .new) (sh .fitting) (sh .new-least) (sh .new-most)
 
@@ -140,7 +143,8 @@ module _ (x : Cut) (low : ℕ) (row f₀ t₀ : List ℕ) (j : ℕ) (f t : List 
   -- it goes to the new block
   pub moved-sent : (g src : List ℕ)
       → g ≡ withNew x f
-      (replaced (record { base = x .shape .base; stride = wide x; width = wide x }) (j - 1 - low) (part 0 (wide x) src) (blockAt (x .desc) f (x .new)))
+      (replaced (record { base = x .shape .base; stride = wide x; width = wide x; tag = x .shape .tag }) (j - 1 - low) (part 0 (wide x) src)
+      (blockAt (x .desc) f (x .new)))
       → src ≡ moreRow x (j - 1) row t → low ≤ j - 1 → length g ≡ length f → Moved x low row f₀ t₀ (j - 1) g t
   unfolding replaced
   moved-sent g src eg es l kept =
@@ -216,7 +220,8 @@ module _ (x : Cut) (low : ℕ) (row f₀ t₀ : List ℕ) (j : ℕ) (f t : List 
       }
 
   -- all have moved: the text that stays
-  pub moved-text : (u : List ℕ) → u ≡ laid (length t) low (part 1 (low * wide x) t) → j ≤ low → j ≤ x .place → u ≡ lower x low (part 0 (wide x) row) t₀
+  pub moved-text : (u : List ℕ) → u ≡ laid (length t) (x .shape .tag + low) (part 1 (low * wide x) t) → j ≤ low → j ≤ x .place
+      → u ≡ lower x low (part 0 (wide x) row) t₀
   unfolding part
   moved-text u e l k =
       let s : ℕ = wide x in
@@ -225,17 +230,18 @@ module _ (x : Cut) (low : ℕ) (row f₀ t₀ : List ℕ) (j : ℕ) (f t : List 
       let o₂ = row-le j (x .place) s k in
       let below : take (j * s) (stay x low row t₀) ≡ part 1 (j * s) t₀ = take-take (j * s) (low * s) (allRows x row t₀) o₁
       ∙ words-before x (j - 1) t₀ row first-row 0 (j * s) (omega arith) in
-      e ∙ ap (λ (w : ℕ). laid w low (part 1 (low * s) t)) (m .text-kept ∙ q .text-words)
-      ∙ ap (laid (x .desc .wpb) low)
+      e ∙ ap (λ (w : ℕ). laid w (x .shape .tag + low) (part 1 (low * s) t)) (m .text-kept ∙ q .text-words)
+      ∙ ap (laid (x .desc .wpb) (x .shape .tag + low))
       (ap (part 1 (low * s)) (m .text-is) ∙ ap (λ (n : ℕ). part 1 n (laying t₀ (j * s) (stay x low row t₀))) (sym (q .staying))
       ∙ laying-all t₀ (stay x low row t₀) (j * s) (omega arith) (omega arith) below)
 
   -- and the text that leaves
-  pub moved-file : (f₁ : List ℕ) → f₀ ≡ withNew x f₁ (laid (x .desc .wpb) (x .rows + 1 - low) []) → length f₁ ≡ length f₀ → j ≤ low
+  pub moved-file : (f₁ : List ℕ) → f₀ ≡ withNew x f₁ (laid (x .desc .wpb) (x .shape .tag + (x .rows + 1 - low)) []) → length f₁ ≡ length f₀
+      → j ≤ low
       → f ≡ withNew x f₁ (upper x low (part 0 (wide x) row) t₀)
   moved-file f₁ e k l =
       let w : ℕ = x .desc .wpb in
-      let c : ℕ = x .rows + 1 - low in
+      let c : ℕ = x .shape .tag + (x .rows + 1 - low) in
       let up : List ℕ = leave x low row t₀ in
       let q = z in
       let fits : 1 + length up ≤ w = omega arith in

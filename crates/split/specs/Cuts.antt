@@ -9,7 +9,7 @@ use Rattle.table.specs.declared.Shape.{Shape}
 use Rattle.table.specs.Tables.{count, place}
 use Rattle.table.specs.Splits.{oneMore}
 use Rattle.drum.specs.declared.Description.{Description}
-use Rattle.drum.specs.Params.{I, goodParams}
+use Rattle.drum.specs.Params.{I, goodParams, indexShape}
 use Rattle.drum.specs.Blocks.{Fitting, blockAt}
 use Rattle.drum.specs.Inside.{HasBlock}
 use Rattle.split.specs.declared.Cut.{Cut}
@@ -19,15 +19,15 @@ use Rattle.split.specs.Halves.{FullTable, staying, leaving, halved, lowE
 pub record Enters (h : Shape) (i : ℕ) (t : List ℕ) : Type 0 where
   pub counted : 1 ≤ h .base
   pub key-within : h .width < h .stride
-  pub room : place h (count t) + h .stride ≤ length t
-  pub below : i < count t
-  pub count-most : count t < 262143
+  pub room : place h (count h t) + h .stride ≤ length t
+  pub below : i < count h t
+  pub count-most : h .tag + count h t < 262143
 
 -- an index block with room, of the file, whose entry i can become two [C13, L5]
 pub record EntersIn (p : Description) (f : List ℕ) (x i : ℕ) : Type 0 where
   pub held : HasBlock p f x
-  pub below : i < count (blockAt p f x)
-  pub room : count (blockAt p f x) < I p
+  pub below : i < count (indexShape p) (blockAt p f x)
+  pub room : count (indexShape p) (blockAt p f x) < I p
 
 -- a full table in the buffer, a row more, and the number of one of all these rows
 pub record HasRow (x : Cut) (j : ℕ) (t row : List ℕ) : Type 0 where

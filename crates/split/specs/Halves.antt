@@ -15,15 +15,16 @@ pub record FullTable (p : Description) (h : Shape) (n i : ℕ) : Type 0 where
   pub stride-least : 1 ≤ h .stride
   pub rows-least : 2 ≤ n
   pub rows-fit : 1 + n * h .stride ≤ p .wpb
+  pub tag-most : h .tag ≤ 8192
   pub place-most : i ≤ n
 
 -- the two texts of w words when the lower `low` rows stay
 abbrev pub staying : ℕ → Shape → ℕ → ℕ → ℕ → List ℕ → List ℕ → List ℕ
-staying w h n low i r t = laid w low (take (low * h .stride) (oneMore h n i r t))
+staying w h n low i r t = laid w (h .tag + low) (take (low * h .stride) (oneMore h n i r t))
 
 -- the words of the upper half [C12]
 abbrev pub leaving : ℕ → Shape → ℕ → ℕ → ℕ → List ℕ → List ℕ → List ℕ
-leaving w h n low i r t = laid w (n + 1 - low) (drop (low * h .stride) (oneMore h n i r t))
+leaving w h n low i r t = laid w (h .tag + (n + 1 - low)) (drop (low * h .stride) (oneMore h n i r t))
 
 -- the file with the two halves written, and the entry of the old block
 abbrev pub halved : Description → Shape → ℕ → ℕ → List ℕ → List ℕ → ℕ → ℕ → List ℕ → List ℕ

@@ -145,8 +145,15 @@ fn share_rows(cut: Cut, low: usize, file: &mut [u32], buffer: &mut [u32], row: &
         base: h.base,
         stride: h.stride,
         width: h.stride,
+        tag: h.tag,
     };
-    drum::inside::lay_block(cut.desc, file, cut.new, cut.rows + 1 - low, &row[0..0]);
+    drum::inside::lay_block(
+        cut.desc,
+        file,
+        cut.new,
+        h.tag + (cut.rows + 1 - low),
+        &row[0..0],
+    );
     let stop = lesser(cut.place, low);
     let mut j = cut.rows + 1;
     while stop < j {
@@ -164,7 +171,7 @@ fn share_rows(cut: Cut, low: usize, file: &mut [u32], buffer: &mut [u32], row: &
         }
         raise_row(cut, j, buffer, row);
     }
-    keep(buffer, low, low * h.stride);
+    keep(buffer, h.tag + low, low * h.stride);
 }
 
 // Splits the full block in the buffer, a row put in: the halves are written to their blocks, and the entry of the old one is made, its

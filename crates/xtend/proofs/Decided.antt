@@ -51,7 +51,7 @@ module _ (p : Description) (cur : ℕ) (f b : List ℕ) where
   -- the block at the end of the way
   module _ (way : Way) where
     -- it takes the record
-    module _ (n : ℕ) (en : n ≡ count (textAt v way)) where
+    module _ (n : ℕ) (en : n ≡ count (detailShape p) (textAt v way)) where
       pub count-next : AtFits v way → Fitting p f b → Fits w64 (n + 1)
       count-next h fit =
           let g = caps p (fit .good) in
@@ -92,13 +92,14 @@ module _ (p : Description) (cur : ℕ) (f b : List ℕ) where
       unfolding newDeed
       new-lost e = rw (← ex, e)
 
-      pub new-to : (w : Path) (n : ℕ) (r : Extend) → x ≡ route-is.To w → n ≡ count (textAt v way) → asExtend r ≡ newAt v flag way w n
+      pub new-to : (w : Path) (n : ℕ) (r : Extend) → x ≡ route-is.To w → n ≡ count (detailShape p) (textAt v way) → asExtend r ≡ newAt v flag way w n
           → asExtend r ≡ newDeed v flag way
       unfolding newDeed
       new-to w n r e en h = rw (← ex, e, ← en) h
 
     -- the index block takes one more entry, or not
-    module _ (flag : Bool) (w : Path) (n m : ℕ) (t : List ℕ) (et : t ≡ textOf v (w .index)) (em : m ≡ count t) (fi : ℕ) (ef : fi ≡ FI p) (r : Extend) where
+    module _ (flag : Bool) (w : Path) (n m : ℕ) (t : List ℕ) (et : t ≡ textOf v (w .index)) (em : m ≡ count (indexShape p) t)
+        (fi : ℕ) (ef : fi ≡ FI p) (r : Extend) where
       pub new-start : m < fi → asExtend r ≡ startDeed v flag way w n → asExtend r ≡ newAt v flag way w n
       unfolding newAt
       new-start l h = rw (← et, ← em, ← ef, lt-ltb _ _ l) h
@@ -148,14 +149,14 @@ module _ (p : Description) (cur : ℕ) (f b : List ℕ) where
           section-is y e = rw (← eg, ed, ne-eqb _ _ some, ← ex, e)
 
     -- its count, and the key of the record before the end record
-    module _ (flag : Bool) (key : List ℕ) (n : ℕ) (en : n ≡ count (textAt v way)) where
+    module _ (flag : Bool) (key : List ℕ) (n : ℕ) (en : n ≡ count (detailShape p) (textAt v way)) where
       pub extend-alone : (r : Extend) → n ≡ 1 → asExtend r ≡ aloneDeed v key way → asExtend r ≡ extendAt v flag key way
       unfolding extendAt
       extend-alone r e h = rw (← en, eq-eqb _ _ e) h
 
       module _ (t : List ℕ) (et : t ≡ textAt v way) (ne : n ≡ 1 → ⊥) where
-        two : n ≡ count t
-        two = en ∙ ap count (sym et)
+        two : n ≡ count (detailShape p) t
+        two = en ∙ ap (count (detailShape p)) (sym et)
 
         pub more-records : AtFits v way → Fitting p f b → RecordsIn p t 2
         more-records h fit =
@@ -168,7 +169,7 @@ module _ (p : Description) (cur : ℕ) (f b : List ℕ) where
               most = omega arith;
             }
 
-        module _ (a : Bool) (ea : a ≡ keyLt (keyAt (detailShape p) t (count t - 2)) key) where
+        module _ (a : Bool) (ea : a ≡ keyLt (keyAt (detailShape p) t (count (detailShape p) t - 2)) key) where
           pub extend-stop : not a ≡ true → passed (extend-is.Stop way 0 outOfSequence) ≡ extendAt v flag key way
           unfolding extendAt
           extend-stop y = rw (← et, ← ea, ← two, ne-eqb _ _ ne, not-true a y)

@@ -69,7 +69,7 @@ module _ (p : Description) (cur : ℕ) (f b : List ℕ) (flag : Bool) (s : Start
 
   -- it has room
   module _ (e₁ : f₁ ≡ startedFile v flag s work) (new : NewFits v flag s) (fit : Fitting p f b) (hw : length work ≡ p .wpr) where
-    pub started-room : count (blockAt p f₁ (s .path .index)) < I p
+    pub started-room : count (indexShape p) (blockAt p f₁ (s .path .index)) < I p
     started-room = rw (index-text e₁ (new .start) fit hw) (new .room)
 
     pub new-told : (f₂ : List ℕ)
@@ -107,7 +107,8 @@ module _ (p : Description) (cur : ℕ) (f b : List ℕ) (flag : Bool) (s : Start
         let y : List ℕ = bounded (indexShape p) (keyIn p work) (textOf v i) in
         let ready = both .start .ready in
         let hy : length y ≡ p .wpb = index-bounded v fit flag work hw (s .way) (ready .reached) (s .path) (ready .path) in
-        let top : List ℕ → List ℕ = λ z. extended p (masterShape p) (keyIn p work) x (putBlock p z x (laid (p .wpb) 1 (onesEntry p (s .new .block)))) in
+        let u : List ℕ = laid (p .wpb) (indexShape p .tag + 1) (onesEntry p (s .new .block)) in
+        let top : List ℕ → List ℕ = λ z. extended p (masterShape p) (keyIn p work) x (putBlock p z x u) in
         let e : f₂ ≡ top (putBlock p (startedFile v flag s work) i y) = rw (e₂, index-text e₁ (both .start) fit hw, e₁) in
         e ∙ ap top (absorbed v flag s work (both .start) fit hw y hy)
         ∙ ap (extended p (masterShape p) (keyIn p work) x) (sym (written-append p (reached v flag (s .way) .moves)

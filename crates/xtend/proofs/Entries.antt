@@ -53,21 +53,21 @@ module _ (p : Description) (h : Shape) (t key : List ℕ) (last : LastIn p h t k
       length-part 0 (p .k) key (omega arith)
 
   -- the last row begins with a key
-  pub last-within : (n : ℕ) → n ≡ count t → place h (n - 1) + p .k ≤ length t
+  pub last-within : (n : ℕ) → n ≡ count h t → place h (n - 1) + p .k ≤ length t
   last-within n e =
       let a = last .least in
       let b = last .within in
       let s = last .stride in
-      let r = row-lt (count t - 1) (count t) (h .stride) (omega arith) in
+      let r = row-lt (count h t - 1) (count h t) (h .stride) (omega arith) in
       rw e (omega arith)
 
   pub length-bounded : length (bounded h (part 0 (p .k) key) t) ≡ length t
   length-bounded = bounded-length p h (last .stride) (last .base) t (part 0 (p .k) key) key-length (last .least) (last .within)
 
-  pub count-bounded : count (bounded h (part 0 (p .k) key) t) ≡ count t
+  pub count-bounded : count h (bounded h (part 0 (p .k) key) t) ≡ count h t
   count-bounded = bounded-count p h (last .stride) (last .base) t (part 0 (p .k) key) key-length (last .least) (last .within)
 
-pub bounded-by : (h : Shape) (key t r : List ℕ) (n : ℕ) → r ≡ replaced h (n - 1) key t → n ≡ count t → r ≡ bounded h key t
+pub bounded-by : (h : Shape) (key t r : List ℕ) (n : ℕ) → r ≡ replaced h (n - 1) key t → n ≡ count h t → r ≡ bounded h key t
 unfolding bounded
 bounded-by h key t r n er en = rw (er, en)
 
@@ -89,19 +89,19 @@ module _ (p : Description) (h : Shape) (t key : List ℕ) (b : ℕ) (room : Last
 
   -- the table once its last bound is the key
   module _ (u : List ℕ) (e : u ≡ bounded h (part 0 (p .k) key) t) where
-    pub bounded-room : place h (count u) + h .stride ≤ length u
+    pub bounded-room : place h (count h u) + h .stride ≤ length u
     bounded-room = rw (e, count-bounded p h t key (room .last), length-bounded p h t key (room .last)) (room .room)
 
-    pub bounded-most : count u < 262143
+    pub bounded-most : h .tag + count h u < 262143
     bounded-most = rw (e, count-bounded p h t key (room .last)) (room .most)
 
-    pub bounded-place : (n : ℕ) → n ≡ count t → n ≤ count u
+    pub bounded-place : (n : ℕ) → n ≡ count h t → n ≤ count h u
     bounded-place n en =
-        let c : count u ≡ count t = ap count e ∙ count-bounded p h t key (room .last) in
+        let c : count h u ≡ count h t = ap (count h) e ∙ count-bounded p h t key (room .last) in
         omega arith
 
 pub extended-by : (p : Description) (h : Shape) (key : List ℕ) (b n : ℕ) (entry t t₁ t₂ : List ℕ)
-    → t₂ ≡ inserted h n (part 0 (h .stride) entry) t₁ → t₁ ≡ bounded h (part 0 (p .k) key) t → n ≡ count t
+    → t₂ ≡ inserted h n (part 0 (h .stride) entry) t₁ → t₁ ≡ bounded h (part 0 (p .k) key) t → n ≡ count h t
     → part 0 (p .k + 1) entry ≡ ones (p .k) ++ (b ∷ []) → LastRoomIn p h t key b
     → t₂ ≡ extended p h (part 0 (p .k) key) b t
 unfolding extended

@@ -12,7 +12,7 @@ use Rattle.numbers.specs.Checked.{passed, require}
 use Rattle.words.specs.Words.{part}
 use Rattle.table.specs.Tables.{count}
 use Rattle.drum.specs.declared.Description.{Description}
-use Rattle.drum.specs.Params.{D, FD, FI, goodParams}
+use Rattle.drum.specs.Params.{D, FD, FI, goodParams, detailShape, indexShape}
 use Rattle.drum.specs.Blocks.{Texts, Fitting, seen, textOf}
 use Rattle.drum.proofs.Good.{caps}
 use Rattle.drum.proofs.Blocks.{length-textOf, text-current}
@@ -42,7 +42,7 @@ module _ (v : Texts) where
   way-at flag Here h = h
   way-at flag (By w) h = h .0
 
-  pub at-counts : (way : Way) → AtFits v way → (1 ≤ count (textAt v way)) × (count (textAt v way) ≤ D (v .desc))
+  pub at-counts : (way : Way) → AtFits v way → (1 ≤ count (detailShape (v .desc)) (textAt v way)) × (count (detailShape (v .desc)) (textAt v way) ≤ D (v .desc))
   at-counts Here h = (h .records-least, h .records-most)
   at-counts (By w) h = (h .records-least, h .records-most)
 
@@ -77,12 +77,12 @@ module _ (v : Texts) where
 
 -- the end record starts a new block
 module _ (v : Texts) (flag : Bool) (way : Way) (reached : WayFits v flag way) (w : Path) (last : LastFits v way w) (n : ℕ) where
-  new-facts : (d : Taken) → takeOne v flag w ≡ passed d → ltb (count (textOf v (w .index))) (FI (v .desc)) ≡ true → eqb (d .block) 0 ≡ false
-      → NewFits v flag (starting way w d)
+  new-facts : (d : Taken) → takeOne v flag w ≡ passed d → ltb (count (indexShape (v .desc)) (textOf v (w .index))) (FI (v .desc)) ≡ true
+      → eqb (d .block) 0 ≡ false → NewFits v flag (starting way w d)
   unfolding FI
   new-facts d e l z =
       let one = one-new v flag w d e z in
-      let m = ltb-true (count (textOf v (w .index))) (FI (v .desc)) l in
+      let m = ltb-true (count (indexShape (v .desc)) (textOf v (w .index))) (FI (v .desc)) l in
       record {
         start = record {
           ready = record { reached = reached; path = last .path; text = last .text; head-most = one .head-most };
@@ -114,7 +114,7 @@ module _ (v : Texts) (good : goodParams (v .desc) ≡ true) (flag : Bool) (key :
   unfolding lastRoom
   room-passed way x r = search (chain, r) depth 12
 
-  alone-passed : (way : Way) → WayFits v flag way → count (textAt v way) ≡ 1 → Passed (ExtendFits v flag) (aloneDeed v key way)
+  alone-passed : (way : Way) → WayFits v flag way → count (detailShape (v .desc)) (textAt v way) ≡ 1 → Passed (ExtendFits v flag) (aloneDeed v key way)
   unfolding aloneDeed
   alone-passed way h e =
       let g = caps (v .desc) good in
@@ -127,17 +127,17 @@ module _ (v : Texts) (good : goodParams (v .desc) ≡ true) (flag : Bool) (key :
   unfolding extendAt newDeed
   at-passed way h = search (chain, h, alone, room, new) depth 12
     where
-      alone : eqb (count (textAt v way)) 1 ≡ true → Passed (ExtendFits v flag) (aloneDeed v key way)
-      alone e = alone-passed way h (eqb-true (count (textAt v way)) 1 e)
+      alone : eqb (count (detailShape (v .desc)) (textAt v way)) 1 ≡ true → Passed (ExtendFits v flag) (aloneDeed v key way)
+      alone e = alone-passed way h (eqb-true (count (detailShape (v .desc)) (textAt v way)) 1 e)
 
-      room : ltb (count (textAt v way)) (FD (v .desc)) ≡ true → Passed (ExtendFits v flag) (lastRoom v way 0)
+      room : ltb (count (detailShape (v .desc)) (textAt v way)) (FD (v .desc)) ≡ true → Passed (ExtendFits v flag) (lastRoom v way 0)
       room e =
           let g = caps (v .desc) good in
-          let m = ltb-true (count (textAt v way)) (FD (v .desc)) e in
+          let m = ltb-true (count (detailShape (v .desc)) (textAt v way)) (FD (v .desc)) e in
           room-passed way 0 (record { reached = h; room = omega arith })
 
-      new : (w : Path) → lastOf v way ≡ passed w → Passed (ExtendFits v flag) (newAt v flag way w (count (textAt v way)))
-      new w e = new-passed v flag way h w (last-fits v way (way-at v flag way h) w e) (count (textAt v way))
+      new : (w : Path) → lastOf v way ≡ passed w → Passed (ExtendFits v flag) (newAt v flag way w (count (detailShape (v .desc)) (textAt v way)))
+      new w e = new-passed v flag way h w (last-fits v way (way-at v flag way h) w e) (count (detailShape (v .desc)) (textAt v way))
 
   deed-passed : Passed (ExtendFits v flag) (extendDeed v flag key)
   unfolding extendDeed

@@ -77,7 +77,7 @@ module _ (p : Description) (t : List ℕ) (m : ℕ) (has : RecordsIn p t m) wher
       omega arith
 
 -- the last record
-module _ (p : Description) (t : List ℕ) (n : ℕ) (en : n ≡ count t) where
+module _ (p : Description) (t : List ℕ) (n : ℕ) (en : n ≡ count (detailShape p) t) where
   module _ (has : RecordsIn p t 1) where
     last-row : RowIn p t (n - 1)
     last-row =
@@ -140,7 +140,7 @@ module _ (p : Description) (t : List ℕ) (n : ℕ) (en : n ≡ count t) where
     before-start = before-row .start
 
   pub above-told : (r : Bool) (key : List ℕ) → r ≡ keyLt (part (1 + (n - 2) * p .wpr) (p .k) t) (part 0 (p .k) key)
-      → r ≡ keyLt (keyAt (detailShape p) t (count t - 2)) (part 0 (p .k) key)
+      → r ≡ keyLt (keyAt (detailShape p) t (count (detailShape p) t - 2)) (part 0 (p .k) key)
   unfolding keyAt detailShape
   above-told r key e = rw en at e
 

@@ -14,6 +14,7 @@ use Rattle.drum.specs.Params.{I, fileSize, masterShape, indexShape}
 use Rattle.drum.specs.Blocks.{Block, blockAt, putBlock, sections}
 use Rattle.drum.specs.Inside.{Takes}
 use Rattle.drum.proofs.Good.{caps}
+use Rattle.drum.proofs.Forms.{index-tag, count-master}
 use Rattle.drum.proofs.Blocks.{length-block, length-putBlock, block-same, master-word}
 use Rattle.drum.proofs.Lent.{changed-twice}
 use Rattle.rules.specs.XtendDone.{onesEntry, bounded, extended}
@@ -37,13 +38,13 @@ module _ (p : Description) (f : List ℕ) (i : ℕ) (key : List ℕ) (has : Inde
     base = omega arith;
     stride = refl;
     least = has .least;
-    within = rw index-length (index-end p (has .held .good) (count (blockAt p f i)) (has .most));
+    within = rw index-length (index-end p (has .held .good) (count (indexShape p) (blockAt p f i)) (has .most));
     key-is = has .key-is;
   }
 
   -- its last bound can become the key
   module _ (h : Shape) (eh : h ≡ indexShape p) where
-    pub bound-place : (n : ℕ) → n ≡ count (blockAt p f i) → place h (n - 1) + h .width ≤ p .wpb
+    pub bound-place : (n : ℕ) → n ≡ count (indexShape p) (blockAt p f i) → place h (n - 1) + h .width ≤ p .wpb
     unfolding indexShape
     bound-place n en =
         let r = last-within p (indexShape p) (blockAt p f i) key index-last n en in
@@ -71,7 +72,7 @@ module _ (p : Description) (f : List ℕ) (i : ℕ) (key : List ℕ) (has : Inde
   pub bound-length : length (bounded (indexShape p) (part 0 (p .k) key) (blockAt p f i)) ≡ p .wpb
   bound-length = length-bounded p (indexShape p) (blockAt p f i) key index-last ∙ index-length
 
-  index-room : (b : ℕ) → b ≤ p .n → count (blockAt p f i) < I p → LastRoomIn p (indexShape p) (blockAt p f i) key b
+  index-room : (b : ℕ) → b ≤ p .n → count (indexShape p) (blockAt p f i) < I p → LastRoomIn p (indexShape p) (blockAt p f i) key b
   unfolding indexShape
   index-room b hb room =
       let g = caps p (has .held .good) in
@@ -79,8 +80,8 @@ module _ (p : Description) (f : List ℕ) (i : ℕ) (key : List ℕ) (has : Inde
       record {
         good = has .held .good;
         last = index-last;
-        most = omega arith;
-        room = rw index-length (index-row p (has .held .good) (count (blockAt p f i)) room);
+        most = omega (arith, index-tag p (has .held .good));
+        room = rw index-length (index-row p (has .held .good) (count (indexShape p) (blockAt p f i)) room);
         block = omega arith;
       }
 
@@ -89,43 +90,45 @@ module _ (p : Description) (f : List ℕ) (i : ℕ) (key : List ℕ) (has : Inde
     bound-text : blockAt p f₁ i ≡ bounded (indexShape p) (part 0 (p .k) key) (blockAt p f i)
     bound-text = ap (λ (z : List ℕ). blockAt p z i) e₁ ∙ block-same p f (has .held .file-is) i index-block _ bound-length
 
-    pub bound-takes : (h : Shape) (n : ℕ) → h ≡ indexShape p → n ≡ count (blockAt p f i) → count (blockAt p f i) < I p
+    pub bound-takes : (h : Shape) (n : ℕ) → h ≡ indexShape p → n ≡ count (indexShape p) (blockAt p f i) → count (indexShape p) (blockAt p f i) < I p
         → Takes h n (blockAt p f₁ i)
     unfolding indexShape
     bound-takes h n eh en room =
         let g = caps p (has .held .good) in
-        let c : count (blockAt p f₁ i) ≡ count (blockAt p f i) = ap count bound-text ∙ count-bounded p (indexShape p) (blockAt p f i) key index-last in
+        let c : count (indexShape p) (blockAt p f₁ i) ≡ count (indexShape p) (blockAt p f i) =
+        ap (count (indexShape p)) bound-text ∙ count-bounded p (indexShape p) (blockAt p f i) key index-last in
         let l : length (blockAt p f₁ i) ≡ p .wpb = ap length bound-text ∙ bound-length in
-        let r = index-row p (has .held .good) (count (blockAt p f i)) room in
+        let r = index-row p (has .held .good) (count (indexShape p) (blockAt p f i)) room in
         rw eh (record {
           counted = omega arith;
           room = rw (c, l) r;
           place-most = omega arith;
-          count-most = omega arith;
+          count-most = omega (arith, index-tag p (has .held .good));
         })
 
 index-stride : (p : Description) (h : Shape) → h ≡ indexShape p → h .stride ≡ p .k + 1
 unfolding indexShape
 index-stride p h e = rw e
 
-pub bound-told : (p : Description) (f f₁ : List ℕ) (i n : ℕ) (h : Shape) (key : List ℕ) → h ≡ indexShape p → n ≡ count (blockAt p f i)
+pub bound-told : (p : Description) (f f₁ : List ℕ) (i n : ℕ) (h : Shape) (key : List ℕ) → h ≡ indexShape p → n ≡ count (indexShape p) (blockAt p f i)
     → f₁ ≡ putBlock p f i (replaced h (n - 1) (part 0 (h .width) key) (blockAt p f i))
     → f₁ ≡ putBlock p f i (bounded (indexShape p) (part 0 (p .k) key) (blockAt p f i))
 unfolding bounded indexShape
 bound-told p f f₁ i n h key eh en e = rw (e, eh, en)
 
 module _ (p : Description) (f f₁ f₂ : List ℕ) (i n b : ℕ) (h : Shape) (key entry : List ℕ) where
-  pub extended-told : h ≡ indexShape p → n ≡ count (blockAt p f i) → part 0 (p .k + 1) entry ≡ ones (p .k) ++ (b ∷ [])
+  pub extended-told : h ≡ indexShape p → n ≡ count (indexShape p) (blockAt p f i) → part 0 (p .k + 1) entry ≡ ones (p .k) ++ (b ∷ [])
       → f₁ ≡ putBlock p f i (bounded (indexShape p) (part 0 (p .k) key) (blockAt p f i))
       → f₂ ≡ putBlock p f₁ i (inserted h n (part 0 (h .stride) entry) (blockAt p f₁ i))
-      → IndexTakes p f i key → count (blockAt p f i) < I p → b ≤ p .n
+      → IndexTakes p f i key → count (indexShape p) (blockAt p f i) < I p → b ≤ p .n
       → f₂ ≡ putBlock p f i (extended p (indexShape p) (part 0 (p .k) key) b (blockAt p f i))
   unfolding extended
   extended-told eh en e e₁ e₂ has room hb =
       let q : part 0 (h .stride) entry ≡ onesEntry p b = entry-is p h b entry (index-stride p h eh) e in
-      let g : f₂ ≡ putBlock p f₁ i (inserted (indexShape p) (count (blockAt p f i)) (onesEntry p b) (blockAt p f₁ i)) = rw (e₂, q, eh, en) in
+      let g : f₂ ≡ putBlock p f₁ i (inserted (indexShape p) (count (indexShape p) (blockAt p f i)) (onesEntry p b) (blockAt p f₁ i)) = rw (e₂, q, eh, en) in
       let l = length-extended p (indexShape p) (blockAt p f i) key b (index-room p f i key has b hb room) ∙ index-length p f i key has in
-      changed-twice p f f₁ f₂ i _ _ (has .held) (bound-length p f i key has) l e₁ (inserted (indexShape p) (count (blockAt p f i)) (onesEntry p b)) g refl
+      changed-twice p f f₁ f₂ i _ _ (has .held) (bound-length p f i key has) l e₁
+      (inserted (indexShape p) (count (indexShape p) (blockAt p f i)) (onesEntry p b)) g refl
 
 -- a new index block x, and its section
 module _ (p : Description) (f : List ℕ) (i : ℕ) (key : List ℕ) (b x : ℕ) (has : SectionIn p f i key b x) where
@@ -145,11 +148,11 @@ module _ (p : Description) (f : List ℕ) (i : ℕ) (key : List ℕ) (b x : ℕ)
   old-block : Block p i
   old-block = (has .old .held .least, has .old .held .most)
 
-  laid-is : length (laid (p .wpb) 1 (onesEntry p b)) ≡ p .wpb
+  laid-is : length (laid (p .wpb) (indexShape p .tag + 1) (onesEntry p b)) ≡ p .wpb
   laid-is =
       let g = caps p (has .old .held .good) in
       let l = ones-length p b in
-      length-laid (p .wpb) 1 (onesEntry p b) (omega arith)
+      length-laid (p .wpb) (indexShape p .tag + 1) (onesEntry p b) (omega arith)
 
   bounded-is : length (putBlock p f i (bounded (indexShape p) (part 0 (p .k) key) (blockAt p f i))) ≡ fileSize p
   bounded-is = length-putBlock p f (has .old .held .file-is) i old-block _ (bound-length p f i key (has .old))
@@ -179,7 +182,7 @@ module _ (p : Description) (f : List ℕ) (i : ℕ) (key : List ℕ) (b x : ℕ)
   indexed-room =
       let g = caps p (has .old .held .good) in
       let q = g .facts in
-      let s : count (indexed p (part 0 (p .k) key) i b x f) ≡ sections f = sections-indexed in
+      let s : count (masterShape p) (indexed p (part 0 (p .k) key) i b x f) ≡ sections f = count-master p _ ∙ sections-indexed in
       let l = length-indexed in
       let a = has .least in
       let c = has .room in
@@ -201,11 +204,11 @@ module _ (p : Description) (f : List ℕ) (i : ℕ) (key : List ℕ) (b x : ℕ)
 
 -- `start_index` and `start_section`, by what their calls left
 module _ (p : Description) (f : List ℕ) (i : ℕ) (key : List ℕ) (b x : ℕ) where
-  pub indexed-by : (f₁ f₂ entry : List ℕ) → part 0 (p .k + 1) entry ≡ ones (p .k) ++ (b ∷ [])
+  pub indexed-by : (h : Shape) (f₁ f₂ entry : List ℕ) → h ≡ indexShape p → part 0 (p .k + 1) entry ≡ ones (p .k) ++ (b ∷ [])
       → f₁ ≡ putBlock p f i (bounded (indexShape p) (part 0 (p .k) key) (blockAt p f i))
-      → f₂ ≡ putBlock p f₁ x (laid (p .wpb) 1 (take (p .k + 1 - 0) (drop 0 entry))) → f₂ ≡ indexed p (part 0 (p .k) key) i b x f
+      → f₂ ≡ putBlock p f₁ x (laid (p .wpb) (h .tag + 1) (take (p .k + 1 - 0) (drop 0 entry))) → f₂ ≡ indexed p (part 0 (p .k) key) i b x f
   unfolding indexed onesEntry part
-  indexed-by f₁ f₂ entry e e₁ e₂ = rw (e₂, z, e, e₁)
+  indexed-by h f₁ f₂ entry eh e e₁ e₂ = rw (e₂, eh, z, e, e₁)
     where
       z : p .k + 1 - 0 ≡ p .k + 1
       z = omega arith

@@ -30,8 +30,8 @@ still-fits : (p : Description) (f b g t : List ℕ) → length g ≡ length f �
 still-fits p f b g t eg et fit = record { good = fit .good; file-is = eg ∙ fit .file-is; buffer-is = et ∙ fit .buffer-is }
 
 -- `swap_end`, by what its calls left
-pub swapped-by : (p : Description) (h : Shape) (b old n : ℕ) (f f₁ f₂ t t₁ work : List ℕ) → h ≡ detailShape p → n ≡ count t
-    → f₁ ≡ putBlock p f b (laid (p .wpb) 1 (take (1 + (n - 1) * p .wpr + p .wpr - (1 + (n - 1) * p .wpr)) (drop (1 + (n - 1) * p .wpr) t)))
+pub swapped-by : (p : Description) (h : Shape) (b old n : ℕ) (f f₁ f₂ t t₁ work : List ℕ) → h ≡ detailShape p → n ≡ count (detailShape p) t
+    → f₁ ≡ putBlock p f b (laid (p .wpb) (h .tag + 1) (take (1 + (n - 1) * p .wpr + p .wpr - (1 + (n - 1) * p .wpr)) (drop (1 + (n - 1) * p .wpr) t)))
     → t₁ ≡ replaced h (n - 1) (part 0 (p .wpr) work) t → f₂ ≡ putBlock p f₁ old t₁ → f₂ ≡ swapped p b old work t f
 unfolding swapped row detailShape
 swapped-by p h b old n f f₁ f₂ t t₁ work eh en e₁ et e₂ = rw (e₂, e₁, span (1 + (n - 1) * p .wpr) (p .wpr) t, et, eh, en)

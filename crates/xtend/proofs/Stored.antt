@@ -15,6 +15,7 @@ use Rattle.drum.specs.declared.Description.{Description}
 use Rattle.drum.specs.Params.{D, detailShape}
 use Rattle.drum.specs.Blocks.{Fitting, Read, Texts, seen}
 use Rattle.drum.proofs.Good.{caps}
+use Rattle.drum.proofs.Forms.{detail-tag}
 use Rattle.rules.specs.declared.Way.{Way}
 use Rattle.rules.specs.declared.Done.{Done}
 use Rattle.rules.specs.State.{recordIn}
@@ -71,35 +72,38 @@ module _ (p : Description) (cur : ℕ) (f b : List ℕ) (flag : Bool) (way : Way
         let l = text-length in
         omega arith
 
-    pub end-least : (n : ℕ) → n ≡ count t → 1 ≤ n
+    pub end-least : (n : ℕ) → n ≡ count (detailShape p) t → 1 ≤ n
     end-least n en =
         let c = way-counts v flag way (fits .reached) in
-        let m : count t ≡ count (textAt v way) = ap count text-is in
+        let m : count (detailShape p) t ≡ count (detailShape p) (textAt v way) = ap (count (detailShape p)) text-is in
         omega arith
 
-    text-room : count t < D p
+    text-room : count (detailShape p) t < D p
     text-room = rw text-is (fits .room)
 
-    pub insert-room : (h : Shape) → h ≡ detailShape p → place h (count t) + h .stride ≤ length t
+    pub insert-room : (h : Shape) → h ≡ detailShape p → place h (count h t) + h .stride ≤ length t
     unfolding detailShape
     insert-room h eh =
-        let r = detail-row p (fit .good) (count t) text-room in
+        let r = detail-row p (fit .good) (count (detailShape p) t) text-room in
         rw (eh, text-length) r
 
-    pub insert-most : count t < 262143
-    insert-most =
+    pub insert-most : (h : Shape) → h ≡ detailShape p → h .tag + count h t < 262143
+    insert-most h eh =
         let q = caps p (fit .good) in
         let r = text-room in
-        omega arith
+        rw eh (omega (arith, detail-tag p (fit .good)))
+
+  pub insert-place : (h : Shape) (n : ℕ) → n ≡ count (detailShape p) t → h ≡ detailShape p → n - 1 ≤ count h t
+  insert-place h n en eh = rw (eh, ← en) (omega arith)
 
   pub stored-told : (h : Shape) (n number : ℕ) (u work : List ℕ) → came a g t ≡ come (reached v flag way)
-      → u ≡ inserted h (n - 1) (part 0 (h .stride) work) t → n ≡ count t → h ≡ detailShape p
+      → u ≡ inserted h (n - 1) (part 0 (h .stride) work) t → n ≡ count (detailShape p) t → h ≡ detailShape p
       → gave (record { number = number; transfers = a .transfers; current = a .current; flag = true; keyed = true }) g u work
       ≡ told v flag work (roomDone v flag work way number)
   unfolding roomDone storing detailShape
   stored-told h n number u work e eu en eh =
       let et : t ≡ reached v flag way .buffer = ap (λ (z : Come). z .buffer) e in
-      let s : List ℕ → List ℕ = λ z. inserted (detailShape p) (count z - 1) (recordIn p work) z in
+      let s : List ℕ → List ℕ = λ z. inserted (detailShape p) (count (detailShape p) z - 1) (recordIn p work) z in
       let x : u ≡ s t = rw (eu, en, eh) in
       let y : u ≡ s (reached v flag way .buffer) = x ∙ ap s et in
       λ j. record {
@@ -164,7 +168,8 @@ module _ (v : Texts) (flag : Bool) (way : Way) (n x : ℕ) (work : List ℕ) (d 
   pub room-besides : gave d g t work ≡ told v flag work (roomDone v flag work way n)
       → gave (besides x d) g t work
       ≡ told v flag work (passed (storing n work (reading x (reached v flag way))
-      (inserted (detailShape (v .desc)) (count (reached v flag way .buffer) - 1) (recordIn (v .desc) work) (reached v flag way .buffer))))
+      (inserted (detailShape (v .desc)) (count (detailShape (v .desc)) (reached v flag way .buffer) - 1) (recordIn (v .desc) work)
+      (reached v flag way .buffer))))
   unfolding roomDone storing reading besides
   room-besides e =
       let c = counted (ap (λ (z : Told). z .transfers) e) in

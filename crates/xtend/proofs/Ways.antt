@@ -9,6 +9,7 @@ use lib.ListN.{length}
 use Rattle.numbers.specs.Numbers.{badFile}
 use Rattle.numbers.specs.Checked.{passed, refused}
 use Rattle.table.specs.Tables.{count}
+use Rattle.drum.specs.Params.{detailShape}
 use Rattle.drum.specs.declared.Description.{Description}
 use Rattle.drum.specs.Blocks.{Fitting, Block, Texts, seen, textOf}
 use Rattle.drum.proofs.Good.{caps}
@@ -143,7 +144,7 @@ module _ (p : Description) (cur : ℕ) (f b : List ℕ) where
         let l = ap length et ∙ at-length v way fit h in
         omega arith
 
-    pub count-told : (n : ℕ) (t : List ℕ) → n ≡ count t → t ≡ textAt v way → n ≡ count (textAt v way)
+    pub count-told : (n : ℕ) (t : List ℕ) → n ≡ count (detailShape p) t → t ≡ textAt v way → n ≡ count (detailShape p) (textAt v way)
     count-told n t en et = rw et at en
 
   -- the way that was found

@@ -7,7 +7,7 @@ use lib.ListN.{length}
 use Rattle.table.specs.declared.Shape.{Shape}
 use Rattle.table.specs.Tables.{count, place}
 use Rattle.drum.specs.declared.Description.{Description}
-use Rattle.drum.specs.Params.{D, I, goodParams}
+use Rattle.drum.specs.Params.{D, I, goodParams, detailShape, indexShape}
 use Rattle.drum.specs.Blocks.{Texts, Fitting, textOf, blockAt, sections, Block}
 use Rattle.drum.specs.Inside.{HasBlock}
 use Rattle.rules.specs.declared.Way.{Way}
@@ -28,7 +28,7 @@ AtFits v (By w) = PathFits v w
 -- what a plan to insert tells the code that carries it out [C26]
 pub record LastTakes (v : Texts) (flag : Bool) (way : Way) : Type 0 where
   pub reached : WayFits v flag way
-  pub room : count (textAt v way) < D (v .desc)
+  pub room : count (detailShape (v .desc)) (textAt v way) < D (v .desc)
 
 -- the end record starts a block: what both kinds of a new block have
 pub record StartFits (v : Texts) (flag : Bool) (s : Start) : Type 0 where
@@ -38,7 +38,7 @@ pub record StartFits (v : Texts) (flag : Bool) (s : Start) : Type 0 where
 -- what a plan to start a block tells it [C27]
 pub record NewFits (v : Texts) (flag : Bool) (s : Start) : Type 0 where
   pub start : StartFits v flag s
-  pub room : count (textOf v (s .path .index)) < I (v .desc)
+  pub room : count (indexShape (v .desc)) (textOf v (s .path .index)) < I (v .desc)
 
 -- what a plan to start a section too tells it: x is the new index block [C29]
 pub record SectionFits (v : Texts) (flag : Bool) (s : Start) (x : ℕ) : Type 0 where
@@ -59,8 +59,8 @@ ExtendFits v flag (extend-is.Both way w b x n) =
 pub record RecordsIn (p : Description) (t : List ℕ) (n : ℕ) : Type 0 where
   pub good : goodParams p ≡ true
   pub text-is : length t ≡ p .wpb
-  pub least : n ≤ count t
-  pub most : count t ≤ D p
+  pub least : n ≤ count (detailShape p) t
+  pub most : count (detailShape p) t ≤ D p
 
 -- the last block's text in the buffer, with the record that takes the end record's place
 pub record EndIn (p : Description) (f b work : List ℕ) : Type 0 where
@@ -72,23 +72,23 @@ pub record EndIn (p : Description) (f b work : List ℕ) : Type 0 where
 pub record LastIn (p : Description) (h : Shape) (t key : List ℕ) : Type 0 where
   pub base : 1 ≤ h .base
   pub stride : h .stride ≡ p .k + 1
-  pub least : 1 ≤ count t
-  pub within : place h (count t) ≤ length t
+  pub least : 1 ≤ count h t
+  pub within : place h (count h t) ≤ length t
   pub key-is : p .k ≤ length key
 
 -- the same with room for an entry more, of block b
 pub record LastRoomIn (p : Description) (h : Shape) (t key : List ℕ) (b : ℕ) : Type 0 where
   pub good : goodParams p ≡ true
   pub last : LastIn p h t key
-  pub most : count t < 262143
-  pub room : place h (count t) + h .stride ≤ length t
+  pub most : h .tag + count h t < 262143
+  pub room : place h (count h t) + h .stride ≤ length t
   pub block : b ≤ 262143
 
 -- index block i, where it lies in the file, and a key for its last bound
 pub record IndexTakes (p : Description) (f : List ℕ) (i : ℕ) (key : List ℕ) : Type 0 where
   pub held : HasBlock p f i
-  pub least : 1 ≤ count (blockAt p f i)
-  pub most : count (blockAt p f i) ≤ I p
+  pub least : 1 ≤ count (indexShape p) (blockAt p f i)
+  pub most : count (indexShape p) (blockAt p f i) ≤ I p
   pub key-is : p .k ≤ length key
 
 -- the same with a new index block x for the entry of block b, and room for its section

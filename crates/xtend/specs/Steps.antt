@@ -34,7 +34,7 @@ besides x d = record {
 unfoldable pub roomDone : Texts → Bool → List ℕ → Way → ℕ → Checked Effect
 roomDone v flag work way n =
     let here = reached v flag way in
-    passed (storing n work here (inserted (detailShape (v .desc)) (count (here .buffer) - 1) (recordIn (v .desc) work) (here .buffer)))
+    passed (storing n work here (inserted (detailShape (v .desc)) (count (detailShape (v .desc)) (here .buffer) - 1) (recordIn (v .desc) work) (here .buffer)))
 
 -- a new block to be started, of its three parts
 abbrev pub starting : Way → Path → Taken → Start
@@ -43,8 +43,8 @@ starting way w d = record { way = way; path = w; new = d }
 -- "the record takes the end record's place and the end record starts a new block": t is the old block's text, b the new block [C27]
 unfoldable pub swapped : Description → ℕ → ℕ → List ℕ → List ℕ → List ℕ → List ℕ
 swapped p b old work t f =
-    putBlock p (putBlock p f b (laid (p .wpb) 1 (row (detailShape p) t (count t - 1)))) old
-    (replaced (detailShape p) (count t - 1) (recordIn p work) t)
+    putBlock p (putBlock p f b (laid (p .wpb) (detailShape p .tag + 1) (row (detailShape p) t (count (detailShape p) t - 1)))) old
+    (replaced (detailShape p) (count (detailShape p) t - 1) (recordIn p work) t)
 
 -- the file with the new block laid [C27]
 unfoldable pub startedFile : Texts → Bool → Start → List ℕ → List ℕ
@@ -52,7 +52,8 @@ startedFile v flag s work = swapped (v .desc) (s .new .block) (s .path .detail) 
 
 -- "the entry starts a new index block": i is the old index block, its last bound the key, and x the new one with the entry for block b [C29]
 unfoldable pub indexed : Description → List ℕ → ℕ → ℕ → ℕ → List ℕ → List ℕ
-indexed p key i b x f = putBlock p (putBlock p f i (bounded (indexShape p) key (blockAt p f i))) x (laid (p .wpb) 1 (onesEntry p b))
+indexed p key i b x f =
+    putBlock p (putBlock p f i (bounded (indexShape p) key (blockAt p f i))) x (laid (p .wpb) (indexShape p .tag + 1) (onesEntry p b))
 
 -- "and section, the old section's bound becoming the key" [C29]
 unfoldable pub sectioned : Description → List ℕ → ℕ → ℕ → ℕ → List ℕ → List ℕ

@@ -63,7 +63,7 @@ fn store_last(
 {
     let p = at.desc;
     let here = acts::reach(at, file, buffer, way);
-    let n = words::word_at(buffer, 0);
+    let n = drum::kinds::records_in(p, buffer);
     table::insert_row(p.detail_shape(), buffer, n - 1, work, 0);
     Done {
         number,
@@ -87,11 +87,12 @@ fn swap_end(
     ensures { λ _. ⌜ became file ≡ swapped p b old (was work) (was buffer) (was file) ⌝ }
 {
     let wpr = p.wpr;
-    let i = words::word_at(buffer, 0) - 1;
+    let h = p.detail_shape();
+    let i = drum::kinds::records_in(p, buffer) - 1;
     let from = 1 + i * wpr;
     let end = from + wpr;
-    drum::inside::lay_block(p, file, b, 1, &buffer[from..end]);
-    table::replace_row(p.detail_shape(), buffer, i, work, 0, wpr);
+    drum::inside::lay_block(p, file, b, h.tag + 1, &buffer[from..end]);
+    table::replace_row(h, buffer, i, work, 0, wpr);
     drum::write_block(p, file, buffer, old);
 }
 

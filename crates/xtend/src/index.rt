@@ -29,7 +29,7 @@ fn set_bound(p: Description, h: Shape, t: &mut [u32], key: &[u32])
     requires { ⌜ LastIn p h (now t) (now key) ⌝ }
     ensures { λ _. ⌜ became t ≡ bounded h (part 0 (p .k) (was key)) (was t) ⌝ }
 {
-    let last = words::word_at(t, 0) - 1;
+    let last = table::count_of(h, t) - 1;
     table::replace_row(h, t, last, key, 0, p.k);
 }
 
@@ -39,7 +39,7 @@ fn extend(p: Description, h: Shape, t: &mut [u32], key: &[u32], b: usize)
     ensures { λ _. ⌜ became t ≡ extended p h (part 0 (p .k) (was key)) b (was t) ⌝ }
 {
     let entry = ones_entry(p.k, b);
-    let n = words::word_at(t, 0);
+    let n = table::count_of(h, t);
     set_bound(p, h, t, key);
     table::insert_row(h, t, n, &entry, 0);
 }
@@ -52,14 +52,14 @@ fn bound_in(p: Description, file: &mut [u32], i: usize, key: &[u32])
         ≡ putBlock p (was file) i (bounded (indexShape p) (part 0 (p .k) (was key)) (blockAt p (was file) i))
         ⌝ }
 {
-    let n = drum::inside::count_in(p, file, i);
+    let n = drum::inside::entries_of(p, file, i);
     drum::inside::set_key_in(p, file, i, p.index_shape(), n - 1, key);
 }
 
 // The same, and an entry with the bound ONES for block b is put in behind it.
 pub fn extend_in(p: Description, file: &mut [u32], i: usize, key: &[u32], b: usize)
     requires { ⌜
-        IndexTakes p (now file) i (now key) × (count (blockAt p (now file) i) < I p) × (b ≤ p .n)
+        IndexTakes p (now file) i (now key) × (count (indexShape p) (blockAt p (now file) i) < I p) × (b ≤ p .n)
         ⌝ }
     ensures { λ _. ⌜
         became file
@@ -67,7 +67,7 @@ pub fn extend_in(p: Description, file: &mut [u32], i: usize, key: &[u32], b: usi
         ⌝ }
 {
     let entry = ones_entry(p.k, b);
-    let n = drum::inside::count_in(p, file, i);
+    let n = drum::inside::entries_of(p, file, i);
     bound_in(p, file, i, key);
     drum::inside::insert_in(p, file, i, p.index_shape(), n, &entry);
 }
@@ -79,8 +79,9 @@ fn start_index(p: Description, file: &mut [u32], key: &[u32], i: usize, b: usize
 {
     let entry = ones_entry(p.k, b);
     let end = p.k + 1;
+    let h = p.index_shape();
     bound_in(p, file, i, key);
-    drum::inside::lay_block(p, file, x, 1, &entry[0..end]);
+    drum::inside::lay_block(p, file, x, h.tag + 1, &entry[0..end]);
 }
 
 // The same, and index block x starts a section.

@@ -33,16 +33,16 @@ fn ends_in_ones(p: Description, t: &[u32]) -> bool
     requires { ⌜ RecordsIn p (now t) 1 ⌝ }
     ensures { λ r. ⌜ r ≡ endsInOnes p (was t) ⌝ }
 {
-    let n = words::word_at(t, 0);
+    let n = drum::kinds::records_in(p, t);
     words::all_are(t, 1 + (n - 1) * p.wpr, p.k, 262143)
 }
 
 // Whether the key is above the highest ordinary key of a detail block's text, that of the record before the end record.
 pub fn is_above(p: Description, t: &[u32], key: &[u32]) -> bool
     requires { ⌜ RecordsIn p (now t) 2 × (p .k ≤ length (now key)) ⌝ }
-    ensures { λ r. ⌜ r ≡ keyLt (keyAt (detailShape p) (was t) (count (was t) - 2)) (part 0 (p .k) (was key)) ⌝ }
+    ensures { λ r. ⌜ r ≡ keyLt (keyAt (detailShape p) (was t) (count (detailShape p) (was t) - 2)) (part 0 (p .k) (was key)) ⌝ }
 {
-    let n = words::word_at(t, 0);
+    let n = drum::kinds::records_in(p, t);
     words::key_below(t, 1 + (n - 2) * p.wpr, key, 0, p.k)
 }
 
@@ -135,8 +135,8 @@ pub fn text_at<'a>(at: Held, file: &'a [u32], buffer: &'a [u32], way: Way) -> &'
 // How many records it holds.
 pub fn count_at<'a>(at: Held, file: &'a [u32], buffer: &'a [u32], way: Way) -> usize
     requires { ⌜ Fitting (at .desc) (now file) (now buffer) × AtFits (seenBy at (now file) (now buffer)) way ⌝ }
-    ensures { λ r. ⌜ r ≡ count (textAt (seenBy at (was file) (was buffer)) way) ⌝ }
+    ensures { λ r. ⌜ r ≡ count (detailShape (at .desc)) (textAt (seenBy at (was file) (was buffer)) way) ⌝ }
 {
     let t = text_at(at, file, buffer, way);
-    words::word_at(t, 0)
+    drum::kinds::records_in(at.desc, t)
 }

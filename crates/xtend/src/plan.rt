@@ -137,7 +137,7 @@ fn new_at<'a>(at: Held, file: &'a [u32], buffer: &'a [u32], way: Way, w: Path, n
     ensures { λ r. ⌜ asExtend r ≡ newAt (seenBy at (was file) (was buffer)) (at .flag) way w n ⌝ }
 {
     let t = drum::text_of(at.desc, at.current, file, buffer, w.index);
-    if words::word_at(t, 0) < at.desc.fi() {
+    if drum::kinds::entries_in(at.desc, t) < at.desc.fi() {
         return start_deed(at, file, buffer, way, w, n);
     }
     section_deed(at, file, buffer, way, w, n)

@@ -1,6 +1,6 @@
 -- Row by row from the top down: those from row `low` on to the new block, the others up by one in the buffer.
 use native.Mathlib.Omega.{arith}
-use Rattle.split.proofs.Shared.{Moved, rows-most, new-held, moved-start, moved-held, moved-row, moved-long, moved-place, moved-low}
+use Rattle.split.proofs.Shared.{Moved, rows-most, tag-few, new-held, moved-start, moved-held, moved-row, moved-long, moved-place, moved-low}
 use Rattle.split.proofs.Shared.{moved-sent, moved-raised, moved-file, moved-text}
 use borrow.Author.Needs.{needs}
 use Rattle.split.proofs.share_rows.Statement.{statement}
@@ -35,8 +35,8 @@ loop-again-2 c =
 
 returns : tie.Need-returns Inv-loop μ-loop
 returns c =
-    let m = c .before .before .before .before .before .before .loop .inv in
-    let e = c .before .before .before .before .before .before .before .before .before .before .before .lay-block .ensures in
+    let m = c .before .before .before .before .before .before .before .loop .inv in
+    let e = c .before .before .before .before .before .before .before .before .before .before .before .before .lay-block .ensures in
     let k = c .before .before .keep .ensures in
     (moved-file _ _ _ _ _ _ _ _ m _ e (omega arith) (omega arith), moved-text _ _ _ _ _ _ _ _ m _ k (omega arith) (omega arith))
 
@@ -48,10 +48,11 @@ share-rows-spec =
     μ-loop
     (λ c. omega (arith, rows-most))
     (λ c. omega arith)
+    (λ c. omega (arith, rows-most, tag-few))
     (λ c. search needs)
     (λ c. search needs)
     (λ c. search needs)
-    (λ c κs. (search new-held, omega (arith, rows-most), omega (arith, rows-most)))
+    (λ c κs. (search new-held, omega (arith, rows-most), omega (arith, rows-most, tag-few)))
     (λ c κs. search needs)
     (λ c. omega (arith, rows-most))
     (λ c. search moved-start)
@@ -63,8 +64,9 @@ share-rows-spec =
     raise-row-requires
     (λ c. omega arith)
     loop-again-2
+    (λ c. omega (arith, rows-most, tag-few))
     (λ c. omega (arith, moved-low))
-    (λ c κs. (omega (arith, moved-low), omega (arith, rows-most)))
+    (λ c κs. (omega (arith, moved-low), omega (arith, rows-most, tag-few)))
     (λ c. search needs)
     (λ c. search needs)
     returns)

@@ -1,7 +1,7 @@
 -- The number is good or bad.
 use native.Mathlib.Omega.{arith}
 use Rattle.free.proofs.Granting.{master-some}
-use Rattle.nsert.proofs.Planning.{few-records, room-bad, room-is}
+use Rattle.nsert.proofs.Planning.{count-next, room-bad, room-is}
 use borrow.Author.Needs.{needs}
 use Rattle.nsert.proofs.plan.room_deed.Statement.{statement}
 use Rattle.nsert.proofs.plan.room_deed.Tie as tie
@@ -11,8 +11,9 @@ room-deed-spec =
     tie.close
     (tie.spec
     (λ c κs. search needs)
+    (λ c κs. search needs)
     (λ c κs. omega (arith, master-some))
-    (λ c. omega (arith, few-records))
+    (λ c. search count-next)
     (λ c. omega (arith, master-some))
     (λ c κs. search needs)
     (λ c. search needs)
