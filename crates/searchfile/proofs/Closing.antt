@@ -75,7 +75,7 @@ close-done s rest f b g n t u e a i h o k m =
 module _ (top current : ℕ) (flag u : Bool) (k : u ≡ (not flag || between 1 top current)) (m : not u ≡ false) (on : flag ≡ true) where
   within : (1 ≤ current) × (current ≤ top)
   within =
-      let p : Description = record { wpb = 0; wpr = 0; k = 0; space = 0; control = 0; n = top } in
+      let p : Description = record { wpb = 0; wpr = 0; k = 0; space = 0; control = 0; n = top; form = 1 } in
       flush-fits (seen p current [] []) flag (sym k ∙ not-false u m) on
 
   pub flush-least : 1 ≤ current

@@ -7,3 +7,4 @@ pub mod Creating
 pub mod OneResult
 pub mod Viewing
 pub mod CopyTold
+pub mod TurnTold

@@ -3,3 +3,4 @@ pub mod Checks
 pub mod Parts
 pub mod OneResult
 pub mod Copying
+pub mod Turning

@@ -4,6 +4,7 @@ mod copying;
 mod files;
 mod records;
 mod refusals;
+mod turning;
 
 use drum::Description;
 pub use refusals::refused_key;
