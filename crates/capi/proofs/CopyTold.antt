@@ -18,7 +18,7 @@ use Rattle.capi.proofs.Words.{words-kept}
 
 -- what is told, by the test of the words
 copy-by : (ws f second m : List ℕ) (c : ℕ) (x : Bool) → isSession ws ≡ x
-    → cond x (toldCopy (countedCopy (copyFile (lent (sessionOf ws) f [] []) second c m))) (returnedCopy (packed 0 wrongSize) ws f second m)
+    → cond x (toldCopy ws (countedCopy (copyFile (lent (sessionOf ws) f [] []) second c m))) (returnedCopy (packed 0 wrongSize) ws f second m)
     ≡ calledCopy ws f second c m
 unfolding calledCopy
 copy-by ws f second m c x is = rw is
@@ -36,10 +36,11 @@ module _ (ws : List ℕ) (t : Bool) where
   unfolding copyFile
   copy-called s a f second m x n c r e same p q h =
       let yes : isSession ws ≡ true = sym q ∙ not-false t h in
-      let kept : wordsOf (held (a .session)) ≡ ws = ap (λ (o : CountedCopy). wordsOf (o .outcome .after .session)) e ∙ ap wordsOf same ∙ words-kept ws yes in
+      let kept : wordsOf ws (held (a .session)) ≡ ws =
+      ap (λ (o : CountedCopy). wordsOf ws (o .outcome .after .session)) e ∙ ap (wordsOf ws) same ∙ words-kept ws yes in
       (λ j. returnedCopy (p j) (sym kept j) f x n)
-      ∙ ap toldCopy e
-      ∙ ap (λ (o : Session). toldCopy (countedCopy (copyFile (lent o f [] []) second c m))) same
+      ∙ ap (toldCopy ws) e
+      ∙ ap (λ (o : Session). toldCopy ws (countedCopy (copyFile (lent o f [] []) second c m))) same
       ∙ copy-by ws f second m c true yes
 
 -- no transfers

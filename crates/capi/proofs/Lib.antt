@@ -13,3 +13,4 @@ pub mod CopyTold
 pub mod MostSpace
 pub mod TrayTold
 pub mod Registered
+pub mod TurnTold

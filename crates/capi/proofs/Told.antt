@@ -24,12 +24,12 @@ use Rattle.capi.proofs.Outcomes.{Telling, open-telling}
 -- what a call is told as, by the test of the words
 module _ (ws : List ℕ) (x : Bool) (is : isSession ws ≡ x) where
   called-by : (call : State → Outcome) (f b w : List ℕ)
-      → cond x (toldInWords (counted (call (lent (sessionOf ws) f b w)))) (returned (packed 0 wrongSize) ws f b w) ≡ called call ws f b w
+      → cond x (toldInWords ws (counted (call (lent (sessionOf ws) f b w)))) (returned (packed 0 wrongSize) ws f b w) ≡ called call ws f b w
   unfolding called
   called-by call f b w = rw is
 
   open-by : (f b m : List ℕ)
-      → cond x (toldOpen (countedOpen (openFile (lent (sessionOf ws) f b []) m))) (marked (returned (packed 0 wrongSize) ws f b []) m)
+      → cond x (toldOpen ws (countedOpen (openFile (lent (sessionOf ws) f b []) m))) (marked (returned (packed 0 wrongSize) ws f b []) m)
       ≡ calledOpen ws f b m
   unfolding calledOpen
   open-by f b m = rw is
@@ -42,8 +42,11 @@ module _ (ws : List ℕ) (t : Bool) where
   asked-no : t ≡ isSession ws → not t ≡ true → isSession ws ≡ false
   asked-no e h = sym e ∙ not-true t h
 
-  pub asked-whole : t ≡ isSession ws → not t ≡ false → length ws ≡ 73
+  pub asked-whole : t ≡ isSession ws → not t ≡ false → 73 ≤ length ws
   asked-whole e h = session-facts ws (asked-yes e h) .whole
+
+  pub asked-no-more : t ≡ isSession ws → not t ≡ false → length ws ≤ 74
+  asked-no-more e h = session-facts ws (asked-yes e h) .no-more
 
   -- words that are no session's
   pub called-none : (call : State → Outcome) (f b w : List ℕ) (r : ℕ) → t ≡ isSession ws → not t ≡ true → r ≡ packed 0 wrongSize
@@ -56,10 +59,10 @@ module _ (ws : List ℕ) (t : Bool) where
 
 -- words that are one's
 module _ (ws : List ℕ) (yes : isSession ws ≡ true) where
-  pub called-some : (call : State → Outcome) (f b w : List ℕ) → toldInWords (counted (call (lent (sessionOf ws) f b w))) ≡ called call ws f b w
+  pub called-some : (call : State → Outcome) (f b w : List ℕ) → toldInWords ws (counted (call (lent (sessionOf ws) f b w))) ≡ called call ws f b w
   called-some = called-by ws true yes
 
-  pub open-some : (f b m : List ℕ) → toldOpen (countedOpen (openFile (lent (sessionOf ws) f b []) m)) ≡ calledOpen ws f b m
+  pub open-some : (f b m : List ℕ) → toldOpen ws (countedOpen (openFile (lent (sessionOf ws) f b []) m)) ≡ calledOpen ws f b m
   open-some = open-by ws true yes
 
 -- what CREATE answers is told, its session as it was; and it can be told
@@ -72,7 +75,7 @@ module _ (s : code.Session) (a : Answer) (f g : List ℕ) (e : answered a g [] [
       let k = words-kept ws yes in
       let c = e ∙ ap (λ (x : Session). counted (creating (lent x f [] []))) same in
       (λ j. returned (p j) (sym k j) g [] [])
-      ∙ (λ j. returned (packed (c j .transfers) (c j .number)) (wordsOf (sessionOf ws)) (c j .after .file) [] [])
+      ∙ (λ j. returned (packed (c j .transfers) (c j .number)) (wordsOf ws (sessionOf ws)) (c j .after .file) [] [])
       ∙ called-some ws yes creating f [] []
 
   pub create-few : a .transfers ≤ 16
@@ -83,22 +86,22 @@ module _ (s : code.Session) (a : Answer) (f g : List ℕ) (e : answered a g [] [
 module _ (ws : List ℕ) (t : Bool) (s : code.Session) (a : Answer) where
   pub call-called : (call : State → Outcome) (f b w f₁ b₁ w₁ us : List ℕ) (r : ℕ)
       → answered a f₁ b₁ w₁ ≡ counted (call (given s f b w)) → held s ≡ sessionOf ws
-      → (r ≡ packed (a .transfers) (a .number)) × (us ≡ wordsOf (held (a .session)))
+      → (r ≡ packed (a .transfers) (a .number)) × (us ≡ wordsOf ws (held (a .session)))
       → t ≡ isSession ws → not t ≡ false → returned r us f₁ b₁ w₁ ≡ called call ws f b w
   call-called call f b w f₁ b₁ w₁ us r e same p q h =
       (λ j. returned (p .0 j) (p .1 j) f₁ b₁ w₁)
-      ∙ ap toldInWords e
-      ∙ ap (λ (x : Session). toldInWords (counted (call (lent x f b w)))) same
+      ∙ ap (toldInWords ws) e
+      ∙ ap (λ (x : Session). toldInWords ws (counted (call (lent x f b w)))) same
       ∙ called-some ws (asked-yes ws t q h) call f b w
 
   pub open-called : (f b m m₁ us : List ℕ) (r : ℕ)
       → answeredOpen a f b m₁ ≡ countedOpen (openFile (given s f b []) m) → held s ≡ sessionOf ws
-      → (r ≡ packed (a .transfers) (a .number)) × (us ≡ wordsOf (held (a .session)))
+      → (r ≡ packed (a .transfers) (a .number)) × (us ≡ wordsOf ws (held (a .session)))
       → t ≡ isSession ws → not t ≡ false → marked (returned r us f b []) m₁ ≡ calledOpen ws f b m
   open-called f b m m₁ us r e same p q h =
       (λ j. marked (returned (p .0 j) (p .1 j) f b []) m₁)
-      ∙ ap toldOpen e
-      ∙ ap (λ (x : Session). toldOpen (countedOpen (openFile (lent x f b []) m))) same
+      ∙ ap (toldOpen ws) e
+      ∙ ap (λ (x : Session). toldOpen ws (countedOpen (openFile (lent x f b []) m))) same
       ∙ open-some ws (asked-yes ws t q h) f b m
 
 -- and it can be told: the call is given by hand, the rest is in reach
@@ -116,9 +119,12 @@ tellable call tells ws t s a f b w f₁ b₁ w₁ e same q h word =
     let n : a .transfers ≡ length (call (given s f b w) .transfers) = ap (λ (x : Counted). x .transfers) e in
     let k = word 7 in
     record {
-      whole = asked-whole ws t q h;
-      same-parameters = sym (d ∙ m .same-parameters ∙ p);
-      current-most = rw u (m .current-most (rw c (omega arith)));
+      session = record {
+        whole = asked-whole ws t q h;
+        no-more = asked-no-more ws t q h;
+        same-parameters = sym (d ∙ m .same-parameters ∙ p);
+        current-most = rw u (m .current-most (rw c (omega arith)));
+      };
       few = rw n (m .few);
     }
 

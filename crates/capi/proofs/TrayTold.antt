@@ -19,7 +19,9 @@ use Rattle.tray.specs.declared.Trayed.{Trayed}
 use Rattle.tray.specs.Tray.{TrayOutcome, recordsOf, nsertOne, stoppedBy, storedBefore, inserts, trayChecks, afterChecks, nsertTray}
 use Rattle.tray.specs.Promise.{CountedTray, countedTray, answeredTray}
 use Rattle.capi.specs.Words.{isSession, parametersIn, sessionOf, wordsOf, mostWord}
+use Rattle.capi.specs.Calls.{Writable}
 use Rattle.capi.specs.Tray.{returnedTray, toldTray, calledTray, OneReturnedTray}
+use Rattle.capi.proofs.Told.{asked-whole, asked-no-more}
 use Rattle.capi.proofs.Outcomes.{nsert-telling}
 
 -- ---- every tray leaves what words can tell: the parameters it was given, and a current block that fits a word
@@ -58,19 +60,29 @@ tray-tells st t = go (trayChecks st t)
     go (passed x) = inserts-tell (recordsOf (desc st) t) st done
 
 module _ (s : code.Session) (r : Trayed) (f b t g d : List ℕ) (e : answeredTray r g d ≡ countedTray (nsertTray (given s f b []) t)) where
-  pub tray-parameters : (ws : List ℕ) → held s ≡ sessionOf ws → parametersIn ws ≡ r .session .desc
+  tray-parameters : (ws : List ℕ) → held s ≡ sessionOf ws → parametersIn ws ≡ r .session .desc
   unfolding sessionOf
   tray-parameters ws same =
       let k : r .session .desc ≡ nsertTray (given s f b []) t .after .session .desc = ap (λ (x : CountedTray). x .after .session .desc) e in
       sym (k ∙ tray-tells (given s f b []) t .same-parameters ∙ ap (λ (x : Session). x .desc) same)
 
-  pub tray-current : (ws : List ℕ) → held s ≡ sessionOf ws → ((i : ℕ) → Fits w32 (getD ws i 0)) → r .session .current ≤ mostWord
+  tray-current : (ws : List ℕ) → held s ≡ sessionOf ws → ((i : ℕ) → Fits w32 (getD ws i 0)) → r .session .current ≤ mostWord
   unfolding sessionOf
   tray-current ws same word =
       let k : r .session .current ≡ nsertTray (given s f b []) t .after .session .current = ap (λ (x : CountedTray). x .after .session .current) e in
       let c : held s .current ≡ getD ws 7 0 = ap (λ (x : Session). x .current) same in
       let w = word 7 in
       rw k (tray-tells (given s f b []) t .current-most (rw c (omega arith)))
+
+  -- so the words have room for its session
+  pub tray-writable : (ws : List ℕ) (x : Bool) → held s ≡ sessionOf ws → x ≡ isSession ws → not x ≡ false
+      → ((i : ℕ) → Fits w32 (getD ws i 0)) → Writable ws (r .session)
+  tray-writable ws x same q h word = record {
+    whole = asked-whole ws x q h;
+    no-more = asked-no-more ws x q h;
+    same-parameters = tray-parameters ws same;
+    current-most = tray-current ws same word;
+  }
 
 -- ---- the returns of the code: x is its test of the words
 
@@ -82,7 +94,7 @@ two-words (y ∷ z ∷ v ∷ l) a b h = absurd (omega arith)
 
 module _ (ws f b t told : List ℕ) where
   tray-by : (c : Bool) → isSession ws && eqb (length told) 2 ≡ c
-      → cond c (toldTray (countedTray (nsertTray (lent (sessionOf ws) f b []) t))) (returnedTray wrongSize ws f b told) ≡ calledTray ws f b t told
+      → cond c (toldTray ws (countedTray (nsertTray (lent (sessionOf ws) f b []) t))) (returnedTray wrongSize ws f b told) ≡ calledTray ws f b t told
   unfolding calledTray
   tray-by c e = rw e
 
@@ -97,7 +109,7 @@ module _ (ws f b t told : List ℕ) where
         (λ j. returnedTray (e j) ws f b told) ∙ tray-by false (λ j. y j && z j)
 
     pub tray-called : (s : code.Session) (a : Trayed) (g d us : List ℕ) (r : ℕ)
-        → answeredTray a g d ≡ countedTray (nsertTray (given s f b []) t) → held s ≡ sessionOf ws → us ≡ wordsOf (held (a .session)) → r ≡ a .number
+        → answeredTray a g d ≡ countedTray (nsertTray (given s f b []) t) → held s ≡ sessionOf ws → us ≡ wordsOf ws (held (a .session)) → r ≡ a .number
         → length told ≡ 2 → not x ≡ false
         → returnedTray r us g d (set (set told 0 (a .transfers)) 1 (a .stored)) ≡ calledTray ws f b t told
     tray-called s a g d us r e same u n l h =
@@ -105,8 +117,8 @@ module _ (ws f b t told : List ℕ) where
         let z = eq-eqb (length told) 2 l in
         let w = two-words told (a .transfers) (a .stored) l in
         (λ j. returnedTray (n j) (u j) g d (w j))
-        ∙ ap toldTray e
-        ∙ ap (λ (o : Session). toldTray (countedTray (nsertTray (lent o f b []) t))) same
+        ∙ ap (toldTray ws) e
+        ∙ ap (λ (o : Session). toldTray ws (countedTray (nsertTray (lent o f b []) t))) same
         ∙ tray-by true (λ j. y j && z j)
 
 pub one-returned-tray : OneReturnedTray

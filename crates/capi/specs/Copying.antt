@@ -22,11 +22,11 @@ abbrev pub returnedCopy : ℕ → List ℕ → List ℕ → List ℕ → List �
 returnedCopy r ws f second m = record { answer = r; session = ws; file = f; second = second; marks = m }
 
 -- the outcome of the session's call, told in words
-abbrev pub toldCopy : CountedCopy → ReturnedCopy
-toldCopy o =
+abbrev pub toldCopy : List ℕ → CountedCopy → ReturnedCopy
+toldCopy ws o =
     returnedCopy
     (packed (o .outcome .transfers) (o .outcome .number))
-    (wordsOf (o .outcome .after .session))
+    (wordsOf ws (o .outcome .after .session))
     (o .outcome .after .file)
     (o .second)
     (o .marks)
@@ -35,7 +35,7 @@ toldCopy o =
 unfoldable pub calledCopy : List ℕ → List ℕ → List ℕ → ℕ → List ℕ → ReturnedCopy
 calledCopy ws f second c m =
     cond (isSession ws)
-    (toldCopy (countedCopy (copyFile (lent (sessionOf ws) f [] []) second c m)))
+    (toldCopy ws (countedCopy (copyFile (lent (sessionOf ws) f [] []) second c m)))
     (returnedCopy (packed 0 wrongSize) ws f second m)
 
 -- "Two results allowed by one promise are proved equal": the number returned, and every word lent

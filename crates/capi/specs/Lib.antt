@@ -7,3 +7,4 @@ pub mod Runs
 pub mod Copying
 pub mod Space
 pub mod Tray
+pub mod Turning

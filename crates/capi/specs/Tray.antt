@@ -24,15 +24,15 @@ abbrev pub returnedTray : ℕ → List ℕ → List ℕ → List ℕ → List �
 returnedTray r ws f b told = record { answer = r; session = ws; file = f; buffer = b; told = told }
 
 -- what the tray comes to, told in words: its number alone; "the sum of transfers" and "how many were stored" beside [Y2]
-abbrev pub toldTray : CountedTray → ReturnedTray
-toldTray o =
-    returnedTray (o .number) (wordsOf (o .after .session)) (o .after .file) (o .after .buffer) (o .transfers ∷ o .stored ∷ [])
+abbrev pub toldTray : List ℕ → CountedTray → ReturnedTray
+toldTray ws o =
+    returnedTray (o .number) (wordsOf ws (o .after .session)) (o .after .file) (o .after .buffer) (o .transfers ∷ o .stored ∷ [])
 
 -- words that are no session, or no two words to tell the figures in: 020007 and nothing changed; of any other the function does what the tray does
 unfoldable pub calledTray : List ℕ → List ℕ → List ℕ → List ℕ → List ℕ → ReturnedTray
 calledTray ws f b t told =
     cond (isSession ws && eqb (length told) 2)
-    (toldTray (countedTray (nsertTray (lent (sessionOf ws) f b []) t)))
+    (toldTray ws (countedTray (nsertTray (lent (sessionOf ws) f b []) t)))
     (returnedTray wrongSize ws f b told)
 
 -- "Two results allowed by one promise are proved equal": the number returned, and every word lent

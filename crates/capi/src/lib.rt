@@ -1,4 +1,4 @@
-// The calls for programs in other languages. A session is lent as 73 words (module `session`), every slice is a pointer and a length, and
+// The calls for programs in other languages. A session is lent as 73 or 74 words (module `session`), every slice is a pointer and a length, and
 // a call's answer is one number: its transfers times 2^32, plus its number. A session slice that is none answers 020007 and changes nothing.
 mod copying;
 mod names;
@@ -8,6 +8,7 @@ mod rows;
 mod session;
 mod space;
 mod trays;
+mod turning;
 
 use numbers::WRONG_SIZE;
 use place::place_of;

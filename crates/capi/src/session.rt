@@ -1,22 +1,30 @@
-// A session as 73 words, and an answer as one 64-bit number.
+// A session as 73 words, or 74 with its block form, and an answer as one 64-bit number.
 use drum::Description;
 use searchfile::Answer;
 use searchfile::Session;
 ghost use mathlib.Core.Path.{_≡_};
 ghost use Prim.Native.Nat.{_≤_};
-ghost use lib.ListN.{length};
+ghost use lib.ListN.{length, getD, set};
 ghost use Rattle.searchfile.specs.Promise.{held};
 ghost use Rattle.capi.specs.Words.{isSession, parametersIn, sessionOf, wordsOf, mostWord, bit as bitOf, packed as packedNumber};
-ghost use Rattle.capi.specs.Calls.{Tellable};
+ghost use Rattle.capi.specs.Calls.{Writable, Tellable};
 ghost use Rattle.words.specs.Slices.{was, became};
 
 const SESSION_WORDS: usize = 73;
+
+// With the form behind them.
+pub const FORM_WORDS: usize = 74;
+
+const FORM_PLACE: usize = 73;
 
 // Whether the words are a session's.
 pub fn is_session(words: &[u32]) -> bool
     ensures { λ r. ⌜ r ≡ isSession (was words) ⌝ }
 {
-    if words.len() != SESSION_WORDS {
+    if words.len() < SESSION_WORDS {
+        return false;
+    }
+    if FORM_WORDS < words.len() {
         return false;
     }
     if 1 < words[6] {
@@ -28,9 +36,19 @@ pub fn is_session(words: &[u32]) -> bool
     words[9] <= 1
 }
 
+// The block form; words without a place for it are of the first.
+fn form_in(words: &[u32]) -> usize
+    ensures { λ r. ⌜ r ≡ getD (was words) 73 1 ⌝ }
+{
+    if words.len() <= FORM_PLACE {
+        return Description::FIRST;
+    }
+    words::word_at(words, FORM_PLACE)
+}
+
 // The parameters that stand in a session's words.
 pub fn parameters_in(words: &[u32]) -> Description
-    requires { ⌜ length (now words) ≡ 73 ⌝ }
+    requires { ⌜ 73 ≤ length (now words) ⌝ }
     ensures { λ r. ⌜ r ≡ parametersIn (was words) ⌝ }
 {
     let wpb = words::word_at(words, 0);
@@ -39,6 +57,7 @@ pub fn parameters_in(words: &[u32]) -> Description
     let space = words::word_at(words, 3);
     let control = words::word_at(words, 4);
     let n = words::word_at(words, 5);
+    let form = form_in(words);
     Description::new()
         .with_wpb(wpb)
         .with_wpr(wpr)
@@ -46,11 +65,12 @@ pub fn parameters_in(words: &[u32]) -> Description
         .with_space(space)
         .with_control(control)
         .with_n(n)
+        .with_form(form)
 }
 
 // The session that the words are.
 pub fn session_of(words: &[u32]) -> Session
-    requires { ⌜ length (now words) ≡ 73 ⌝ }
+    requires { ⌜ 73 ≤ length (now words) ⌝ }
     ensures { λ r. ⌜ held r ≡ sessionOf (was words) ⌝ }
 {
     let mut position = [0; 63];
@@ -72,10 +92,10 @@ fn bit(x: bool) -> u32
     if x { 1 } else { 0 }
 }
 
-// Writes a session over the words of one with the same parameters.
+// Writes a session over the words of one with the same parameters: these, the form too, stand there.
 pub fn put_session(words: &mut [u32], s: Session)
-    requires { ⌜ (length (now words) ≡ 73) × (parametersIn (now words) ≡ s .desc) × (s .current ≤ mostWord) ⌝ }
-    ensures { λ _. ⌜ became words ≡ wordsOf (held s) ⌝ }
+    requires { ⌜ Writable (now words) s ⌝ }
+    ensures { λ _. ⌜ became words ≡ wordsOf (was words) (held s) ⌝ }
 {
     let position = s.position;
     words::copy_words(words, 10, &position, 0, 63);
@@ -83,6 +103,14 @@ pub fn put_session(words: &mut [u32], s: Session)
     words[7] = s.current as u32;
     words[8] = bit(s.flag);
     words[9] = bit(s.placed);
+}
+
+// Writes another block form.
+pub fn put_form(words: &mut [u32], form: usize)
+    requires { ⌜ (length (now words) ≡ 74) × (form ≤ mostWord) ⌝ }
+    ensures { λ _. ⌜ became words ≡ set (was words) 73 form ⌝ }
+{
+    words[FORM_PLACE] = form as u32;
 }
 
 pub fn wide(x: u32) -> u64
@@ -102,7 +130,7 @@ pub fn packed(transfers: usize, number: u32) -> u64
 // Tells what a session call answered: its session over the words, its number and transfers as the result.
 pub fn told(words: &mut [u32], a: Answer) -> u64
     requires { ⌜ Tellable (now words) a ⌝ }
-    ensures { λ r. ⌜ (r ≡ packedNumber (a .transfers) (a .number)) × (became words ≡ wordsOf (held (a .session))) ⌝ }
+    ensures { λ r. ⌜ (r ≡ packedNumber (a .transfers) (a .number)) × (became words ≡ wordsOf (was words) (held (a .session))) ⌝ }
 {
     put_session(words, a.session);
     packed(a.transfers, a.number)

@@ -82,10 +82,10 @@ module _ (st : State) (ss : List Section) (f : Free) (h : Sound st ss f) (o : st
   held = h .kept .holds
 
   -- the search in a detail block
-  pub next-row : (rs : List (List ℕ)) → All (RowOk p) rs → nextRow v placed at (table (p .wpb) rs) ≡ length (below K (mark st) rs)
+  pub next-row : (rs : List (List ℕ)) → All (RowOk p) rs → nextRow v placed at (table (detailShape p) (p .wpb) rs) ≡ length (below K (mark st) rs)
   next-row rs ok = go placed refl
     where
-      go : (t : Bool) → placed ≡ t → cond t (rowAbove (detailShape p) at (table (p .wpb) rs)) 0 ≡ length (below K (cond t (suc (val at)) 0) rs)
+      go : (t : Bool) → placed ≡ t → cond t (rowAbove (detailShape p) at (table (detailShape p) (p .wpb) rs)) 0 ≡ length (below K (cond t (suc (val at)) 0) rs)
       go false e = sym (ap length (below-zero K rs))
       go true e = let kw : Key p at = h .placed e in above-at p kr rs ok at (kw .wide) (kw .long) ∙ place-above K (val at) rs
 
@@ -112,7 +112,7 @@ module _ (st : State) (ss : List Section) (f : Free) (h : Sound st ss f) (o : st
   unfolding adv advSteps settle
   adv-by s e es ee = simp (sizes-pass st ss f h, work-pass st wl, open-pass st o, es, ee)
 
-  pub adv-done : (here : Reached) → length (here .moves) ≤ 5 → (rs : List (List ℕ)) → here .buffer ≡ table (p .wpb) rs → All (RowOk p) rs
+  pub adv-done : (here : Reached) → length (here .moves) ≤ 5 → (rs : List (List ℕ)) → here .buffer ≡ table (detailShape p) (p .wpb) rs → All (RowOk p) rs
       → KeptTree (textsLeft v here) (here .flag) ss f → (r : List ℕ) (cs : List (List ℕ)) → from K (mark st) rs ≡ r ∷ cs → adv st
       ≡ outcome (st .session) (advGiving v here (length (below K (mark st) rs)))
       → (rest : List (List ℕ)) → from K (mark st) rows ≡ r ∷ rest → AdvRight st ss f
@@ -122,7 +122,7 @@ module _ (st : State) (ss : List Section) (f : Free) (h : Sound st ss f) (o : st
       let rs-is : rs ≡ bs ++ r ∷ cs = cut-rows rs r cs fr in
       let oks : All (RowOk p) (bs ++ r ∷ cs) = subst (All (RowOk p)) rs-is ok in
       let rok : RowOk p r = all-right (RowOk p) bs _ oks .0 in
-      let buf : here .buffer ≡ table (p .wpb) (bs ++ r ∷ cs) = b ∙ ap (table (p .wpb)) rs-is in
+      let buf : here .buffer ≡ table (detailShape p) (p .wpb) (bs ++ r ∷ cs) = b ∙ ap (table (detailShape p) (p .wpb)) rs-is in
       let row-is : row (detailShape p) (here .buffer) (length bs) ≡ r
       = ap (λ (t : List ℕ). row (detailShape p) t (length bs)) buf ∙ row-here p kr bs r cs oks in
       let ky : isOnes (keyAt (detailShape p) (here .buffer) (length bs)) ≡ isOnes (keyIn p r)
@@ -171,7 +171,7 @@ module _ (st : State) (ss : List Section) (f : Free) (h : Sound st ss f) (o : st
         → from K (mark st) rows ≡ from K (mark st) (a .leaf .records) ++ recordsIn (a .high ++ leavesIn (a .behind))
     from-rows l u = ap (λ (s : List Section). from K (mark st) (recordsIn (leavesIn s))) z ∙ from-here p a f _ _ hz (mark st) l u
 
-    pub text-is : textOf v (a .leaf .block) ≡ table (p .wpb) (a .leaf .records)
+    pub text-is : textOf v (a .leaf .block) ≡ table (detailShape p) (p .wpb) (a .leaf .records)
     text-is = leaf-text p a f _ _ hz
 
     -- it was brought, and has a record above the position
@@ -193,9 +193,9 @@ module _ (st : State) (ss : List Section) (f : Free) (h : Sound st ss f) (o : st
       arrive =
           let i : nextRow v placed at (textOf v (a .leaf .block)) ≡ length (below K (mark st) (a .leaf .records))
           = ap (nextRow v placed at) text-is ∙ next-row (a .leaf .records) (lok .rows) in
-          let c : count (textOf v (a .leaf .block)) ≡ length (a .leaf .records) = ap count text-is ∙ count-table (p .wpb) (a .leaf .records) in
+          let c : count (detailShape (v .desc)) (textOf v (a .leaf .block)) ≡ length (a .leaf .records) = ap (count (detailShape p)) text-is ∙ count-table (detailShape p) (p .wpb) (a .leaf .records) in
           ap (λ (m : Checked Path). m >>= (λ w. advAt v flag placed at w)) way
-          ∙ ap (λ (t : Bool). require t badFile >> cond (ltb (nextRow v placed at (textOf v (a .leaf .block))) (count (textOf v (a .leaf .block))))
+          ∙ ap (λ (t : Bool). require t badFile >> cond (ltb (nextRow v placed at (textOf v (a .leaf .block))) (count (detailShape (v .desc)) (textOf v (a .leaf .block))))
           (passed (step-is.At (By (pathOf a)) (nextRow v placed at (textOf v (a .leaf .block))))) (advBeyond v placed at (pathOf a)))
           (flush-pass v flag ss f (h .kept))
           ∙ ap₂ (λ (j m : ℕ). cond (ltb j m) (passed (step-is.At (By (pathOf a)) j)) (advBeyond v placed at (pathOf a))) i c

@@ -10,6 +10,7 @@ use borrow.Author.Tests.{lt-ltb, le-ltb}
 use Rattle.numbers.specs.Numbers.{badFile}
 use Rattle.numbers.specs.Checked.{Checked, passed, _>>=_, _>>_, require}
 use Rattle.table.specs.Tables.{count}
+use Rattle.drum.specs.Params.{detailShape, indexShape}
 use Rattle.drum.specs.Blocks.{Read, textOf}
 use Rattle.drum.proofs.Good.{good-facts}
 use Rattle.layout.specs.Create.{endRecord}
@@ -68,8 +69,8 @@ module _ (st : State) (ss : List Section) (f : Free) (h : Sound st ss f) (o : st
         i : nextRow v placed at (textOf v (b .leaf .block)) ≡ length (below K (mark st) (b .leaf .records))
         i = ap (nextRow v placed at) (text-is st ss f h o wl b zb) ∙ next-row st ss f h o wl (b .leaf .records) (lok st ss f h o wl b zb .rows)
 
-        c : count (textOf v (b .leaf .block)) ≡ length (b .leaf .records)
-        c = ap count (text-is st ss f h o wl b zb) ∙ count-table (p .wpb) (b .leaf .records)
+        c : count (detailShape (v .desc)) (textOf v (b .leaf .block)) ≡ length (b .leaf .records)
+        c = ap (count (detailShape p)) (text-is st ss f h o wl b zb) ∙ count-table (detailShape p) (p .wpb) (b .leaf .records)
 
         step : (r : List ℕ) (rs : List (List ℕ)) → from K (mark st) (b .leaf .records) ≡ r ∷ rs
             → advStep v flag placed at ≡ passed (step-is.Beyond (pathOf a) (pathOf b) (length (below K (mark st) (b .leaf .records))))
@@ -78,7 +79,7 @@ module _ (st : State) (ss : List Section) (f : Free) (h : Sound st ss f) (o : st
             ∙ ap
             (λ (t : Bool). cond t (passed (step-is.At (By (pathOf a)) (length (below K (mark st) (a .leaf .records))))) (advBeyond v placed at (pathOf a)))
             (no-row st ss f h o wl (a .leaf .records) fr)
-            ∙ ap (λ (m : Checked Path). m >>= (λ x. require (ltb (nextRow v placed at (textOf v (x .detail))) (count (textOf v (x .detail)))) badFile
+            ∙ ap (λ (m : Checked Path). m >>= (λ x. require (ltb (nextRow v placed at (textOf v (x .detail))) (count (detailShape (v .desc)) (textOf v (x .detail)))) badFile
             >> passed (step-is.Beyond (pathOf a) x (nextRow v placed at (textOf v (x .detail)))))) nx
             ∙ ap₂ (λ (j m : ℕ). require (ltb j m) badFile >> passed (step-is.Beyond (pathOf a) (pathOf b) j)) i c
             ∙ ap (λ (t : Bool). require t badFile >> passed (step-is.Beyond (pathOf a) (pathOf b) (length (below K (mark st) (b .leaf .records)))))
@@ -100,8 +101,8 @@ module _ (st : State) (ss : List Section) (f : Free) (h : Sound st ss f) (o : st
             (adv-by st ss f h o wl (step-is.Beyond (pathOf a) (pathOf b) (length (below K (mark st) (b .leaf .records)))) _ (step r rs gr) refl)
             r rs gr (rs ++ tail) (g ∙ ap (λ (y : List (List ℕ)). y ++ tail) q)
 
-    counted : count (textOf v (a .index)) ≡ length (olds a)
-    counted = ap count (index-text p a f _ _ here) ∙ count-index p (olds a)
+    counted : count (indexShape (v .desc)) (textOf v (a .index)) ≡ length (olds a)
+    counted = ap (count (indexShape p)) (index-text p a f _ _ here) ∙ count-index p (olds a)
 
     tail-is : from K (mark st) (a .leaf .records) ≡ [] → from K (mark st) rows ≡ recordsIn (a .high ++ leavesIn (a .behind))
     tail-is fr = from-rows st ss f h o wl a z l u ∙ ap (λ (y : List (List ℕ)). y ++ recordsIn (a .high ++ leavesIn (a .behind))) fr
@@ -113,7 +114,7 @@ module _ (st : State) (ss : List Section) (f : Free) (h : Sound st ss f) (o : st
         let eo : olds a ≡ (a .low ++ (a .leaf ∷ [])) ++ (m ∷ hs)
         = ap (λ (y : List Leaf). a .low ++ (a .leaf ∷ y)) e ∙ sym (append-assoc (a .low) (a .leaf ∷ []) (m ∷ hs)) in
         let zb : ss ≡ treeOf b = z ∙ ap (λ (y : List Leaf). a .before ++ (sec (a .index) y ∷ a .behind)) eo in
-        let more : ltb (length (a .low) + 1) (count (textOf v (a .index))) ≡ true
+        let more : ltb (length (a .low) + 1) (count (indexShape (v .desc)) (textOf v (a .index))) ≡ true
         = ap (ltb (length (a .low) + 1)) counted
         ∙ lt-ltb (length (a .low) + 1) (length (olds a)) (omega (arith, length-append (a .low) (a .leaf ∷ a .high), ap length e)) in
         beyond b zb
@@ -134,7 +135,7 @@ module _ (st : State) (ss : List Section) (f : Free) (h : Sound st ss f) (o : st
         let zb : ss ≡ treeOf b
         = z ∙ ap₂ (λ (x : List Leaf) (y : List Section). a .before ++ (sec (a .index) (a .low ++ (a .leaf ∷ x)) ∷ y)) e g
         ∙ sym (append-assoc (a .before) (s ∷ []) (sec jb (m ∷ hs) ∷ ds)) in
-        let more : ltb (length (a .low) + 1) (count (textOf v (a .index))) ≡ false
+        let more : ltb (length (a .low) + 1) (count (indexShape (v .desc)) (textOf v (a .index))) ≡ false
         = ap (ltb (length (a .low) + 1)) counted
         ∙ le-ltb (length (a .low) + 1) (length (olds a)) (omega (arith, length-append (a .low) (a .leaf ∷ a .high), ap length e)) in
         beyond b zb

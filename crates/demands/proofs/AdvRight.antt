@@ -90,14 +90,14 @@ module _ (st : State) (ss : List Section) (f : Free) (h : Sound st ss f) (o : st
     kr : p .k ≤ p .wpr
     kr = good-facts p (h .kept .good) .key
 
-    buf : st .buffer ≡ table (p .wpb) (s .place .leaf .records)
+    buf : st .buffer ≡ table (detailShape p) (p .wpb) (s .place .leaf .records)
     buf = buffer-leaf v flag ss f (h .kept) s
 
     ok : All (RowOk p) (s .place .leaf .records)
     ok = lok st ss f h o wl (s .place) (s .is) .rows
 
     -- the first and the last key of the block, as numbers
-    first-key : (x : List ℕ) (rs : List (List ℕ)) → All (RowOk p) (x ∷ rs) → keyLe (keyAt (detailShape p) (table (p .wpb) (x ∷ rs)) 0) at ≡ true → K x ≤ val at
+    first-key : (x : List ℕ) (rs : List (List ℕ)) → All (RowOk p) (x ∷ rs) → keyLe (keyAt (detailShape p) (table (detailShape p) (p .wpb) (x ∷ rs)) 0) at ≡ true → K x ≤ val at
     unfolding key
     first-key x rs oks e =
         let kl : (length (take (p .k) x) ≡ p .k) × (allWords (take (p .k) x) ≡ true) = key-long p kr x (oks .0) in
@@ -105,14 +105,14 @@ module _ (st : State) (ss : List Section) (f : Free) (h : Sound st ss f) (o : st
         (sym (keyLt-val at (take (p .k) x) (kw .wide) (kl .1) (kw .long ∙ sym (kl .0))) ∙ ap (keyLt at) (sym (key-here p kr [] x rs oks)) ∙ keyLe-true _ at e)
 
     last-key : (fr : List (List ℕ)) (y : List ℕ) → All (RowOk p) (fr ++ y ∷ [])
-        → keyLt at (keyAt (detailShape p) (table (p .wpb) (fr ++ y ∷ [])) (length fr)) ≡ true → val at < K y
+        → keyLt at (keyAt (detailShape p) (table (detailShape p) (p .wpb) (fr ++ y ∷ [])) (length fr)) ≡ true → val at < K y
     unfolding key
     last-key fr y oks e =
         let kl : (length (take (p .k) y) ≡ p .k) × (allWords (take (p .k) y) ≡ true) = key-long p kr y (all-right (RowOk p) fr _ oks .0) in
         ltb-true (val at) (val (take (p .k) y))
         (sym (keyLt-val at (take (p .k) y) (kw .wide) (kl .1) (kw .long ∙ sym (kl .0))) ∙ ap (keyLt at) (sym (key-here p kr fr y [] oks)) ∙ e)
 
-    stays : keyLe (keyAt (detailShape p) (st .buffer) 0) at ≡ true → keyLt at (keyAt (detailShape p) (st .buffer) (count (st .buffer) - 1)) ≡ true
+    stays : keyLe (keyAt (detailShape p) (st .buffer) 0) at ≡ true → keyLt at (keyAt (detailShape p) (st .buffer) (count (detailShape (desc st)) (st .buffer) - 1)) ≡ true
         → advStep v flag placed at ≡ passed (step-is.At Here (nextRow v true at (st .buffer))) → AdvRight st ss f
     unfolding advDone reached
     stays fe le step = go (s .place .leaf .records) refl (from-end (s .place .leaf .records))
@@ -148,12 +148,12 @@ module _ (st : State) (ss : List Section) (f : Free) (h : Sound st ss f) (o : st
         go (x ∷ rs) e (inr (fr, y, g)) =
             let first : K x ≤ val at
             = first-key x rs (subst (All (RowOk p)) e ok)
-            (ap (λ (t : List ℕ). keyLe (keyAt (detailShape p) t 0) at) (sym (buf ∙ ap (table (p .wpb)) e)) ∙ fe) in
-            let n : count (st .buffer) - 1 ≡ length fr
-            = omega (arith, ap count (buf ∙ ap (table (p .wpb)) g) ∙ count-table (p .wpb) (fr ++ y ∷ []), length-append fr (y ∷ [])) in
+            (ap (λ (t : List ℕ). keyLe (keyAt (detailShape p) t 0) at) (sym (buf ∙ ap (table (detailShape p) (p .wpb)) e)) ∙ fe) in
+            let n : count (detailShape (desc st)) (st .buffer) - 1 ≡ length fr
+            = omega (arith, ap (count (detailShape p)) (buf ∙ ap (table (detailShape p) (p .wpb)) g) ∙ count-table (detailShape p) (p .wpb) (fr ++ y ∷ []), length-append fr (y ∷ [])) in
             let last : val at < K y
             = last-key fr y (subst (All (RowOk p)) g ok)
-            (ap₂ (λ (t : List ℕ) (m : ℕ). keyLt at (keyAt (detailShape p) t m)) (sym (buf ∙ ap (table (p .wpb)) g)) (sym n) ∙ le) in
+            (ap₂ (λ (t : List ℕ) (m : ℕ). keyLt at (keyAt (detailShape p) t m)) (sym (buf ∙ ap (table (detailShape p) (p .wpb)) g)) (sym n) ∙ le) in
             let asc₁ : Asc K start (x ∷ rs) (hi p (s .place)) = subst (λ (z : List (List ℕ)). Asc K start z (hi p (s .place))) e asc₀ in
             let asc₂ : Asc K start (fr ++ y ∷ []) (hi p (s .place)) = subst (λ (z : List (List ℕ)). Asc K start z (hi p (s .place))) g asc₀ in
             some (from K (mark st) (s .place .leaf .records)) refl (omega (arith, asc₁ .0, first, mark-placed st ss f h o wl pl))
@@ -162,17 +162,17 @@ module _ (st : State) (ss : List Section) (f : Free) (h : Sound st ss f) (o : st
 
     tries : AdvRight st ss f
     unfolding nextInBuffer advStep
-    tries = go (keyLe (keyAt (detailShape p) (st .buffer) 0) at) (keyLt at (keyAt (detailShape p) (st .buffer) (count (st .buffer) - 1))) refl refl
+    tries = go (keyLe (keyAt (detailShape p) (st .buffer) 0) at) (keyLt at (keyAt (detailShape p) (st .buffer) (count (detailShape (desc st)) (st .buffer) - 1))) refl refl
       where
-        to : (t : Bool) → (keyLe (keyAt (detailShape p) (st .buffer) 0) at && keyLt at (keyAt (detailShape p) (st .buffer) (count (st .buffer) - 1))) ≡ t
+        to : (t : Bool) → (keyLe (keyAt (detailShape p) (st .buffer) 0) at && keyLt at (keyAt (detailShape p) (st .buffer) (count (detailShape (desc st)) (st .buffer) - 1))) ≡ t
             → advStep v flag placed at ≡ cond t (passed (step-is.At Here (nextRow v true at (st .buffer)))) (advOutside v flag true at)
         to t e =
             ap (λ (b : Bool). advStep v flag b at) pl
             ∙ ap (λ (m : Checked Bool). m >>= (λ here. cond here (passed (step-is.At Here (nextRow v true at (st .buffer)))) (advOutside v flag true at)))
             (buffer-some v flag ss f (h .kept) s (keyLe (keyAt (detailShape p) (st .buffer) 0) at && keyLt at
-            (keyAt (detailShape p) (st .buffer) (count (st .buffer) - 1))) ∙ ap passed e)
+            (keyAt (detailShape p) (st .buffer) (count (detailShape (desc st)) (st .buffer) - 1))) ∙ ap passed e)
 
-        go : (t u : Bool) → keyLe (keyAt (detailShape p) (st .buffer) 0) at ≡ t → keyLt at (keyAt (detailShape p) (st .buffer) (count (st .buffer) - 1)) ≡ u
+        go : (t u : Bool) → keyLe (keyAt (detailShape p) (st .buffer) 0) at ≡ t → keyLt at (keyAt (detailShape p) (st .buffer) (count (detailShape (desc st)) (st .buffer) - 1)) ≡ u
             → AdvRight st ss f
         go true true e g = stays e g (to true (ap₂ (λ (x y : Bool). x && y) e g))
         go true false e g = misses (to false (ap₂ (λ (x y : Bool). x && y) e g) ∙ ap (λ (b : Bool). advOutside v flag b at) (sym pl))
@@ -189,5 +189,5 @@ module _ (st : State) (ss : List Section) (f : Free) (h : Sound st ss f) (o : st
           misses (ap (λ (b : Bool). advStep v flag b at) e
           ∙ ap (λ (m : Checked Bool). m >>= (λ here. cond here (passed (step-is.At Here (nextRow v true at (st .buffer)))) (advOutside v flag true at)))
           (buffer-none v flag ss f (h .kept) z (keyLe (keyAt (detailShape p) (st .buffer) 0) at && keyLt at
-          (keyAt (detailShape p) (st .buffer) (count (st .buffer) - 1))))
+          (keyAt (detailShape p) (st .buffer) (count (detailShape (desc st)) (st .buffer) - 1))))
           ∙ ap (λ (b : Bool). advOutside v flag b at) (sym e))

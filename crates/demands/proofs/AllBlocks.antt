@@ -83,19 +83,19 @@ fresh-length : (p : Description) (b n : ℕ) → length (freshCells p b n) ≡ n
 fresh-length p b zero = refl
 fresh-length p b (suc n) = ap suc (fresh-length p (b + 1) n)
 
-cells-length : (wpb : ℕ) (ss : List Section) → length (cellsOf wpb ss) ≡ length ss + length (leavesIn ss)
+cells-length : (p : Description) (ss : List Section) → length (cellsOf p ss) ≡ length ss + length (leavesIn ss)
 unfolding cellsOf
-cells-length wpb [] = refl
-cells-length wpb (s ∷ ss) =
-    let here : List Cell = (s .block, indexText wpb (s .leaves)) ∷ map (leafCell wpb) (s .leaves) in
-    omega (arith, length-append here (cellsOf wpb ss), length-map (s .leaves) (leafCell wpb), cells-length wpb ss, length-append (s .leaves) (leavesIn ss))
+cells-length p [] = refl
+cells-length p (s ∷ ss) =
+    let here : List Cell = (s .block, indexText p (s .leaves)) ∷ map (leafCell p) (s .leaves) in
+    omega (arith, length-append here (cellsOf p ss), length-map (s .leaves) (leafCell p), cells-length p ss, length-append (s .leaves) (leavesIn ss))
 
 -- every block below word 2 is in use or on the chain
 pub below-lowest : (p : Description) (master : List ℕ) (text : ℕ → List ℕ) (ss : List Section) (f : Free) → HoldsCells p master text ss f
     → f .lowest ≡ 1 + (length (leavesIn ss) + length ss) + length (f .chain)
 unfolding freeCells
 below-lowest p master text ss f h =
-    let cs : List Cell = cellsOf (p .wpb) ss ++ freeCells p f in
+    let cs : List Cell = cellsOf p ss ++ freeCells p f in
     let all : over (λ b. cellTimes b cs) (p .n) ≡ length cs = over-times (p .n) cs (λ b l. omega (arith, h .once b)) in
     let n : over (λ b. cellTimes b cs) (p .n) ≡ p .n
     = over-ext (λ b. cellTimes b cs) (inside (p .n)) (h .once) (p .n) ∙ over-inside (p .n) (p .n) (omega arith) in
@@ -106,4 +106,4 @@ below-lowest p master text ss f h =
       chain-length p (f .chain),
       fresh-length p (f .lowest) (f .spare),
     ) in
-    omega (arith, h .numbers, all, n, length-append (cellsOf (p .wpb) ss) (freeCells p f), cells-length (p .wpb) ss, free)
+    omega (arith, h .numbers, all, n, length-append (cellsOf p ss) (freeCells p f), cells-length p ss, free)

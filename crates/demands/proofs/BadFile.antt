@@ -4,14 +4,14 @@ use mathlib.Core.Path.{_≡_, refl}
 use mathlib.Core.Bool.{Bool, true, false}
 use mathlib.Core.List.{List}
 use lib.Dec.{eqb}
-use lib.ListN.{getD}
+use lib.ListN.{getD, drop}
 use Rattle.numbers.specs.Numbers.{badFile}
 use Rattle.numbers.specs.Checked.{Checked, passed, refused, _>>=_, _>>_, require}
 use Rattle.words.specs.Words.{part, allAre}
 use Rattle.table.specs.declared.Shape.{Shape}
 use Rattle.drum.specs.declared.Description.{Description}
 use Rattle.drum.specs.Params.{start}
-use Rattle.drum.specs.Blocks.{Texts}
+use Rattle.drum.specs.Blocks.{Texts, isFree, linkIn, linkPlace, blockAt}
 use Rattle.layout.specs.Inspect.{marked, rowsIn, detailHeld, indexHeld, through, chainHeld, walked, layoutMarks}
 use Rattle.rules.specs.declared.Which.{Which}
 use Rattle.rules.specs.declared.Path.{Path}
@@ -218,10 +218,11 @@ chain-bad p f zero b marks = of-elim (eqb b 0) (passed marks) (refused badFile) 
 chain-bad p f (suc fuel) b marks =
     of-elim (eqb b 0) (passed marks) (do
       ms ← marked 2 b marks
-      require (allAre 0 (part (start p b + 1) (p .wpb - 1) f)) badFile
-      chainHeld p f fuel (getD f (start p b) 0) ms)
+      require (isFree p (blockAt p f b)) badFile
+      require (allAre 0 (drop (linkPlace p + 1) (blockAt p f b))) badFile
+      chainHeld p f fuel (linkIn p (blockAt p f b)) ms)
     (of-passed marks)
-    (let rest : (ms : List ℕ) → Refuses IsBad (chainHeld p f fuel (getD f (start p b) 0) ms) = λ ms. chain-bad p f fuel (getD f (start p b) 0) ms in
+    (let rest : (ms : List ℕ) → Refuses IsBad (chainHeld p f fuel (linkIn p (blockAt p f b)) ms) = λ ms. chain-bad p f fuel (linkIn p (blockAt p f b)) ms in
     search refusing depth 12)
 
 pub walk-bad : (p : Description) (f : List ℕ) → Refuses IsBad (layoutMarks p f)

@@ -86,15 +86,15 @@ module _ (st : State) (ss : List Section) (f : Free) (r : Ready (desc st .k) st 
     dlete-some l two =
         let here : Reached = reached v flag way in
         let t : List ℕ = removed (detailShape p) (length bs) (here .buffer) in
-        let cnt : count (textAt v way) ≡ length (a .leaf .records) = ap count (A .text-is) ∙ count-table (p .wpb) (a .leaf .records) in
+        let cnt : count (detailShape (v .desc)) (textAt v way) ≡ length (a .leaf .records) = ap (count (detailShape p)) (A .text-is) ∙ count-table (detailShape p) (p .wpb) (a .leaf .records) in
         let deed : deleteDeed v flag w ≡ passed (Remove way (length bs)) = simp (l, cnt, ne-eqb (length (a .leaf .records)) 1 (λ e. omega (arith, two, e))) in
         let was : All (RowOk p) (bs ++ x ∷ cs) = subst (All (RowOk p)) q (lk .rows) in
         let len : length (a .leaf .records) ≡ length (bs ++ x ∷ cs) = ap length q in
         let n : length (bs ++ x ∷ cs) ≡ suc (length (bs ++ cs)) = rw (length-append bs cs, length-append bs (x ∷ cs)) (omega arith) in
         let fits : 1 + length (bs ++ x ∷ cs) * p .wpr ≤ p .wpb
         = rw (← len) (omega (arith, caps p (r .sound .kept .good) .records-fit, mul-le-mul-right (p .wpr) (lk .room))) in
-        let words : t ≡ table (p .wpb) (bs ++ cs)
-        = ap (removed (detailShape p) (length bs)) (A .buffer-is ∙ ap (table (p .wpb)) q) ∙ record-remove p kr bs x cs was fits in
+        let words : t ≡ table (detailShape p) (p .wpb) (bs ++ cs)
+        = ap (removed (detailShape p) (length bs)) (A .buffer-is ∙ ap (table (detailShape p) (p .wpb)) q) ∙ record-remove p kr bs x cs was fits in
         subst (λ (z : Outcome). Gives st ss z done 3 (del K (val w) rows) nothing (treeWith a (withRows p (a .leaf) (bs ++ cs) ∷ [])) f)
         (sym (dlete-by (Remove way (length bs)) (storing done (st .work) here t) deed refl))
         (store-gives st ss f (r .sound) (r .opened) here 3 (way-few v flag way) a (A .kept) (A .current-is) (bs ++ cs) (del K (val w) rows) t done

@@ -12,8 +12,9 @@ use Rattle.numbers.specs.Numbers.{done}
 use Rattle.numbers.specs.Checked.{passed}
 use Rattle.words.specs.Keys.{val}
 use Rattle.table.specs.Tables.{count, removed, keyAt, laid}
+use Rattle.drum.proofs.Blocks.{length-freeText}
 use Rattle.drum.specs.declared.Description.{Description}
-use Rattle.drum.specs.Params.{I, goodParams, masterShape, indexShape}
+use Rattle.drum.specs.Params.{I, goodParams, masterShape, indexShape, detailShape}
 use Rattle.drum.specs.Blocks.{Transfer, textOf, freeText, written}
 use Rattle.drum.proofs.Good.{good-facts}
 use Rattle.rules.specs.declared.Path.{Path}
@@ -57,14 +58,10 @@ use Rattle.demands.proofs.Moves.{treeIn, one-freed, two-freed, same-blo
 use Rattle.demands.proofs.Growth.{Grows, nothing, grow-from}
 use Rattle.demands.proofs.Changes.{grow-inner, grow-last, grow-section}
 
-pub free-long : (p : Description) (b : ℕ) → 1 ≤ p .wpb → length (freeText p b) ≡ p .wpb
-unfolding freeText laid
-free-long p b h = ap suc (zeros-length (p .wpb - 1 - 0)) ∙ omega arith
-
 -- the words of the index block with the entry gone: another follows it
 pub gone-inner : (p : Description) (low : List Leaf) (l m : Leaf) (hs : List Leaf) → goodParams p ≡ true → All (LeafFits p) (low ++ (l ∷ (m ∷ hs)))
     → length (low ++ (l ∷ (m ∷ hs))) ≤ I p
-    → entryGone p (length low) (indexText (p .wpb) (low ++ (l ∷ (m ∷ hs)))) ≡ indexText (p .wpb) (low ++ (m ∷ hs))
+    → entryGone p (length low) (indexText p (low ++ (l ∷ (m ∷ hs)))) ≡ indexText p (low ++ (m ∷ hs))
 unfolding entryGone
 gone-inner p low l m hs g ok room =
     simp (
@@ -77,7 +74,7 @@ gone-inner p low l m hs g ok room =
 -- it is the last, "the one before takes its bound"
 pub gone-last : (p : Description) (low : List Leaf) (y l : Leaf) → goodParams p ≡ true → All (LeafFits p) (low ++ (y ∷ (l ∷ [])))
     → length (low ++ (y ∷ (l ∷ []))) ≤ I p
-    → entryGone p (length low + 1) (indexText (p .wpb) (low ++ (y ∷ (l ∷ [])))) ≡ indexText (p .wpb) (low ++ (withBound p y (l .bound) ∷ []))
+    → entryGone p (length low + 1) (indexText p (low ++ (y ∷ (l ∷ [])))) ≡ indexText p (low ++ (withBound p y (l .bound) ∷ []))
 unfolding entryGone
 gone-last p low y l g ok room =
     let w : Leaf = withBound p y (l .bound) in
@@ -87,18 +84,18 @@ gone-last p low y l g ok room =
     let a₂ : low ++ (w ∷ (l ∷ [])) ≡ (low ++ (w ∷ [])) ++ (l ∷ []) = sym (append-assoc low (w ∷ []) (l ∷ [])) in
     let n₁ : length low + 1 ≡ length (low ++ (y ∷ [])) = sym (length-append low (y ∷ [])) in
     let n₂ : length low + 1 ≡ length (low ++ (w ∷ [])) = sym (length-append low (w ∷ [])) in
-    let kb : keyAt (indexShape p) (indexText (p .wpb) (low ++ (y ∷ (l ∷ [])))) (length low + 1) ≡ l .bound
-    = ap₂ (λ (z : List Leaf) (n : ℕ). keyAt (indexShape p) (indexText (p .wpb) z) n) a₁ n₁
+    let kb : keyAt (indexShape p) (indexText p (low ++ (y ∷ (l ∷ [])))) (length low + 1) ≡ l .bound
+    = ap₂ (λ (z : List Leaf) (n : ℕ). keyAt (indexShape p) (indexText p z) n) a₁ n₁
     ∙ index-key p (low ++ (y ∷ [])) l [] (subst (All (LeafFits p)) a₁ ok) in
     let wall : All (LeafFits p) (low ++ (w ∷ (l ∷ []))) = all-append (LeafFits p) low _ (all-left (LeafFits p) low _ ok) (wok, two .1) in
     let less : length low + 1 - 1 ≡ length low = omega arith in
     let last : eqb (length low + 1 + 1) (length (low ++ (y ∷ (l ∷ [])))) ≡ true
     = eq-eqb (length low + 1 + 1) (length (low ++ (y ∷ (l ∷ [])))) (rw (length-append low (y ∷ (l ∷ []))) (omega arith)) in
     rw (count-index p (low ++ (y ∷ (l ∷ []))), last, kb, less, index-rekeyed p g low y (l ∷ []) ok (l .bound) (two .1 .0 .bound))
-    (ap₂ (λ (z : List Leaf) (n : ℕ). removed (indexShape p) n (indexText (p .wpb) z)) a₂ n₂
+    (ap₂ (λ (z : List Leaf) (n : ℕ). removed (indexShape p) n (indexText p z)) a₂ n₂
     ∙ index-removed p g (low ++ (w ∷ [])) l [] (subst (All (LeafFits p)) a₂ wall)
     (omega (arith, room, length-append low (y ∷ (l ∷ [])), length-append low (w ∷ (l ∷ [])), ap length a₂))
-    ∙ ap (indexText (p .wpb)) (append-nil (low ++ (w ∷ []))))
+    ∙ ap (indexText p) (append-nil (low ++ (w ∷ []))))
 
 abbrev pathIn : Way → Path → Path
 pathIn Here d = d
@@ -128,7 +125,7 @@ module _ (st : State) (ss : List Section) (f : Free) (r : Ready (desc st .k) st 
   so : SectionOk p (sec (a .index) (olds a))
   so = sec-ok p a f _ _ (A .held)
 
-  index-is : textOf v (a .index) ≡ indexText (p .wpb) (olds a)
+  index-is : textOf v (a .index) ≡ indexText p (olds a)
   index-is = index-text p a f _ _ (A .held)
 
   head-in : head ≤ p .n
@@ -149,7 +146,7 @@ module _ (st : State) (ss : List Section) (f : Free) (r : Ready (desc st .k) st 
   deed : deleteDeed v flag w ≡ passed (cond (eqb (length (olds a)) 1) (Both way (pathOf a) head) (Empty way (pathOf a) head))
   unfolding deleteDeed deleteAfter emptyDeed
   deed =
-      let cnt : count (textAt v way) ≡ 1 = ap count (A .text-is ∙ ap (table (p .wpb)) q) ∙ count-table (p .wpb) (x ∷ []) in
+      let cnt : count (detailShape (v .desc)) (textAt v way) ≡ 1 = ap (count (detailShape p)) (A .text-is ∙ ap (table (detailShape p) (p .wpb)) q) ∙ count-table (detailShape p) (p .wpb) (x ∷ []) in
       simp (l, cnt, to-empty, head-is p (st .file) ss f (hd .master-is) (hd .sized), upto-pass (p .n) head head-in, index-is, count-index p (olds a))
 
   -- the blocks written, and the rest of the call
@@ -168,7 +165,7 @@ module _ (st : State) (ss : List Section) (f : Free) (r : Ready (desc st .k) st 
       let ws : List Cell = (a .leaf .block, link p f) ∷ ((a .index, t) ∷ []) in
       let i : (1 ≤ a .leaf .block) × (a .leaf .block ≤ p .n) = leaf-in p a f _ _ (A .held) in
       let j : (1 ≤ a .index) × (a .index ≤ p .n) = index-in p a f _ _ (A .held) in
-      let fit : All (Fits p) ws = ((i .0, i .1, free-long p head (omega (arith, good-facts p good .wpb-least))), ((j .0, j .1, lt), tt)) in
+      let fit : All (Fits p) ws = ((i .0, i .1, length-freeText p head good), ((j .0, j .1, lt), tt)) in
       let old : 1 ≤ cellTimes (a .leaf .block) ws = omega (arith, is-self (a .leaf .block)) in
       let file₁ : List ℕ = set (st .file) 1 b in
       let e₁ : file₁ ≡ masterFor p (treeOf a) f′ ++ behind p (st .file)
@@ -203,7 +200,7 @@ module _ (st : State) (ss : List Section) (f : Free) (r : Ready (desc st .k) st 
       let held′ : HoldsCells p (masterOf p (st .file)) (textOf v) (a .before ++ (sec (a .index) (a .low ++ (a .leaf ∷ (m ∷ hs))) ∷ a .behind)) f
       = subst (λ (z : List Leaf). HoldsCells p (masterOf p (st .file)) (textOf v) (a .before ++ (sec (a .index) z ∷ a .behind)) f) eo (A .held) in
       let t-is : entryGone p (length (a .low)) (textOf v (a .index)) ≡ ix p ls
-      = ap (entryGone p (length (a .low))) (index-is ∙ ap (indexText (p .wpb)) eo) ∙ gone-inner p (a .low) (a .leaf) m hs good oks room in
+      = ap (entryGone p (length (a .low))) (index-is ∙ ap (indexText p) eo) ∙ gone-inner p (a .low) (a .leaf) m hs good oks room in
       let ss′ : List Section = a .before ++ (sec (a .index) ls ∷ a .behind) in
       emptied (Empty way (pathOf a) head) (ix p ls) (a .leaf .block) (λ z. z)
       (deed ∙ simp (ne-eqb (length (olds a)) 1 (λ z. omega (arith, n, z))))
@@ -237,7 +234,7 @@ module _ (st : State) (ss : List Section) (f : Free) (r : Ready (desc st .k) st 
       let held′ : HoldsCells p (masterOf p (st .file)) (textOf v) (a .before ++ (sec (a .index) (low ++ (y ∷ (a .leaf ∷ []))) ∷ a .behind)) f
       = subst (λ (z : List Leaf). HoldsCells p (masterOf p (st .file)) (textOf v) (a .before ++ (sec (a .index) z ∷ a .behind)) f) eo (A .held) in
       let t-is : entryGone p (length (a .low)) (textOf v (a .index)) ≡ ix p ls
-      = ap₂ (λ (i : ℕ) (t : List ℕ). entryGone p i t) j (index-is ∙ ap (indexText (p .wpb)) eo) ∙ gone-last p low y (a .leaf) good (ok .leaves) (ok .room) in
+      = ap₂ (λ (i : ℕ) (t : List ℕ). entryGone p i t) j (index-is ∙ ap (indexText p) eo) ∙ gone-last p low y (a .leaf) good (ok .leaves) (ok .room) in
       let ss′ : List Section = a .before ++ (sec (a .index) ls ∷ a .behind) in
       emptied (Empty way (pathOf a) head) (ix p ls) (a .leaf .block) (λ z. z)
       (deed ∙ simp (ne-eqb (length (olds a)) 1 (λ z. omega (arith, ap length eo, n, z))))
@@ -274,7 +271,7 @@ module _ (st : State) (ss : List Section) (f : Free) (r : Ready (desc st .k) st 
       emptied (Both way (pathOf a) head) (link p (push p (a .leaf .block) f)) (a .index) (removed (masterShape p) (length (a .before)))
       (deed ∙ simp (eq-eqb (length (olds a)) 1 (ap length eo))) refl f′ refl refl (a .before ++ a .behind)
       (λ rest. master-removed p good (a .before) (sec (a .index) (olds a)) (a .behind) (A .held .sized) f′ rest (A .held .sections))
-      (free-long p (a .leaf .block) (omega (arith, good-facts p good .wpb-least)))
+      (length-freeText p (a .leaf .block) good)
       (subst (λ (z : List Section). HoldsCells p (masterFor p (a .before ++ z) f′)
       (wrotes (textOf v) ((a .leaf .block, link p f) ∷ ((a .index, link p (push p (a .leaf .block) f)) ∷ []))) (a .before ++ z) f′) (sym eb)
       (drop-section p (a .before) (a .index) (a .leaf) jb m hs cs f (masterOf p (st .file)) (textOf v) held′))

@@ -161,11 +161,11 @@ module _ (v : Texts) (flag : Bool) (key : List ℕ) where
 
 module _ (v : Texts) (flag : Bool) where
   -- the index read besides, where the last block holds only the end record, and where it does not
-  alone : (way : Way) (w : Path) → eqb (count (textAt v way)) 1 ≡ true → x.lastOf v way ≡ passed w → besides v way ≡ passed (w .index)
+  alone : (way : Way) (w : Path) → eqb (count (detailShape (v .desc)) (textAt v way)) 1 ≡ true → x.lastOf v way ≡ passed w → besides v way ≡ passed (w .index)
   unfolding besides
   alone way w e g = simp (e, g)
 
-  among : (way : Way) → eqb (count (textAt v way)) 1 ≡ false → besides v way ≡ passed 0
+  among : (way : Way) → eqb (count (detailShape (v .desc)) (textAt v way)) 1 ≡ false → besides v way ≡ passed 0
   unfolding besides
   among way e = simp e
 

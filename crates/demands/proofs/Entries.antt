@@ -73,18 +73,18 @@ module _ (p : Description) where
   unfolding entry
   index-rows ls h = rows-each (p .k) (λ (l : Leaf). l .bound) (λ (l : Leaf). l .block) ls (leaves-bounded p ls h)
 
-  pub count-index : (ls : List Leaf) → count (indexText (p .wpb) ls) ≡ length ls
+  pub count-index : (ls : List Leaf) → count (indexShape p) (indexText p ls) ≡ length ls
   unfolding indexText
-  count-index ls = count-table (p .wpb) (map entry ls) ∙ length-map ls entry
+  count-index ls = count-table (indexShape p) (p .wpb) (map entry ls) ∙ length-map ls entry
 
-  pub index-long : goodParams p ≡ true → (ls : List Leaf) → All (LeafFits p) ls → length ls ≤ I p → length (indexText (p .wpb) ls) ≡ p .wpb
+  pub index-long : goodParams p ≡ true → (ls : List Leaf) → All (LeafFits p) ls → length ls ≤ I p → length (indexText p ls) ≡ p .wpb
   unfolding indexText
   index-long g ls ok l =
-      length-table (p .wpb) (p .k + 1) (map entry ls) (index-rows ls ok)
+      length-table (indexShape p) (p .wpb) (p .k + 1) (map entry ls) (index-rows ls ok)
       (rw (length-map ls entry) (omega (arith, caps p g .entries-fit, mul-le-mul-right (p .k + 1) l)))
 
   pub index-from : (w : List ℕ) → allWords w ≡ true → length w ≡ p .k → (ls : List Leaf) → All (LeafFits p) ls
-      → rowFrom (indexShape p) w (indexText (p .wpb) ls) ≡ firstIn (λ l. leb (val w) (bd (p .k) l)) ls
+      → rowFrom (indexShape p) w (indexText p ls) ≡ firstIn (λ l. leb (val w) (bd (p .k) l)) ls
   unfolding indexShape indexText entry bd
   index-from w wide long ls ok =
       let bo : All (Bounded (p .k) (λ (l : Leaf). l .bound) (λ (l : Leaf). l .block)) ls = leaves-bounded p ls ok in
@@ -94,7 +94,7 @@ module _ (p : Description) where
       ∙ rows-bound (p .k) (λ (l : Leaf). l .bound) (λ (l : Leaf). l .block) w ls bo
 
   module _ (low : List Leaf) (l : Leaf) (high : List Leaf) (ok : All (LeafFits p) (low ++ (l ∷ high))) where
-    pub index-at : blockIn (indexShape p) (indexText (p .wpb) (low ++ (l ∷ high))) (length low) ≡ l .block
+    pub index-at : blockIn (indexShape p) (indexText p (low ++ (l ∷ high))) (length low) ≡ l .block
     unfolding indexShape indexText entry
     index-at =
         rw (map-append entry low (l ∷ high), ← length-map low entry)
@@ -102,7 +102,7 @@ module _ (p : Description) where
         (index-rows high (all-right (LeafFits p) low _ ok .1))
         refl (l .bound) (all-right (LeafFits p) low _ ok .0 .bound) (l .block))
 
-    pub index-key : keyAt (indexShape p) (indexText (p .wpb) (low ++ (l ∷ high))) (length low) ≡ l .bound
+    pub index-key : keyAt (indexShape p) (indexText p (low ++ (l ∷ high))) (length low) ≡ l .bound
     unfolding indexShape indexText entry
     index-key =
         rw (map-append entry low (l ∷ high), ← length-map low entry)
@@ -166,7 +166,7 @@ module _ (p : Description) where
         ap (rowFrom (masterShape p) w) file-tab
         ∙ from-is (masterShape p) (omega arith) (map (masterEntry p) ss)
         (rows-each (p .k) (λ (s : Section). lastBound [] (s .leaves)) (λ (s : Section). s .block) ss bo) w wide
-        (rows-key (p .k) (λ (s : Section). lastBound [] (s .leaves)) (λ (s : Section). s .block) w wide long ss bo) (front f) refl
+        (rows-key (p .k) (λ (s : Section). lastBound [] (s .leaves)) (λ (s : Section). s .block) w wide long ss bo) (front f) refl refl
         (slack (length (map (masterEntry p) ss))) (behind p file)
         ∙ rows-bound (p .k) (λ (s : Section). lastBound [] (s .leaves)) (λ (s : Section). s .block) w ss bo
 
@@ -183,14 +183,14 @@ module _ (p : Description) where
     unfolding masterShape
     master-at =
         rw (file-tab file (bs ++ s ∷ cs) f h ok, seam, ← length-map bs (masterEntry p))
-        (block-tab (masterShape p) (front f) refl (map (masterEntry p) bs) (master-rows bs (all-left (SectionOk p) bs _ ok)) (lastBound [] (s .leaves))
+        (block-tab (masterShape p) (front f) refl refl (map (masterEntry p) bs) (master-rows bs (all-left (SectionOk p) bs _ ok)) (lastBound [] (s .leaves))
         (s .block) sized (map (masterEntry p) cs) _ _ refl)
 
     pub master-key : keyAt (masterShape p) file (length bs) ≡ lastBound [] (s .leaves)
     unfolding masterShape
     master-key =
         rw (file-tab file (bs ++ s ∷ cs) f h ok, seam, ← length-map bs (masterEntry p))
-        (key-tab (masterShape p) (front f) refl (map (masterEntry p) bs) (master-rows bs (all-left (SectionOk p) bs _ ok))
+        (key-tab (masterShape p) (front f) refl refl (map (masterEntry p) bs) (master-rows bs (all-left (SectionOk p) bs _ ok))
         (lastBound [] (s .leaves) ++ (s .block ∷ []))
         (rw (length-append (lastBound [] (s .leaves)) (s .block ∷ []), sized)) (map (masterEntry p) cs) _ _ (omega arith)
         ∙ take-at (lastBound [] (s .leaves)) (s .block ∷ []) (p .k) sized)

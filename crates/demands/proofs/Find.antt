@@ -1,5 +1,5 @@
 -- Searches on the words of a table, as searches on its rows by keys as numbers. One law for master, index and detail blocks.
-use Prim.Native.Nat.{ℕ, suc, _≤_, _<_}
+use Prim.Native.Nat.{ℕ, suc, _≤_, _<_, _+_}
 use mathlib.Core.Bool.{true, not}
 use mathlib.Core.Path.{_≡_, refl, sym, _∙_}
 use mathlib.Core.List.{List, [], _∷_, _++_}
@@ -47,19 +47,20 @@ module _ (key : List ℕ) (wide : allWords key ≡ true) where
 module _ (h : Shape) (kw : h .width ≤ h .stride) (rows : List (List ℕ)) (er : Each (h .stride) rows) (key : List ℕ) (wide : allWords key ≡ true)
     (hk : All (KeyRow key wide (h .width)) rows) where
   -- in the master
-  pub from-is : (front : List ℕ) → h .base ≡ suc (length front) → (z : ℕ) (rest : List ℕ)
+  pub from-is : (front : List ℕ) → h .base ≡ suc (length front) → h .tag ≡ 0 → (z : ℕ) (rest : List ℕ)
       → rowFrom h key (tab front rows z rest) ≡ firstIn (λ r. leb (val key) (val (take (h .width) r))) rows
   unfolding tab encode
-  from-is front eb z rest =
-      from-encode h front eb kw key (length rows) rows refl er (zeros z ++ rest) ∙ firstIn-same _ _ rows (test-from key wide (h .width) rows hk)
+  from-is front eb plain z rest =
+      let e : h .tag + length rows ≡ length rows = omega arith in
+      rw e at (from-encode h front eb kw key (length rows) rows refl er (zeros z ++ rest)) ∙ firstIn-same _ _ rows (test-from key wide (h .width) rows hk)
 
   -- in a block
   module _ (one : h .base ≡ 1) (wpb : ℕ) where
-    pub table-from-is : rowFrom h key (table wpb rows) ≡ firstIn (λ r. leb (val key) (val (take (h .width) r))) rows
+    pub table-from-is : rowFrom h key (table h wpb rows) ≡ firstIn (λ r. leb (val key) (val (take (h .width) r))) rows
     table-from-is = table-from wpb h one rows er kw key ∙ firstIn-same _ _ rows (test-from key wide (h .width) rows hk)
 
-    pub table-with-is : rowWith h key (table wpb rows) ≡ firstIn (λ r. eqb (val (take (h .width) r)) (val key)) rows
+    pub table-with-is : rowWith h key (table h wpb rows) ≡ firstIn (λ r. eqb (val (take (h .width) r)) (val key)) rows
     table-with-is = table-with wpb h one rows er kw key ∙ firstIn-same _ _ rows (test-with key wide (h .width) rows hk)
 
-    pub table-above-is : rowAbove h key (table wpb rows) ≡ firstIn (λ r. ltb (val key) (val (take (h .width) r))) rows
+    pub table-above-is : rowAbove h key (table h wpb rows) ≡ firstIn (λ r. ltb (val key) (val (take (h .width) r))) rows
     table-above-is = table-above wpb h one rows er kw key ∙ firstIn-same _ _ rows (test-above key wide (h .width) rows hk)

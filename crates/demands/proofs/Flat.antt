@@ -3,6 +3,7 @@ use Prim.Native.Nat.{ℕ, suc, _+_, _≤_}
 use mathlib.Core.Path.{_≡_, refl, sym, ap, _∙_}
 use mathlib.Core.List.{List, [], _∷_, _++_, append-assoc}
 use lib.ListN.{length, take, length-append, length-replicate, replicate-append-replicate}
+use native.Mathlib.Omega.{arith}
 use Rattle.words.specs.Words.{zeros}
 use Rattle.table.specs.declared.Shape.{Shape}
 use Rattle.table.specs.Tables.{count, keyAt, blockIn, inserted, removed, replaced}
@@ -18,11 +19,15 @@ zeros-split a b rest = ap (λ (z : List ℕ). z ++ rest) (sym (replicate-append-
 pub zeros-length : (n : ℕ) → length (zeros n) ≡ n
 zeros-length n = length-replicate {A = ℕ} n 0
 
-pub count-tab : (front : List ℕ) (rows : List (List ℕ)) (z : ℕ) (rest : List ℕ) → count (tab front rows z rest) ≡ length rows
-unfolding tab
-count-tab front rows z rest = refl
+pub count-tab : (h : Shape) → h .tag ≡ 0 → (front : List ℕ) (rows : List (List ℕ)) (z : ℕ) (rest : List ℕ) → count h (tab front rows z rest) ≡ length rows
+unfolding tab count
+count-tab h plain front rows z rest = omega arith
 
-module _ (h : Shape) (front : List ℕ) (eb : h .base ≡ suc (length front)) (bs : List (List ℕ)) (hb : Each (h .stride) bs) where
+-- no tag, no more than the number
+untagged : (h : Shape) → h .tag ≡ 0 → (n : ℕ) → h .tag + n ≡ n
+untagged h plain n = omega arith
+
+module _ (h : Shape) (front : List ℕ) (eb : h .base ≡ suc (length front)) (plain : h .tag ≡ 0) (bs : List (List ℕ)) (hb : Each (h .stride) bs) where
   module _ (r : List ℕ) (hr : length r ≡ h .stride) (cs : List (List ℕ)) (z : ℕ) (rest : List ℕ) where
     pub key-tab : h .width ≤ h .stride → keyAt h (tab front (bs ++ r ∷ cs) z rest) (length bs) ≡ take (h .width) r
     unfolding tab encode
@@ -31,14 +36,17 @@ module _ (h : Shape) (front : List ℕ) (eb : h .base ≡ suc (length front)) (b
     pub inserted-tab : Each (h .stride) cs → inserted h (length bs) r (tab front (bs ++ cs) (h .stride + z) rest) ≡ tab front (bs ++ r ∷ cs) z rest
     unfolding tab encode
     inserted-tab hc =
-        rw (zeros-split (h .stride) z rest) (inserted-encode h front eb bs cs hb hc (length (bs ++ cs)) (length (bs ++ r ∷ cs)) r (zeros (h .stride))
-        (zeros z ++ rest) refl refl hr (zeros-length (h .stride)))
+        rw (zeros-split (h .stride) z rest)
+        (rw (untagged h plain (length (bs ++ cs)), untagged h plain (length (bs ++ r ∷ cs)))
+        at (inserted-encode h front eb bs cs hb hc (length (bs ++ cs)) (length (bs ++ r ∷ cs)) r (zeros (h .stride))
+        (zeros z ++ rest) refl refl hr (zeros-length (h .stride))))
 
     pub removed-tab : Each (h .stride) cs → removed h (length bs) (tab front (bs ++ r ∷ cs) z rest) ≡ tab front (bs ++ cs) (h .stride + z) rest
     unfolding tab encode
     removed-tab hc =
         rw (zeros-split (h .stride) z rest)
-        (removed-encode h front eb bs cs hb hc (length (bs ++ r ∷ cs)) (length (bs ++ cs)) r (zeros z ++ rest) refl refl hr)
+        (rw (untagged h plain (length (bs ++ cs)), untagged h plain (length (bs ++ r ∷ cs)))
+        at (removed-encode h front eb bs cs hb hc (length (bs ++ r ∷ cs)) (length (bs ++ cs)) r (zeros z ++ rest) refl refl hr))
 
   -- entries: a key, and the block that it bounds
   module _ (w : List ℕ) (b : ℕ) (hw : length w ≡ h .width) (cs : List (List ℕ)) (z : ℕ) (rest : List ℕ) where
@@ -63,5 +71,6 @@ module _ (h : Shape) (front : List ℕ) (eb : h .base ≡ suc (length front)) (b
   unfolding tab encode
   entered-tab w b hw cs z rest hs hc r hr c =
       rw (zeros-split (h .stride) z rest)
-      (entered-encode h front eb hs bs cs hb hc (length (bs ++ (w ++ (b ∷ [])) ∷ cs)) (length (bs ++ r ∷ ((w ++ (c ∷ [])) ∷ cs))) w b c r (zeros (h .stride))
-      (zeros z ++ rest) refl refl hw hr (zeros-length (h .stride)))
+      (rw (untagged h plain (length (bs ++ (w ++ (b ∷ [])) ∷ cs)), untagged h plain (length (bs ++ r ∷ ((w ++ (c ∷ [])) ∷ cs))))
+      at (entered-encode h front eb hs bs cs hb hc (length (bs ++ (w ++ (b ∷ [])) ∷ cs)) (length (bs ++ r ∷ ((w ++ (c ∷ [])) ∷ cs))) w b c r (zeros (h .stride))
+      (zeros z ++ rest) refl refl hw hr (zeros-length (h .stride))))

@@ -8,13 +8,14 @@ use native.Mathlib.Omega.{arith}
 use lib.Dec.{ltb, eqb}
 use lib.ListN.{length}
 use borrow.Author.Tests.{lt-ltb, le-ltb, eq-eqb, ne-eqb}
-use Rattle.numbers.specs.Numbers.{done, noneFree}
-use Rattle.numbers.specs.Checked.{Checked, passed, _>>=_, _>>_, upTo}
+use Rattle.numbers.specs.Numbers.{done, noneFree, badFile}
+use Rattle.numbers.specs.Checked.{Checked, passed, _>>=_, _>>_, upTo, require}
 use Rattle.words.specs.Words.{zeros}
 use Rattle.table.specs.Tables.{laid}
+use Rattle.drum.proofs.FreeTexts.{kind-freeText, link-freeText}
 use Rattle.drum.specs.declared.Description.{Description}
-use Rattle.drum.specs.Params.{D}
-use Rattle.drum.specs.Blocks.{Texts, textOf, freeText, linkIn}
+use Rattle.drum.specs.Params.{D, goodParams}
+use Rattle.drum.specs.Blocks.{Texts, textOf, freeText, linkIn, isFree}
 use Rattle.rules.specs.declared.Taken.{Taken}
 use Rattle.rules.specs.Free.{noneLeft, granted, isNew, storedNumber}
 use Rattle.demands.proofs.Lists.{All, all-left, all-right}
@@ -102,13 +103,13 @@ free-ok v ss f master h =
     let Q : ℕ → Type 0 = λ b. (1 ≤ b) × (b ≤ p .n) in
     let R : Cell → Type 0 = λ c. Q (c .0) in
     let T : Cell → Type 0 = λ c. textOf v (c .0) ≡ c .1 in
-    let ins : All R (cellsOf (p .wpb) ss ++ (chainCells p (f .chain) ++ freshCells p (f .lowest) (f .spare)))
-    = all-times Q (cellsOf (p .wpb) ss ++ freeCells p f) (λ b l. inside-low (p .n) b (omega (arith, h .once b))) in
-    let part : All R (chainCells p (f .chain) ++ freshCells p (f .lowest) (f .spare)) = all-right R (cellsOf (p .wpb) ss) _ ins in
+    let ins : All R (cellsOf p ss ++ (chainCells p (f .chain) ++ freshCells p (f .lowest) (f .spare)))
+    = all-times Q (cellsOf p ss ++ freeCells p f) (λ b l. inside-low (p .n) b (omega (arith, h .once b))) in
+    let part : All R (chainCells p (f .chain) ++ freshCells p (f .lowest) (f .spare)) = all-right R (cellsOf p ss) _ ins in
     record {
       numbers = h .numbers;
       chained = cells-chain p Q (f .chain) (all-left R (chainCells p (f .chain)) _ part);
-      agree = all-left T (chainCells p (f .chain)) _ (all-right T (cellsOf (p .wpb) ss) _ (h .agree));
+      agree = all-left T (chainCells p (f .chain)) _ (all-right T (cellsOf p ss) _ (h .agree));
       low = first (f .spare) (f .lowest) (h .numbers) (all-right R (chainCells p (f .chain)) _ part);
     }
   where
@@ -123,10 +124,6 @@ free-taken v f h l = go (f .chain) refl (f .spare) refl
     go [] e zero g = absurd (omega (arith, ap length e))
     go [] e (suc s) g = record { numbers = omega (arith, h .numbers); chained = tt; agree = tt; low = omega arith }
     go (c ∷ cs) e s g = record { numbers = rw (← g) (h .numbers); chained = (rw e at (h .chained)) .1; agree = (rw e at (h .agree)) .1; low = h .low }
-
-link-in : (p : Description) (b : ℕ) → linkIn (freeText p b) ≡ b
-unfolding freeText laid
-link-in p b = refl
 
 module _ (v : Texts) where
   none-left : (f : Free) → FreeOk v f → noneLeft (v .desc) (headOr (f .chain) 0) (f .lowest) ≡ passed (eqb (freeCount f) 0)
@@ -161,36 +158,37 @@ module _ (v : Texts) where
   unfolding granted
   grant-none f h z = simp (none-left f h, eq-eqb (freeCount f) 0 z)
 
-  pub grant-some : (f : Free) → FreeOk v f → 1 ≤ freeCount f → granted v (headOr (f .chain) 0) (f .lowest) ≡ passed (takenOf f)
+  pub grant-some : goodParams (v .desc) ≡ true → (f : Free) → FreeOk v f → 1 ≤ freeCount f → granted v (headOr (f .chain) 0) (f .lowest) ≡ passed (takenOf f)
   unfolding granted
-  grant-some f h l = rw (none-left f h) (simp (ne-eqb (freeCount f) 0 (λ e. omega arith)) (go (f .chain) (f .spare) l (h .chained) (h .agree)))
+  grant-some good f h l = rw (none-left f h) (simp (ne-eqb (freeCount f) 0 (λ e. omega arith)) (go (f .chain) (f .spare) l (h .chained) (h .agree)))
     where
       p : Description
       p = v .desc
 
       go : (c : List ℕ) (s : ℕ) → 1 ≤ length c + s → All (λ b. (1 ≤ b) × (b ≤ p .n)) c → Agree (textOf v) (chainCells p c)
           → cond {A = Checked Taken} (eqb (headOr c 0) 0) (passed (record { block = f .lowest; head = 0; lowest = f .lowest + 1 }))
-          (upTo (p .n) (linkIn (textOf v (headOr c 0))) >>= (λ link. passed (record { block = headOr c 0; head = link; lowest = f .lowest })))
+          (require (isFree p (textOf v (headOr c 0))) badFile
+          >> (upTo (p .n) (linkIn p (textOf v (headOr c 0))) >>= (λ link. passed (record { block = headOr c 0; head = link; lowest = f .lowest }))))
           ≡ passed (record { block = headOr c (f .lowest); head = headOr (takes c (f .lowest) s .chain) 0; lowest = takes c (f .lowest) s .lowest })
       go [] s l a g = refl
-      go (c ∷ []) s l a g = simp (ne-eqb c 0 (λ e. omega (arith, a .0 .0)), g .0, link-in p 0, upto-pass (p .n) 0 (omega arith))
-      go (c ∷ (b ∷ cs)) s l a g = simp (ne-eqb c 0 (λ e. omega (arith, a .0 .0)), g .0, link-in p b, upto-pass (p .n) b (a .1 .0 .1))
+      go (c ∷ []) s l a g = simp (ne-eqb c 0 (λ e. omega (arith, a .0 .0)), g .0, kind-freeText p 0 good, link-freeText p 0 good, upto-pass (p .n) 0 (omega arith))
+      go (c ∷ (b ∷ cs)) s l a g = simp (ne-eqb c 0 (λ e. omega (arith, a .0 .0)), g .0, kind-freeText p b good, link-freeText p b good, upto-pass (p .n) b (a .1 .0 .1))
 
 -- ---- a new block is none of the call's other blocks
 
 module _ (p : Description) (master : List ℕ) (text : ℕ → List ℕ) (ss : List Section) (f : Free) (h : HoldsCells p master text ss f) (l : 1 ≤ freeCount f) where
-  split : (b : ℕ) → cellTimes b (cellsOf (p .wpb) ss) + (is (next f) b + cellTimes b (freeCells p (taken f))) ≡ inside (p .n) b
+  split : (b : ℕ) → cellTimes b (cellsOf p ss) + (is (next f) b + cellTimes b (freeCells p (taken f))) ≡ inside (p .n) b
   unfolding cellTimes
   split b =
-      sym (weigh-append (λ c. is (c .0) b) (cellsOf (p .wpb) ss) (freeCells p f)
-      ∙ ap (λ (n : ℕ). weigh (λ c. is (c .0) b) (cellsOf (p .wpb) ss) + n)
+      sym (weigh-append (λ c. is (c .0) b) (cellsOf p ss) (freeCells p f)
+      ∙ ap (λ (n : ℕ). weigh (λ c. is (c .0) b) (cellsOf p ss) + n)
       (ap (weigh (λ c. is (c .0) b)) (take-block p f l) ∙ weigh-cons (λ c. is (c .0) b) (next f, firstText p (f .chain)) (freeCells p (taken f)))) ∙ h .once b
 
   pub next-in : (1 ≤ next f) × (next f ≤ p .n)
   next-in = inside-low (p .n) (next f) (omega (arith, split (next f), is-self (next f)))
 
   -- the first new block, and the second
-  pub next-outside : cellTimes (next f) (cellsOf (p .wpb) ss) ≡ 0
+  pub next-outside : cellTimes (next f) (cellsOf p ss) ≡ 0
   next-outside = omega (arith, split (next f), is-self (next f), inside-le (p .n) (next f))
 
   module _ (l₂ : 1 ≤ freeCount (taken f)) where
@@ -203,17 +201,17 @@ module _ (p : Description) (master : List ℕ) (text : ℕ → List ℕ) (ss : L
     pub second-in : (1 ≤ next (taken f)) × (next (taken f) ≤ p .n)
     second-in = inside-low (p .n) (next (taken f)) (omega (arith, split (next (taken f)), more (next (taken f)), is-self (next (taken f))))
 
-    pub second-outside : cellTimes (next (taken f)) (cellsOf (p .wpb) ss) ≡ 0
+    pub second-outside : cellTimes (next (taken f)) (cellsOf p ss) ≡ 0
     second-outside = omega (arith, split (next (taken f)), more (next (taken f)), is-self (next (taken f)), inside-le (p .n) (next (taken f)))
 
     pub second-other : next (taken f) ≢ next f
     second-other = is-ne (next (taken f)) (next f) (omega (arith, split (next f), more (next f), is-self (next f), inside-le (p .n) (next f)))
 
 pub new-pass : (v : Texts) (flag : Bool) (ss : List Section) (f : Free) → KeptTree v flag ss f → (a : Place) → ss ≡ treeOf a → (b : ℕ)
-    → cellTimes b (cellsOf (v .desc .wpb) ss) ≡ 0
+    → cellTimes b (cellsOf (v .desc) ss) ≡ 0
     → isNew (v .current) flag (pathOf a) b ≡ true
 new-pass v flag ss f h a e b z =
-    let apart : is (a .index) b + is (a .leaf .block) b ≡ 0 = omega (arith, cells-in (v .desc .wpb) a b, rw e at z) in
+    let apart : is (a .index) b + is (a .leaf .block) b ≡ 0 = omega (arith, cells-in (v .desc) a b, rw e at z) in
     simp
     (ne-eqb b (a .index) (λ q. is-ne (a .index) b (omega arith) (sym q)), ne-eqb b (a .leaf .block) (λ q. is-ne (a .leaf .block) b (omega arith) (sym q)))
     (go flag refl)
@@ -224,6 +222,6 @@ new-pass v flag ss f h a e b z =
         simp (ne-eqb b (v .current) (λ q. omega (
           arith,
           z,
-          subst (λ (c : ℕ). 1 ≤ cellTimes c (cellsOf (v .desc .wpb) ss)) (sym q)
+          subst (λ (c : ℕ). 1 ≤ cellTimes c (cellsOf (v .desc) ss)) (sym q)
               (spot-cell (v .desc) ss (v .current) (h .current (h .flagged g))),
         )))

@@ -86,8 +86,8 @@ module _ (p : Description) where
 
   pub record HoldsCells (master : List ℕ) (text : ℕ → List ℕ) (ss : List Section) (f : Free) : Type 0 where
     pub master-is : master ≡ masterFor ss f
-    pub agree : Agree text (cellsOf (p .wpb) ss ++ freeCells f)
-    pub once : (b : ℕ) → cellTimes b (cellsOf (p .wpb) ss ++ freeCells f) ≡ inside (p .n) b
+    pub agree : Agree text (cellsOf p ss ++ freeCells f)
+    pub once : (b : ℕ) → cellTimes b (cellsOf p ss ++ freeCells f) ≡ inside (p .n) b
     pub ranged : Ranged (p .k) 0 (leavesIn ss)
     pub top : reach (p .k) 0 (leavesIn ss) ≡ suc (val (ones (p .k)))
     pub sized : All SectionOk ss
@@ -98,14 +98,14 @@ module _ (p : Description) where
 
   module _ (bs ms cs : List Section) (f : Free) (master : List ℕ) (text : ℕ → List ℕ) (h : HoldsCells master text (bs ++ (ms ++ cs)) f) where
     pub region : (ms′ : List Section) (f′ : Free) (old keep ws : List Cell)
-        → SameCells (cellsOf (p .wpb) ms ++ freeCells f) (old ++ keep) → SameCells (cellsOf (p .wpb) ms′ ++ freeCells f′) (ws ++ keep)
+        → SameCells (cellsOf p ms ++ freeCells f) (old ++ keep) → SameCells (cellsOf p ms′ ++ freeCells f′) (ws ++ keep)
         → ((b : ℕ) → cellTimes b ws ≡ cellTimes b old)
         → Ranged (p .k) (reach (p .k) 0 (leavesIn bs)) (leavesIn ms′)
         → reach (p .k) (reach (p .k) 0 (leavesIn bs)) (leavesIn ms′) ≡ reach (p .k) (reach (p .k) 0 (leavesIn bs)) (leavesIn ms)
         → All SectionOk ms′ → length (bs ++ (ms′ ++ cs)) ≤ p .control → f′ .lowest + f′ .spare ≡ f .lowest + f .spare
         → HoldsCells (masterFor (bs ++ (ms′ ++ cs)) f′) (wrotes text ws) (bs ++ (ms′ ++ cs)) f′
     region ms′ f′ old keep ws was will moved g e ok sec num =
-        let W : ℕ = p .wpb in
+        let W : Description = p in
         let others : List Cell = cellsOf W bs ++ cellsOf W cs in
         let now : SameCells (cellsOf W (bs ++ (ms ++ cs)) ++ freeCells f) (old ++ (keep ++ others))
         = λ w. simp (cells-append, weigh-append) (omega (arith, weigh-append w (cellsOf W ms) (freeCells f), weigh-append w old keep, was w)) in

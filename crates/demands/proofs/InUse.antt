@@ -9,7 +9,7 @@ use native.Mathlib.Numerals.{add-one}
 use lib.ListN.{length, length-append}
 use Rattle.table.specs.Tables.{count, blockIn}
 use Rattle.drum.specs.declared.Description.{Description}
-use Rattle.drum.specs.Params.{masterShape}
+use Rattle.drum.specs.Params.{masterShape, detailShape, indexShape}
 use Rattle.drum.specs.Blocks.{Texts, blockAt}
 use Rattle.rules.specs.State.{State, desc, texts}
 use Rattle.demands.specs.Formula.{detailsUnder, detailBlocks, indexBlocks}
@@ -23,26 +23,26 @@ use Rattle.demands.proofs.Entries.{sections-is, master-at, count-index}
 use Rattle.demands.proofs.Sound.{KeptTree, Sound, text-other}
 
 -- the cells of the index blocks, and those of the leaves
-index-cell : ℕ → Section → Cell
-index-cell wpb s = (s .block, indexText wpb (s .leaves))
+index-cell : Description → Section → Cell
+index-cell p s = (s .block, indexText p (s .leaves))
 
-kinds : (wpb : ℕ) (w : Cell → ℕ) (ss : List Section) → weigh w (cellsOf wpb ss) ≡ weigh w (map (index-cell wpb) ss) + weigh w (map (leafCell wpb) (leavesIn ss))
+kinds : (p : Description) (w : Cell → ℕ) (ss : List Section) → weigh w (cellsOf p ss) ≡ weigh w (map (index-cell p) ss) + weigh w (map (leafCell p) (leavesIn ss))
 unfolding cellsOf index-cell
-kinds wpb w [] = rw (weigh-nil w)
-kinds wpb w (s ∷ ss) = simp (weigh-append, weigh-cons, map-append) (omega (arith, kinds wpb w ss))
+kinds p w [] = rw (weigh-nil w)
+kinds p w (s ∷ ss) = simp (weigh-append, weigh-cons, map-append) (omega (arith, kinds p w ss))
 
 module _ (p : Description) (master : List ℕ) (text : ℕ → List ℕ) (f : Free) (bs : List Section) (s : Section) (cs : List Section)
     (h : HoldsCells p master text (bs ++ s ∷ cs) f) where
-  index-times : (b : ℕ) → is (s .block) b ≤ weigh (λ c. is (c .0) b) (map (index-cell (p .wpb)) (bs ++ s ∷ cs))
+  index-times : (b : ℕ) → is (s .block) b ≤ weigh (λ c. is (c .0) b) (map (index-cell p) (bs ++ s ∷ cs))
   unfolding index-cell
   index-times b = simp (map-append, weigh-append, weigh-cons) (omega arith)
 
-  once : (b : ℕ) → weigh (λ c. is (c .0) b) (map (index-cell (p .wpb)) (bs ++ s ∷ cs)) + weigh (λ c. is (c .0) b)
-      (map (leafCell (p .wpb)) (leavesIn (bs ++ s ∷ cs))) ≤ inside (p .n) b
+  once : (b : ℕ) → weigh (λ c. is (c .0) b) (map (index-cell p) (bs ++ s ∷ cs)) + weigh (λ c. is (c .0) b)
+      (map (leafCell p) (leavesIn (bs ++ s ∷ cs))) ≤ inside (p .n) b
   unfolding cellTimes
   once b =
       omega
-      (arith, h .once b, weigh-append (λ c. is (c .0) b) (cellsOf (p .wpb) (bs ++ s ∷ cs)) (freeCells p f), kinds (p .wpb) (λ c. is (c .0) b) (bs ++ s ∷ cs))
+      (arith, h .once b, weigh-append (λ c. is (c .0) b) (cellsOf p (bs ++ s ∷ cs)) (freeCells p f), kinds p (λ c. is (c .0) b) (bs ++ s ∷ cs))
 
   index-block-in : 1 ≤ s .block
   index-block-in = inside-low (p .n) (s .block) (omega (arith, once (s .block), index-times (s .block), is-self (s .block))) .0
@@ -52,31 +52,31 @@ module _ (p : Description) (master : List ℕ) (text : ℕ → List ℕ) (f : Fr
   index-no-leaf b t e =
       omega (arith, once b, inside-le (p .n) b, index-times b, subst (λ (c : ℕ). is c b ≡ 1) (sym e) (is-self b), leaf-times)
     where
-      cell : is (leafCell (p .wpb) (t .place .leaf) .0) b ≡ 1
+      cell : is (leafCell p (t .place .leaf) .0) b ≡ 1
       cell = unfold leafCell in subst (λ (c : ℕ). is c b ≡ 1) (sym (t .block)) (is-self b)
 
-      leaf-times : 1 ≤ weigh (λ c. is (c .0) b) (map (leafCell (p .wpb)) (leavesIn (bs ++ s ∷ cs)))
+      leaf-times : 1 ≤ weigh (λ c. is (c .0) b) (map (leafCell p) (leavesIn (bs ++ s ∷ cs)))
       leaf-times = rw (t .is) (simp (leavesIn-append, map-append, weigh-append, weigh-cons) (omega (arith, cell)))
 
-  index-words : text (s .block) ≡ indexText (p .wpb) (s .leaves)
+  index-words : text (s .block) ≡ indexText p (s .leaves)
   unfolding cellsOf
   index-words =
-      let a : Agree text (cellsOf (p .wpb) (bs ++ s ∷ cs)) = all-left (λ c. text (c .0) ≡ c .1) (cellsOf (p .wpb) (bs ++ s ∷ cs)) _ (h .agree) in
-      all-right (λ c. text (c .0) ≡ c .1) (cellsOf (p .wpb) bs) _ (rw (cells-append (p .wpb) bs (s ∷ cs)) at a) .0
+      let a : Agree text (cellsOf p (bs ++ s ∷ cs)) = all-left (λ c. text (c .0) ≡ c .1) (cellsOf p (bs ++ s ∷ cs)) _ (h .agree) in
+      all-right (λ c. text (c .0) ≡ c .1) (cellsOf p bs) _ (rw (cells-append p bs (s ∷ cs)) at a) .0
 
 -- the words of a section's index block in the file
 pub file-index : (v : Texts) (flag : Bool) (f : Free) (bs : List Section) (s : Section) (cs : List Section) → KeptTree v flag (bs ++ s ∷ cs) f
-    → blockAt (v .desc) (v .file) (s .block) ≡ indexText (v .desc .wpb) (s .leaves)
+    → blockAt (v .desc) (v .file) (s .block) ≡ indexText (v .desc) (s .leaves)
 file-index v flag f bs s cs h = sym (text-other v (s .block) other) ∙ index-words (v .desc) _ _ f bs s cs (h .holds)
   where
     other : s .block ≢ v .current
     other e = index-no-leaf (v .desc) _ _ f bs s cs (h .holds) (v .current) (h .current (omega (arith, e, index-block-in (v .desc) _ _ f bs s cs (h .holds)))) e
 
 section-count : (v : Texts) (flag : Bool) (f : Free) (bs : List Section) (s : Section) (cs : List Section) → KeptTree v flag (bs ++ s ∷ cs) f
-    → count (blockAt (v .desc) (v .file) (blockIn (masterShape (v .desc)) (v .file) (length bs))) ≡ length (s .leaves)
+    → count (indexShape (v .desc)) (blockAt (v .desc) (v .file) (blockIn (masterShape (v .desc)) (v .file) (length bs))) ≡ length (s .leaves)
 section-count v flag f bs s cs h =
-    ap (λ (b : ℕ). count (blockAt (v .desc) (v .file) b)) (master-at (v .desc) (v .file) bs s cs f (h .holds .master-is) (h .holds .sized))
-    ∙ ap count (file-index v flag f bs s cs h) ∙ count-index (v .desc) (s .leaves)
+    ap (λ (b : ℕ). count (indexShape (v .desc)) (blockAt (v .desc) (v .file) b)) (master-at (v .desc) (v .file) bs s cs f (h .holds .master-is) (h .holds .sized))
+    ∙ ap (count (indexShape (v .desc))) (file-index v flag f bs s cs h) ∙ count-index (v .desc) (s .leaves)
 
 -- the sections bs are counted, and the others follow
 under : (v : Texts) (flag : Bool) (ss : List Section) (f : Free) → KeptTree v flag ss f → (bs cs : List Section) → ss ≡ bs ++ cs

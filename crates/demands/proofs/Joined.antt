@@ -16,7 +16,7 @@ use Rattle.words.proofs.All.{and-both, allWords-cons, allWords-append, allWords
 use Rattle.words.proofs.Values.{keyLt-val, keyLt-val-lt}
 use Rattle.table.specs.Tables.{laid}
 use Rattle.drum.specs.declared.Description.{Description}
-use Rattle.drum.specs.Params.{I, goodParams}
+use Rattle.drum.specs.Params.{I, goodParams, indexShape, detailShape}
 use Rattle.drum.specs.Blocks.{blockAt, Block}
 use Rattle.drum.proofs.Good.{good-facts}
 use Rattle.layout.specs.Create.{endRecord}
@@ -151,14 +151,14 @@ module _ (p : Description) (g : goodParams p ≡ true) (f : List ℕ) (t : Tree)
   index-words [] q = tt
   index-words (s ∷ zs) q =
       all-append (λ (l : Leaf). allWords (l .bound) ≡ true) (s .leaves) (leavesIn zs)
-      (bounds-wide (s .leaves) (laid-wide (p .wpb) (length (s .leaves)) (lay.indexEntries (s .leaves)) (ap allWords (sym (q .0)) ∙ block-wide (s .block))))
+      (bounds-wide (s .leaves) (laid-wide (p .wpb) (indexShape p .tag + length (s .leaves)) (lay.indexEntries (s .leaves)) (ap allWords (sym (q .0)) ∙ block-wide (s .block))))
       (index-words zs (q .1))
 
   detail-words : (ls : List Leaf) → lay.All (lay.DetailIn p f) ls → All (λ (l : Leaf). allWords (l .bound) ≡ true) ls → All (Words p kr) ls
   unfolding lay.All
   detail-words [] q b = tt
   detail-words (l ∷ ls) q b = (
-    (b .0, rows-wide (l .records) (laid-wide (p .wpb) (length (l .records)) (flatten (l .records)) (ap allWords (sym (q .0)) ∙ block-wide (l .block)))),
+    (b .0, rows-wide (l .records) (laid-wide (p .wpb) (detailShape p .tag + length (l .records)) (flatten (l .records)) (ap allWords (sym (q .0)) ∙ block-wide (l .block)))),
     detail-words ls (q .1) (b .1),
   )
 
@@ -193,18 +193,18 @@ module _ (p : Description) (g : goodParams p ≡ true) (f : List ℕ) (t : Tree)
 
   -- ---- the cells agree
 
-  agree-leaves : (ls : List Leaf) → lay.All (lay.DetailIn p f) ls → cells.Agree (blockAt p f) (map (leafCell (p .wpb)) ls)
+  agree-leaves : (ls : List Leaf) → lay.All (lay.DetailIn p f) ls → cells.Agree (blockAt p f) (map (leafCell p) ls)
   unfolding lay.All leafCell
   agree-leaves [] q = tt
   agree-leaves (l ∷ ls) q = (q .0 ∙ detail-same p (l .records), agree-leaves ls (q .1))
 
-  agree-tree : (zs : List Section) → lay.All (lay.IndexIn p f) zs → lay.All (lay.DetailIn p f) (leavesIn zs) → cells.Agree (blockAt p f) (cellsOf (p .wpb) zs)
+  agree-tree : (zs : List Section) → lay.All (lay.IndexIn p f) zs → lay.All (lay.DetailIn p f) (leavesIn zs) → cells.Agree (blockAt p f) (cellsOf p zs)
   unfolding lay.All cellsOf
   agree-tree [] i d = tt
   agree-tree (s ∷ zs) i d =
       let P : cells.Cell → Type 0 = λ c. blockAt p f (c .0) ≡ c .1 in (
         i .0 ∙ index-same p (s .leaves),
-        all-append P (map (leafCell (p .wpb)) (s .leaves)) (cellsOf (p .wpb) zs)
+        all-append P (map (leafCell p) (s .leaves)) (cellsOf p zs)
             (agree-leaves (s .leaves) (left (s .leaves) (leavesIn zs) d)) (agree-tree zs (i .1) (right (s .leaves) (leavesIn zs) d)),
       )
     where
@@ -226,11 +226,11 @@ module _ (p : Description) (g : goodParams p ≡ true) (f : List ℕ) (t : Tree)
   agree-fresh u zero l e = tt
   agree-fresh u (suc s) l e = (h .unused u l (omega arith), agree-fresh (u + 1) s (omega arith) (omega arith))
 
-  agrees : cells.Agree (blockAt p f) (cellsOf (p .wpb) ss ++ held.freeCells p (freeOf p t))
+  agrees : cells.Agree (blockAt p f) (cellsOf p ss ++ held.freeCells p (freeOf p t))
   unfolding held.freeCells
   agrees =
       let P : cells.Cell → Type 0 = λ c. blockAt p f (c .0) ≡ c .1 in
-      all-append P (cellsOf (p .wpb) ss) _ (agree-tree ss (h .indexes) (h .details))
+      all-append P (cellsOf p ss) _ (agree-tree ss (h .indexes) (h .details))
       (all-append P (held.chainCells p (t .chain)) _ (agree-chain (t .chain) (h .chained))
       (agree-fresh (t .lowest) (suc (p .n) - t .lowest) (omega arith) (omega (arith, h .lowest .1))))
 
@@ -241,17 +241,17 @@ module _ (p : Description) (g : goodParams p ≡ true) (f : List ℕ) (t : Tree)
   outside b [] q n = refl
   outside b (c ∷ cs) q n = rw (ne-eqb b c (λ e. n (subst (Block p) (sym e) (q .0)))) (omega (arith, outside b cs (q .1) n))
 
-  counts : (b : ℕ) → cells.cellTimes b (cellsOf (p .wpb) ss ++ held.freeCells p (freeOf p t))
+  counts : (b : ℕ) → cells.cellTimes b (cellsOf p ss ++ held.freeCells p (freeOf p t))
       ≡ times b (blocksIn ss) + times b (t .chain) + cond (leb (t .lowest) b && leb (suc b) (t .lowest + (suc (p .n) - t .lowest))) 1 0
   unfolding held.freeCells cells.cellTimes
   counts b =
       let w : cells.Cell → ℕ = λ c. cells.is (c .0) b in
-      cells.weigh-append w (cellsOf (p .wpb) ss) (held.chainCells p (t .chain) ++ held.freshCells p (t .lowest) (suc (p .n) - t .lowest))
-      ∙ ap (λ (n : ℕ). cells.weigh w (cellsOf (p .wpb) ss) + n)
+      cells.weigh-append w (cellsOf p ss) (held.chainCells p (t .chain) ++ held.freshCells p (t .lowest) (suc (p .n) - t .lowest))
+      ∙ ap (λ (n : ℕ). cells.weigh w (cellsOf p ss) + n)
       (cells.weigh-append w (held.chainCells p (t .chain)) (held.freshCells p (t .lowest) (suc (p .n) - t .lowest)))
-      ∙ omega (arith, tree-times b (p .wpb) ss, chain-times b p (t .chain), fresh-times b p (t .lowest) (suc (p .n) - t .lowest))
+      ∙ omega (arith, tree-times b p ss, chain-times b p (t .chain), fresh-times b p (t .lowest) (suc (p .n) - t .lowest))
 
-  once : (b : ℕ) → cells.cellTimes b (cellsOf (p .wpb) ss ++ held.freeCells p (freeOf p t)) ≡ held.inside (p .n) b
+  once : (b : ℕ) → cells.cellTimes b (cellsOf p ss ++ held.freeCells p (freeOf p t)) ≡ held.inside (p .n) b
   unfolding held.inside
   once b = counts b ∙ go (decLe 1 b) (decLe b (p .n))
     where

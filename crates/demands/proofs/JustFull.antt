@@ -22,10 +22,10 @@ use Rattle.demands.proofs.Reached.{counts-of}
 use Rattle.demands.proofs.Full.{run-rows}
 
 abbrev odd : Description
-odd = record { wpb = 8; wpr = 2; k = 1; space = 0; control = 2; n = 6 }
+odd = record { wpb = 8; wpr = 2; k = 1; space = 0; control = 2; n = 6; form = 1 }
 
 abbrev spaced : Description
-spaced = record { wpb = 8; wpr = 2; k = 1; space = 1; control = 2; n = 8 }
+spaced = record { wpb = 8; wpr = 2; k = 1; space = 1; control = 2; n = 8; form = 1 }
 
 -- a closed session over words that are all 0, the file made by CREATE
 abbrev madeWith : Description → State

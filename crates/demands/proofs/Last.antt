@@ -14,6 +14,7 @@ use Rattle.words.specs.Words.{zeros, topWord}
 use Rattle.words.specs.Keys.{ones, isOnes, val}
 use Rattle.words.proofs.All.{isOnes-ones, isOnes-true}
 use Rattle.table.specs.Tables.{count, keyAt}
+use Rattle.drum.proofs.Forms.{count-master}
 use Rattle.drum.specs.declared.Description.{Description}
 use Rattle.drum.specs.Params.{detailShape}
 use Rattle.drum.specs.Blocks.{Texts, textOf}
@@ -69,10 +70,10 @@ module _ (v : Texts) (flag : Bool) (ss : List Section) (f : Free) (h : KeptTree 
   kr = good-facts p (h .good) .key
 
   -- the key that a block ends in
-  ends : (fr : List (List ℕ)) (y : List ℕ) → All (RowOk p) (fr ++ y ∷ []) → endsInOnes p (table (p .wpb) (fr ++ y ∷ [])) ≡ isOnes (take (p .k) y)
+  ends : (fr : List (List ℕ)) (y : List ℕ) → All (RowOk p) (fr ++ y ∷ []) → endsInOnes p (table (detailShape p) (p .wpb) (fr ++ y ∷ [])) ≡ isOnes (take (p .k) y)
   ends fr y ok =
-      let n : count (table (p .wpb) (fr ++ y ∷ [])) - 1 ≡ length fr = omega (arith, count-table (p .wpb) (fr ++ y ∷ []), length-append fr (y ∷ [])) in
-      ap isOnes (ap (keyAt (detailShape p) (table (p .wpb) (fr ++ y ∷ []))) n ∙ key-here p kr fr y [] ok)
+      let n : count (detailShape p) (table (detailShape p) (p .wpb) (fr ++ y ∷ [])) - 1 ≡ length fr = omega (arith, count-table (detailShape p) (p .wpb) (fr ++ y ∷ []), length-append fr (y ∷ [])) in
+      ap isOnes (ap (keyAt (detailShape p) (table (detailShape p) (p .wpb) (fr ++ y ∷ []))) n ∙ key-here p kr fr y [] ok)
 
   pub end-ones : isOnes (take (p .k) (endRecord p)) ≡ true
   unfolding endRecord
@@ -98,7 +99,7 @@ module _ (v : Texts) (flag : Bool) (ss : List Section) (f : Free) (h : KeptTree 
     path-last : lastPath v ≡ passed (pathOf (ending bs ib low l))
     path-last =
         path-by v (ending bs ib low l) f hz which.Last which.Last []
-        (omega (arith, sections-is p (v .file) (treeOf (ending bs ib low l)) f (hz .master-is) (hz .sized), length-append bs (sec ib (low ++ (l ∷ [])) ∷ [])))
+        (omega (arith, count-master p (v .file), sections-is p (v .file) (treeOf (ending bs ib low l)) f (hz .master-is) (hz .sized), length-append bs (sec ib (low ++ (l ∷ [])) ∷ [])))
         (omega (arith, count-index p (low ++ (l ∷ [])), length-append low (l ∷ [])))
 
     -- "else write if flagged, index and detail of the last block"
@@ -106,7 +107,7 @@ module _ (v : Texts) (flag : Bool) (ss : List Section) (f : Free) (h : KeptTree 
     unfolding lastWay lastOutside
     goes test = go (from-end (l .records))
       where
-        text-is : textOf v (l .block) ≡ table (p .wpb) (l .records)
+        text-is : textOf v (l .block) ≡ table (detailShape p) (p .wpb) (l .records)
         text-is = leaf-text p (ending bs ib low l) f _ _ hz
 
         go : (l .records ≡ []) ⊎ ((fr : List (List ℕ)) × (y : List ℕ) × (l .records ≡ fr ++ y ∷ [])) → Last v flag ss f
@@ -114,7 +115,7 @@ module _ (v : Texts) (flag : Bool) (ss : List Section) (f : Free) (h : KeptTree 
         go (inr (fr, y, e)) =
             let ey : y ≡ endRecord p = last-row fr y e in
             let en : endsInOnes p (textOf v (l .block)) ≡ true
-            = ap (endsInOnes p) (text-is ∙ ap (table (p .wpb)) e) ∙ ends fr y (subst (All (RowOk p)) e (lok .rows))
+            = ap (endsInOnes p) (text-is ∙ ap (table (detailShape p) (p .wpb)) e) ∙ ends fr y (subst (All (RowOk p)) e (lok .rows))
             ∙ ap (λ (r : List ℕ). isOnes (take (p .k) r)) ey ∙ end-ones in
             record {
               before = bs;
@@ -200,7 +201,7 @@ module _ (v : Texts) (flag : Bool) (ss : List Section) (f : Free) (h : KeptTree 
   unfolding lastWay
   stays s e = go (from-end (s .place .leaf .records))
     where
-      buf : v .buffer ≡ table (p .wpb) (s .place .leaf .records)
+      buf : v .buffer ≡ table (detailShape p) (p .wpb) (s .place .leaf .records)
       buf = buffer-leaf v flag ss f h s
 
       hs : HoldsCells p (masterOf p (v .file)) (textOf v) (treeOf (s .place)) f
@@ -215,7 +216,7 @@ module _ (v : Texts) (flag : Bool) (ss : List Section) (f : Free) (h : KeptTree 
           let yok : RowOk p y = all-right (RowOk p) fr _ (subst (All (RowOk p)) g (ok .rows)) .0 in
           let ky : take (p .k) y ≡ ones (p .k)
           = isOnes-true (p .k) (take (p .k) y) (key-long p kr y yok .0)
-          (sym (ends fr y (subst (All (RowOk p)) g (ok .rows))) ∙ ap (endsInOnes p) (sym (buf ∙ ap (table (p .wpb)) g)) ∙ e) in
+          (sym (ends fr y (subst (All (RowOk p)) g (ok .rows))) ∙ ap (endsInOnes p) (sym (buf ∙ ap (table (detailShape p) (p .wpb)) g)) ∙ e) in
           let k : K y ≡ val (ones (p .k)) = last-key y ky in
           let asc₂ : Asc K (lo p (s .place)) (fr ++ y ∷ []) (hi p (s .place))
           = subst (λ (u : List (List ℕ)). Asc K (lo p (s .place)) u (hi p (s .place))) g (asc-leaf p (s .place) f _ _ hs) in

@@ -66,7 +66,7 @@ module _ (v : Texts) (flag : Bool) (ss : List Section) (f : Free) (h : KeptTree 
         record { above = l; within = u; path-is = path-to v a f hz w (kw .wide) (kw .long) (places .0) (places .1) }
 
     -- the block's own search
-    search : AtKey (p .k) (val w) (a .leaf .records) (rowWith (detailShape p) w (table (p .wpb) (a .leaf .records)))
+    search : AtKey (p .k) (val w) (a .leaf .records) (rowWith (detailShape p) w (table (detailShape p) (p .wpb) (a .leaf .records)))
     search = at-key p kr (a .leaf .records) (leaf-ok p a f _ (textOf v) hz .rows) w (kw .wide) (kw .long)
 
     hit-in : (bs : List (List ℕ)) (r : List ℕ) (cs : List (List ℕ)) → a .leaf .records ≡ bs ++ r ∷ cs → key (p .k) r ≡ val w
@@ -96,7 +96,7 @@ module _ (v : Texts) (flag : Bool) (ss : List Section) (f : Free) (h : KeptTree 
       C : Covers v w a
       C = cover a hz (c .above) (omega (arith, c .within))
 
-      t : textOf v (a .leaf .block) ≡ table (p .wpb) (a .leaf .records)
+      t : textOf v (a .leaf .block) ≡ table (detailShape p) (p .wpb) (a .leaf .records)
       t = leaf-text p a f _ (textOf v) hz
 
       whole : hit (key (p .k)) (val w) (recordsIn (leavesIn ss)) ≡ hit (key (p .k)) (val w) (a .leaf .records)
@@ -104,12 +104,12 @@ module _ (v : Texts) (flag : Bool) (ss : List Section) (f : Free) (h : KeptTree 
           ap (λ (z : List Section). hit (key (p .k)) (val w) (recordsIn (leavesIn z))) (c .is) ∙ hit-here p a f _ (textOf v) hz (val w) (C .above) (C .within)
 
       place : ℕ
-      place = rowWith (detailShape p) w (table (p .wpb) (a .leaf .records))
+      place = rowWith (detailShape p) w (table (detailShape p) (p .wpb) (a .leaf .records))
 
       looked : (b : Bool) → ltb place (length (a .leaf .records)) ≡ b → look v flag w ≡ passed (cond b (Found (By (pathOf a)) place) (Missing (pathOf a)))
       looked b g =
-          let i : ltb (rowWith (detailShape p) w (textOf v (a .leaf .block))) (count (textOf v (a .leaf .block))) ≡ b
-          = ap (λ (x : List ℕ). ltb (rowWith (detailShape p) w x) (count x)) t ∙ ap (ltb place) (count-table (p .wpb) (a .leaf .records)) ∙ g in
+          let i : ltb (rowWith (detailShape p) w (textOf v (a .leaf .block))) (count (detailShape (v .desc)) (textOf v (a .leaf .block))) ≡ b
+          = ap (λ (x : List ℕ). ltb (rowWith (detailShape p) w x) (count (detailShape p) x)) t ∙ ap (ltb place) (count-table (detailShape p) (p .wpb) (a .leaf .records)) ∙ g in
           let j : rowWith (detailShape p) w (textOf v (a .leaf .block)) ≡ place = ap (rowWith (detailShape p) w) t in
           simp (e, C .path-is, flush-pass v flag ss f h)
           (ap (λ (x : Bool). passed (cond x (Found (By (pathOf a)) (rowWith (detailShape p) w (textOf v (a .leaf .block)))) (Missing (pathOf a)))) i
@@ -139,16 +139,16 @@ module _ (v : Texts) (flag : Bool) (ss : List Section) (f : Free) (h : KeptTree 
       hz : HoldsCells p (masterOf p (v .file)) (textOf v) (treeOf a) f
       hz = A .held
 
-      t : v .buffer ≡ table (p .wpb) (a .leaf .records)
+      t : v .buffer ≡ table (detailShape p) (p .wpb) (a .leaf .records)
       t = buffer-leaf v flag ss f h s
 
       place : ℕ
-      place = rowWith (detailShape p) w (table (p .wpb) (a .leaf .records))
+      place = rowWith (detailShape p) w (table (detailShape p) (p .wpb) (a .leaf .records))
 
-      tested : (b : Bool) → ltb place (length (a .leaf .records)) ≡ b → onBuffer v (ltb (rowWith (detailShape p) w (v .buffer)) (count (v .buffer))) ≡ passed b
+      tested : (b : Bool) → ltb place (length (a .leaf .records)) ≡ b → onBuffer v (ltb (rowWith (detailShape p) w (v .buffer)) (count (detailShape (v .desc)) (v .buffer))) ≡ passed b
       tested b g =
-          buffer-some v flag ss f h s (ltb (rowWith (detailShape p) w (v .buffer)) (count (v .buffer)))
-          ∙ ap passed (ap (λ (x : List ℕ). ltb (rowWith (detailShape p) w x) (count x)) t ∙ ap (ltb place) (count-table (p .wpb) (a .leaf .records)) ∙ g)
+          buffer-some v flag ss f h s (ltb (rowWith (detailShape p) w (v .buffer)) (count (detailShape (v .desc)) (v .buffer)))
+          ∙ ap passed (ap (λ (x : List ℕ). ltb (rowWith (detailShape p) w x) (count (detailShape p) x)) t ∙ ap (ltb place) (count-table (detailShape p) (p .wpb) (a .leaf .records)) ∙ g)
 
       go : AtKey (p .k) (val w) (a .leaf .records) place → Looked v flag w ss f
       go (missing i n) = goes located (tested false (le-ltb place (length (a .leaf .records)) (omega arith)))
@@ -168,5 +168,5 @@ module _ (v : Texts) (flag : Bool) (ss : List Section) (f : Free) (h : KeptTree 
   looks = go (ℕ-discrete (v .current) 0)
     where
       go : Dec (v .current ≡ 0) → Looked v flag w ss f
-      go (yes e) = goes located (buffer-none v flag ss f h e (ltb (rowWith (detailShape p) w (v .buffer)) (count (v .buffer))))
+      go (yes e) = goes located (buffer-none v flag ss f h e (ltb (rowWith (detailShape p) w (v .buffer)) (count (detailShape (v .desc)) (v .buffer))))
       go (no n) = tries (h .current (omega arith))

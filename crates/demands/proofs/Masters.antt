@@ -82,7 +82,7 @@ module _ (p : Description) where
               (length (map (masterEntry p) bs ++ map (masterEntry p) cs)) (length rows) n m,
           ← length-map bs (masterEntry p),
         )
-        (removed-tab (masterShape p) (front p f) refl (map (masterEntry p) bs) lefts (masterEntry p s) (entry-long s s-ok) (map (masterEntry p) cs)
+        (removed-tab (masterShape p) (front p f) refl refl (map (masterEntry p) bs) lefts (masterEntry p s) (entry-long s s-ok) (map (masterEntry p) cs)
         (slack p (length rows)) rest rights)
 
     module _ (s₁ s₂ : Section) (ok₁ : SectionOk p s₁) (same : lastBound [] (s₂ .leaves) ≡ w) (room : suc (length (bs ++ s ∷ cs)) ≤ p .control) where
@@ -119,7 +119,7 @@ module _ (p : Description) where
                 (length (map (masterEntry p) bs ++ masterEntry p s₁ ∷ ((w ++ (s₂ .block ∷ [])) ∷ map (masterEntry p) cs))) grown fits,
             ← length-map bs (masterEntry p),
           )
-          (entered-tab (masterShape p) (front p f) refl (map (masterEntry p) bs) lefts w (s .block) long (map (masterEntry p) cs) _ rest refl rights
+          (entered-tab (masterShape p) (front p f) refl refl (map (masterEntry p) bs) lefts w (s .block) long (map (masterEntry p) cs) _ rest refl rights
           (masterEntry p s₁) (entry-long s₁ ok₁) (s₂ .block))
 
   -- ---- an index block
@@ -139,7 +139,7 @@ module _ (p : Description) where
 
     -- an entry goes
     pub index-removed : length (low ++ (l ∷ high)) ≤ I p
-        → removed (indexShape p) (length low) (indexText (p .wpb) (low ++ (l ∷ high))) ≡ indexText (p .wpb) (low ++ high)
+        → removed (indexShape p) (length low) (indexText p (low ++ (l ∷ high))) ≡ indexText p (low ++ high)
     unfolding indexShape indexText entry
     index-removed room =
         let n : length (map entry low ++ entry l ∷ map entry high) ≤ I p = rw (← map-append entry low (l ∷ high), length-map (low ++ (l ∷ high)) entry) room in
@@ -149,8 +149,8 @@ module _ (p : Description) where
 
     -- another bound
     pub index-rekeyed : (b : List ℕ) → length b ≡ p .k
-        → replaced (indexShape p) (length low) b (indexText (p .wpb) (low ++ (l ∷ high)))
-        ≡ indexText (p .wpb) (low ++ (record { bound = b; block = l .block; records = l .records } ∷ high))
+        → replaced (indexShape p) (length low) b (indexText p (low ++ (l ∷ high)))
+        ≡ indexText p (low ++ (record { bound = b; block = l .block; records = l .records } ∷ high))
     unfolding indexShape indexText entry
     index-rekeyed b e =
         let l′ : Leaf = record { bound = b; block = l .block; records = l .records } in
@@ -160,7 +160,7 @@ module _ (p : Description) where
 
     -- an entry becomes two
     pub index-entered : (l₁ l₂ : Leaf) → LeafFits p l₁ → l₂ .bound ≡ l .bound → suc (length (low ++ (l ∷ high))) ≤ I p
-        → entered (indexShape p) (length low) (entry l₁) (l₂ .block) (indexText (p .wpb) (low ++ (l ∷ high))) ≡ indexText (p .wpb) (low ++ (l₁ ∷ (l₂ ∷ high)))
+        → entered (indexShape p) (length low) (entry l₁) (l₂ .block) (indexText p (low ++ (l ∷ high))) ≡ indexText p (low ++ (l₁ ∷ (l₂ ∷ high)))
     unfolding indexShape indexText entry
     index-entered l₁ l₂ ok₁ same room =
         let rows : List (List ℕ) = map entry low ++ entry l₁ ∷ ((l .bound ++ (l₂ .block ∷ [])) ∷ map entry high) in
@@ -173,7 +173,7 @@ module _ (p : Description) where
         (entry l₁) (rw (length-append (l₁ .bound) (l₁ .block ∷ []), ok₁ .bound)) (fill _ n))
 
     -- the entry names another block
-    pub index-renamed : (b : ℕ) → renamed (indexShape p) (length low) b (indexText (p .wpb) (low ++ (l ∷ high))) ≡ indexText (p .wpb)
+    pub index-renamed : (b : ℕ) → renamed (indexShape p) (length low) b (indexText p (low ++ (l ∷ high))) ≡ indexText p
         (low ++ (record { bound = l .bound; block = b; records = l .records } ∷ high))
     unfolding indexShape indexText entry
     index-renamed b =
@@ -186,36 +186,36 @@ module _ (p : Description) where
 module _ (p : Description) (g : goodParams p ≡ true) (key : List ℕ) (long : length key ≡ p .k) where
   module _ (low : List Leaf) (l : Leaf) (ok : All (LeafFits p) (low ++ (l ∷ []))) (l₁ : Leaf) (same-bound : l₁ .bound ≡ key)
       (same-block : l₁ .block ≡ l .block) where
-    pub index-bounded : bounded (indexShape p) key (indexText (p .wpb) (low ++ (l ∷ []))) ≡ indexText (p .wpb) (low ++ (l₁ ∷ []))
+    pub index-bounded : bounded (indexShape p) key (indexText p (low ++ (l ∷ []))) ≡ indexText p (low ++ (l₁ ∷ []))
     unfolding bounded
     index-bounded =
         let n : length (low ++ (l ∷ [])) - 1 ≡ length low = omega (arith, length-append low (l ∷ [])) in
         rw (count-index p (low ++ (l ∷ [])), n, index-rekeyed p g low l [] ok key long) (again low)
       where
         again : (low : List Leaf)
-            → indexText (p .wpb) (low ++ (record { bound = key; block = l .block; records = l .records } ∷ [])) ≡ indexText (p .wpb) (low ++ (l₁ ∷ []))
+            → indexText p (low ++ (record { bound = key; block = l .block; records = l .records } ∷ [])) ≡ indexText p (low ++ (l₁ ∷ []))
         again low = unfold indexText entry in simp (map-append, same-bound, same-block)
 
     pub index-extended : (l₂ : Leaf) → LeafFits p l₁ → l₂ .bound ≡ ones (p .k) → suc (length (low ++ (l ∷ []))) ≤ I p
-        → extended p (indexShape p) key (l₂ .block) (indexText (p .wpb) (low ++ (l ∷ []))) ≡ indexText (p .wpb) (low ++ (l₁ ∷ (l₂ ∷ [])))
+        → extended p (indexShape p) key (l₂ .block) (indexText p (low ++ (l ∷ []))) ≡ indexText p (low ++ (l₁ ∷ (l₂ ∷ [])))
     unfolding extended
     index-extended l₂ ok₁ top room =
         let ls : List Leaf = low ++ (l₁ ∷ []) in
         let n : length (low ++ (l ∷ [])) ≡ length ls = length-append low (l ∷ []) ∙ sym (length-append low (l₁ ∷ [])) in
         let oks : All (LeafFits p) ls = all-append (LeafFits p) low (l₁ ∷ []) (all-left (LeafFits p) low _ ok) (ok₁, tt) in
         rw (count-index p (low ++ (l ∷ [])), index-bounded, n)
-        (put-in ls oks (rw (← n) room) (l₂ .block) ∙ again ls ∙ ap (indexText (p .wpb)) (append-assoc low (l₁ ∷ []) (l₂ ∷ [])))
+        (put-in ls oks (rw (← n) room) (l₂ .block) ∙ again ls ∙ ap (indexText p) (append-assoc low (l₁ ∷ []) (l₂ ∷ [])))
       where
         put-in : (ls : List Leaf) → All (LeafFits p) ls → suc (length ls) ≤ I p → (b : ℕ)
-            → inserted (indexShape p) (length ls) (onesEntry p b) (indexText (p .wpb) ls) ≡ table (p .wpb) (map entry ls ++ onesEntry p b ∷ [])
+            → inserted (indexShape p) (length ls) (onesEntry p b) (indexText p ls) ≡ table (indexShape p) (p .wpb) (map entry ls ++ onesEntry p b ∷ [])
         put-in ls oks room b = unfold indexText indexShape in
             rw (← length-map ls entry)
-            (ap (λ (z : List (List ℕ)). inserted (indexShape p) (length (map entry ls)) (onesEntry p b) (table (p .wpb) z)) (sym (append-nil (map entry ls)))
+            (ap (λ (z : List (List ℕ)). inserted (indexShape p) (length (map entry ls)) (onesEntry p b) (table (indexShape p) (p .wpb) z)) (sym (append-nil (map entry ls)))
             ∙ table-insert (p .wpb) (indexShape p) refl (map entry ls) [] (index-rows p ls oks) tt (onesEntry p b) (ones-length p b)
             (rw (length-append (map entry ls) (onesEntry p b ∷ []), length-map ls entry)
             (omega (arith, caps p g .entries-fit, mul-le-mul-right (p .k + 1) room))))
 
-        again : (ls : List Leaf) → table (p .wpb) (map entry ls ++ onesEntry p (l₂ .block) ∷ []) ≡ indexText (p .wpb) (ls ++ (l₂ ∷ []))
+        again : (ls : List Leaf) → table (indexShape p) (p .wpb) (map entry ls ++ onesEntry p (l₂ .block) ∷ []) ≡ indexText p (ls ++ (l₂ ∷ []))
         again ls = unfold indexText onesEntry entry in rw (map-append entry ls (l₂ ∷ []), top)
 
   module _ (bs : List Section) (s : Section) (ok : All (SectionOk p) (bs ++ s ∷ [])) (f : Free) (rest : List ℕ) (s₁ s₂ : Section) where
@@ -234,14 +234,14 @@ module _ (p : Description) (g : goodParams p ≡ true) (key : List ℕ) (long : 
         let t-is : masterFor p (bs ++ s ∷ []) f ++ rest ≡ tab (front p f) (ms ++ (w ++ (s .block ∷ [])) ∷ []) ((p .k + 1) + z) rest
         = master-tab p (bs ++ s ∷ []) f rest ∙ ap₂ (λ (rs : List (List ℕ)) (m : ℕ). tab (front p f) rs m rest) (shown bs s)
         (ap (slack p) (length-map (bs ++ s ∷ []) (masterEntry p)) ∙ slack-less p g (length (bs ++ s ∷ [])) (length (bs ++ s₁ ∷ (s₂ ∷ []))) n (rw n room)) in
-        let c : count (tab (front p f) (ms ++ (w ++ (s .block ∷ [])) ∷ []) ((p .k + 1) + z) rest) ≡ length (ms ++ (key ++ (s .block ∷ [])) ∷ [])
-        = count-tab (front p f) (ms ++ (w ++ (s .block ∷ [])) ∷ []) ((p .k + 1) + z) rest ∙ length-append ms ((w ++ (s .block ∷ [])) ∷ [])
+        let c : count (masterShape p) (tab (front p f) (ms ++ (w ++ (s .block ∷ [])) ∷ []) ((p .k + 1) + z) rest) ≡ length (ms ++ (key ++ (s .block ∷ [])) ∷ [])
+        = count-tab (masterShape p) refl (front p f) (ms ++ (w ++ (s .block ∷ [])) ∷ []) ((p .k + 1) + z) rest ∙ length-append ms ((w ++ (s .block ∷ [])) ∷ [])
         ∙ sym (length-append ms ((key ++ (s .block ∷ [])) ∷ [])) in
         let d : length (ms ++ (key ++ (s .block ∷ [])) ∷ []) - 1 ≡ length ms = omega (arith, length-append ms ((key ++ (s .block ∷ [])) ∷ [])) in
-        rw (t-is, c, d, rekeyed-tab (masterShape p) (front p f) refl ms lefts w (s .block) lw [] ((p .k + 1) + z) rest key long)
+        rw (t-is, c, d, rekeyed-tab (masterShape p) (front p f) refl refl ms lefts w (s .block) lw [] ((p .k + 1) + z) rest key long)
         (ap (λ (rs : List (List ℕ)). inserted (masterShape p) (length (ms ++ (key ++ (s .block ∷ [])) ∷ [])) (onesEntry p (s₂ .block))
         (tab (front p f) rs ((p .k + 1) + z) rest)) (sym (append-nil (ms ++ (key ++ (s .block ∷ [])) ∷ [])))
-        ∙ inserted-tab (masterShape p) (front p f) refl (ms ++ (key ++ (s .block ∷ [])) ∷ [])
+        ∙ inserted-tab (masterShape p) (front p f) refl refl (ms ++ (key ++ (s .block ∷ [])) ∷ [])
         (all-append (λ r. length r ≡ p .k + 1) ms _ lefts (rw (length-append key (s .block ∷ []), long), tt)) (onesEntry p (s₂ .block))
         (ones-length p (s₂ .block)) [] z rest tt
         ∙ ap (λ (rs : List (List ℕ)). tab (front p f) rs z rest) (rows-are ms bs refl)

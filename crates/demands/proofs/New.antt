@@ -1,6 +1,6 @@
 -- The plans' test of a new block is the sentence "a new block equal to any other block in the call's list of transfers": it passes exactly
 -- where the list of NSERT, or of XTEND, names the block once.
-use Prim.Native.Nat.{ℕ}
+use Prim.Native.Nat.{ℕ, _+_}
 use mathlib.Core.Path.{_≡_, refl, _∙_, ap, subst}
 use mathlib.Core.Bool.{Bool, true, false, cond, not, _&&_, _||_}
 use mathlib.Core.List.{List, [], _∷_, _++_, append-assoc, append-nil}
@@ -179,7 +179,7 @@ module _ (v : Texts) (w : Path) where
       let new = x.bounded (indexShape (v .desc)) (keyIn (v .desc) work) (textOf v (w .index)) in
       let g =
       two-in (reached v flag way .moves) (Write (w .detail) old ∷ Read (w .index) ∷ Write (w .index) new ∷ []) [] (Write b (x.endText v way))
-      (Write y (laid (v .desc .wpb) 1 (x.onesEntry (v .desc) b))) in (
+      (Write y (laid (v .desc .wpb) (indexShape (v .desc) .tag + 1) (x.onesEntry (v .desc) b))) in (
         g .0 ∙ ap (λ (z : Bool). not (eqb b y) && z) (among-xtend way flag b old new e),
         g .1 ∙ ap (λ (z : Bool). not (eqb y b) && z)
             (among-xtend way flag y old new e),

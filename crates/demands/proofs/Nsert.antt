@@ -104,7 +104,7 @@ module _ (st : State) (ss : List Section) (f : Free) (r : Ready (desc st .wpr) s
     lows : lowestUnused (st .file) ≡ f .lowest
     lows = lowest-is p (st .file) ss f (held .master-is) (held .sized)
 
-    text : textOf v (a .leaf .block) ≡ table (p .wpb) (a .leaf .records)
+    text : textOf v (a .leaf .block) ≡ table (detailShape p) (p .wpb) (a .leaf .records)
     text = leaf-text p a f _ _ (A .held)
 
     -- the contents with the record
@@ -125,7 +125,7 @@ module _ (st : State) (ss : List Section) (f : Free) (r : Ready (desc st .wpr) s
     unfolding insertAt roomDeed
     room-deed less =
         let rs : List (List ℕ) = a .leaf .records in
-        deed-at ∙ simp (text, count-table (p .wpb) rs, lt-ltb (length rs) (D p) less, heads, lows, stored-number v (length rs + 1) f free₀)
+        deed-at ∙ simp (text, count-table (detailShape p) (p .wpb) rs, lt-ltb (length rs) (D p) less, heads, lows, stored-number v (length rs + 1) f free₀)
 
     pub nsert-room : length (a .leaf .records) < D p → Gives st ss (nsert st) (storedWith p (length (a .leaf .records) + 1) f) 3
         (ins K (st .work) rows) aRecord (treeWith a (withRows p (a .leaf) (ins K (st .work) (a .leaf .records)) ∷ [])) f
@@ -137,7 +137,7 @@ module _ (st : State) (ss : List Section) (f : Free) (r : Ready (desc st .wpr) s
         let rs : List (List ℕ) = a .leaf .records in
         let len : length (ins K (st .work) rs) ≡ suc (length rs) = length-ins K (st .work) rs in
         let fits : 1 + suc (length rs) * p .wpr ≤ p .wpb = omega (arith, caps p (r .sound .kept .good) .records-fit, mul-le-mul-right (p .wpr) less) in
-        let words : t ≡ table (p .wpb) (ins K (st .work) rs)
+        let words : t ≡ table (detailShape p) (p .wpb) (ins K (st .work) rs)
         = ap (λ (x : List ℕ). inserted (detailShape p) place x (here .buffer)) (work-is st ss f r)
         ∙ ap (inserted (detailShape p) place (st .work)) (A .buffer-is)
         ∙ record-ins p kr rs (st .work) (lk .rows) (r .work-length) fits in

@@ -10,7 +10,7 @@ use borrow.Author.Tests.{lt-ltb, le-ltb}
 use Rattle.numbers.specs.Numbers.{noRoom}
 use Rattle.numbers.specs.Checked.{passed}
 use Rattle.words.specs.Keys.{val}
-use Rattle.drum.specs.Params.{D, I, goodParams}
+use Rattle.drum.specs.Params.{D, I, goodParams, detailShape}
 use Rattle.drum.specs.Blocks.{textOf}
 use Rattle.rules.specs.declared.Way.the-variants.{By}
 use Rattle.rules.specs.declared.Look.the-variants.{Missing}
@@ -52,7 +52,7 @@ module _ (st : State) (ss : List Section) (f : Free) (r : Ready (desc st .wpr) s
   fr : FreeOk v f
   fr = free₀ st ss f r kw a A C none l
 
-  text : textOf v (a .leaf .block) ≡ table (p .wpb) (a .leaf .records)
+  text : textOf v (a .leaf .block) ≡ table (detailShape p) (p .wpb) (a .leaf .records)
   text = leaf-text p a f _ _ (A .held)
 
   -- ---- the deed
@@ -62,7 +62,7 @@ module _ (st : State) (ss : List Section) (f : Free) (r : Ready (desc st .wpr) s
   not-room =
       simp (
         text,
-        count-table (p .wpb) (a .leaf .records),
+        count-table (detailShape p) (p .wpb) (a .leaf .records),
         le-ltb (length (a .leaf .records)) (D p) (omega (arith, full)),
         index-text p a f _ _ (A .held),
         count-index p (olds a),

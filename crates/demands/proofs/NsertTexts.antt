@@ -94,8 +94,8 @@ module _ (v : Texts) (a : Place) (f : Free) (hd : HoldsCells (v .desc) (masterOf
   unfolding front back
   joined = below-from K (K r) (a .leaf .records)
 
-  text : textOf v (a .leaf .block) ≡ table (p .wpb) (front ++ back)
-  text = leaf-text p a f _ _ hd ∙ ap (table (p .wpb)) (sym joined)
+  text : textOf v (a .leaf .block) ≡ table (detailShape p) (p .wpb) (front ++ back)
+  text = leaf-text p a f _ _ hd ∙ ap (table (detailShape p) (p .wpb)) (sym joined)
 
   cut-here : front ++ r ∷ back ≡ (xs ++ (y ∷ [])) ++ ys
   unfolding front back ins
@@ -110,13 +110,13 @@ module _ (v : Texts) (a : Place) (f : Free) (hd : HoldsCells (v .desc) (masterOf
   highs : Each (p .wpr) back
   highs = rows-long p back (all-right (RowOk p) front _ parts-ok)
 
-  pub low-is : detailLow v (pathOf a) place r ≡ table (p .wpb) (xs ++ (y ∷ []))
+  pub low-is : detailLow v (pathOf a) place r ≡ table (detailShape p) (p .wpb) (xs ++ (y ∷ []))
   unfolding detailLow detailShape front
   low-is =
       rw text (low-table (detailShape p) refl (p .wpb) front back lows highs r (rok .0) (D p) (ap length joined ∙ full) (xs ++ (y ∷ [])) ys cut-here
       (rw (length-append xs) (omega (arith, lx))))
 
-  pub high-is : detailHigh v (pathOf a) place r ≡ table (p .wpb) ys
+  pub high-is : detailHigh v (pathOf a) place r ≡ table (detailShape p) (p .wpb) ys
   unfolding detailHigh detailShape front
   high-is =
       rw text (high-table (detailShape p) refl (p .wpb) front back lows highs r (rok .0) (D p) (ap length joined ∙ full) (xs ++ (y ∷ [])) ys cut-here
@@ -166,11 +166,11 @@ module _ (v : Texts) (a : Place) (f : Free) (hd : HoldsCells (v .desc) (masterOf
     abbrev l₀ : Leaf
     l₀ = record { bound = a .leaf .bound; block = nb; records = a .leaf .records }
 
-    renamed-is : renamed (indexShape p) (length (a .low)) nb (textOf v (a .index)) ≡ table (p .wpb) (map entry (a .low) ++ map entry (l₀ ∷ a .high))
+    renamed-is : renamed (indexShape p) (length (a .low)) nb (textOf v (a .index)) ≡ table (indexShape p) (p .wpb) (map entry (a .low) ++ map entry (l₀ ∷ a .high))
     unfolding indexText
     renamed-is =
         rw (index-text p a f _ _ hd)
-        (index-renamed p g (a .low) (a .leaf) (a .high) (old-ok .leaves) nb ∙ ap (table (p .wpb)) (map-append entry (a .low) (l₀ ∷ a .high)))
+        (index-renamed p g (a .low) (a .leaf) (a .high) (old-ok .leaves) nb ∙ ap (table (indexShape p) (p .wpb)) (map-append entry (a .low) (l₀ ∷ a .high)))
 
     before : Each (p .k + 1) (map entry (a .low))
     before = index-rows p (a .low) (all-left (LeafFits p) (a .low) _ (old-ok .leaves))

@@ -12,7 +12,7 @@ use Rattle.rules.specs.Requests.{Request, opening, closing, seeking, advancing,
 use Rattle.rules.proofs.Computing.{computing}
 
 abbrev small : Description
-small = record { wpb = 8; wpr = 3; k = 1; space = 0; control = 2; n = 4 }
+small = record { wpb = 8; wpr = 3; k = 1; space = 0; control = 2; n = 4; form = 1 }
 
 abbrev session : Bool → ℕ → Bool → Session
 session opened current flag = record { desc = small; opened = opened; current = current; flag = flag; placed = false; position = zeros 63 }

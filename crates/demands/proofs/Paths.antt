@@ -12,8 +12,9 @@ use Rattle.words.specs.Words.{allWords}
 use Rattle.words.specs.Keys.{val}
 use Rattle.table.specs.declared.Shape.{Shape}
 use Rattle.table.specs.Tables.{count, blockIn}
+use Rattle.drum.proofs.Forms.{count-master}
 use Rattle.drum.specs.declared.Description.{Description}
-use Rattle.drum.specs.Params.{D, I, masterShape, indexShape}
+use Rattle.drum.specs.Params.{D, I, masterShape, indexShape, detailShape}
 use Rattle.drum.specs.Blocks.{Texts, textOf}
 use Rattle.rules.specs.declared.Which.{Which}
 use Rattle.rules.specs.declared.Which.the-variants as which
@@ -38,7 +39,7 @@ within-pass lo hi x l h = simp (le-leb lo x l, le-leb x hi h)
 pub upto-pass : (hi x : ℕ) → x ≤ hi → upTo hi x ≡ passed x
 upto-pass hi x h = simp (le-leb x hi h)
 
-pub entry-pass : (p : Description) (h : Shape) (most : ℕ) (which : Which) (key t : List ℕ) (m i b : ℕ) → count t ≡ m → 1 ≤ m → m ≤ most
+pub entry-pass : (p : Description) (h : Shape) (most : ℕ) (which : Which) (key t : List ℕ) (m i b : ℕ) → count h t ≡ m → 1 ≤ m → m ≤ most
     → chosen which h key t ≡ i → i < m → blockIn h t i ≡ b → 1 ≤ b → b ≤ p .n → entryOf p h most which key t ≡ passed (record { place = i; block = b })
 unfolding entryOf
 entry-pass p h most which key t m i b em l u ei li eb lb ub = simp (em, le-leb 1 m l, le-leb m most u, ei, lt-ltb i m li, eb, le-leb 1 b lb, le-leb b (p .n) ub)
@@ -48,7 +49,7 @@ module _ (v : Texts) (a : Place) (f : Free) (h : HoldsCells (v .desc) (masterOf 
   p = v .desc
 
   pub path-by : (top which : Which) (key : List ℕ) → chosen top (masterShape p) key (v .file) ≡ length (a .before)
-      → chosen which (indexShape p) key (indexText (p .wpb) (olds a)) ≡ length (a .low)
+      → chosen which (indexShape p) key (indexText p (olds a)) ≡ length (a .low)
       → pathBy v top which key ≡ passed (pathOf a)
   unfolding pathBy pathUnder pathAt
   path-by top which key et ew =
@@ -58,16 +59,16 @@ module _ (v : Texts) (a : Place) (f : Free) (h : HoldsCells (v .desc) (masterOf 
       let l : (1 ≤ a .leaf .block) × (a .leaf .block ≤ p .n) = leaf-in p a f _ (textOf v) h in
       simp (
         entry-pass p (masterShape p) (p .control) top key (v .file) (length (treeOf a)) (length (a .before)) (a .index)
-            (sections-is p (v .file) (treeOf a) f (h .master-is) (h .sized)) (rw (length-append (a .before)) (omega arith)) (h .sections) et
+            (count-master p (v .file) ∙ sections-is p (v .file) (treeOf a) f (h .master-is) (h .sized)) (rw (length-append (a .before)) (omega arith)) (h .sections) et
             (rw (length-append (a .before)) (omega arith))
             (master-at p (v .file) (a .before) (sec (a .index) (olds a)) (a .behind) f (h .master-is) (h .sized)) (i .0) (i .1),
         index-text p a f _ (textOf v) h,
-        entry-pass p (indexShape p) (I p) which key (indexText (p .wpb) (olds a)) (length (olds a)) (length (a .low)) (a .leaf .block)
+        entry-pass p (indexShape p) (I p) which key (indexText p (olds a)) (length (olds a)) (length (a .low)) (a .leaf .block)
             (count-index p (olds a)) (ok .some) (ok .room) ew (rw (length-append (a .low)) (omega arith))
             (index-at p (a .low) (a .leaf) (a .high) (ok .leaves)) (l .0) (l .1),
         ne-eqb (a .index) (a .leaf .block) (λ e. index-not-leaf p a f _ (textOf v) h (sym e)),
         leaf-text p a f _ (textOf v) h,
-        count-table (p .wpb) (a .leaf .records),
+        count-table (detailShape p) (p .wpb) (a .leaf .records),
         le-leb 1 (length (a .leaf .records)) (lk .some),
         le-leb (length (a .leaf .records)) (D p) (lk .room),
       )

@@ -9,6 +9,7 @@ use lib.Dec.{leb}
 use lib.ListN.{length}
 use borrow.Author.Tests.{leb-true}
 use Rattle.drum.specs.declared.Description.{Description}
+use Rattle.drum.specs.Params.{detailShape}
 use Rattle.demands.proofs.Lists.{map-append}
 use Rattle.demands.proofs.Order.{Asc, from, hit, ins, upd, del, asc-ins}
 use Rattle.demands.proofs.Cells.{Cell, bit, is, is-self, weigh, weigh-append, weigh-cons, weigh-nil, cellTimes, Agree, agree-same}
@@ -71,7 +72,7 @@ pub holds-ext : (p : Description) (master : List ℕ) (text text′ : ℕ → Li
 holds-ext p master text text′ ss f e h = record {
   master-is = h .master-is;
   agree =
-      agree-ext text text′ (cellsOf (p .wpb) ss ++ freeCells p f) (λ b l. let i = inside-low (p .n) b (omega (arith, h .once b)) in e b (i .0) (i .1))
+      agree-ext text text′ (cellsOf p ss ++ freeCells p f) (λ b l. let i = inside-low (p .n) b (omega (arith, h .once b)) in e b (i .0) (i .1))
       (h .agree);
   once = h .once;
   ranged = h .ranged;
@@ -83,43 +84,43 @@ holds-ext p master text text′ ss f e h = record {
 
 -- ---- the cells of a place
 
-one-section : (wpb : ℕ) (w : Cell → ℕ) (ib : ℕ) (ls : List Leaf) (ss : List Section) → weigh w (cellsOf wpb (sec ib ls ∷ ss))
-    ≡ w (ib, indexText wpb ls) + (weigh w (map (leafCell wpb) ls) + weigh w (cellsOf wpb ss))
+one-section : (p : Description) (w : Cell → ℕ) (ib : ℕ) (ls : List Leaf) (ss : List Section) → weigh w (cellsOf p (sec ib ls ∷ ss))
+    ≡ w (ib, indexText p ls) + (weigh w (map (leafCell p) ls) + weigh w (cellsOf p ss))
 unfolding cellsOf
-one-section wpb w ib ls ss = simp (weigh-append, weigh-cons) (omega arith)
+one-section p w ib ls ss = simp (weigh-append, weigh-cons) (omega arith)
 
 -- both blocks of a place are in the tree
-pub cells-in : (wpb : ℕ) (a : Place) (b : ℕ) → is (a .index) b + is (a .leaf .block) b ≤ cellTimes b (cellsOf wpb (treeOf a))
+pub cells-in : (p : Description) (a : Place) (b : ℕ) → is (a .index) b + is (a .leaf .block) b ≤ cellTimes b (cellsOf p (treeOf a))
 unfolding cellTimes
-cells-in wpb a b =
+cells-in p a b =
     simp (cells-append, one-section, map-append, weigh-append, weigh-cons) (omega (arith, leaf))
   where
-    leaf : is (leafCell wpb (a .leaf) .0) b ≡ is (a .leaf .block) b
+    leaf : is (leafCell p (a .leaf) .0) b ≡ is (a .leaf .block) b
     leaf = unfold leafCell in refl
 
 module _ (p : Description) (a : Place) (f : Free) where
   rest : List Cell
   rest =
-      cellsOf (p .wpb) (a .before) ++
-      (map (leafCell (p .wpb)) (a .low) ++ (map (leafCell (p .wpb)) (a .high) ++ (cellsOf (p .wpb) (a .behind) ++ freeCells p f)))
+      cellsOf p (a .before) ++
+      (map (leafCell p) (a .low) ++ (map (leafCell p) (a .high) ++ (cellsOf p (a .behind) ++ freeCells p f)))
 
   cells-here : (w : Cell → ℕ)
-      → weigh w (cellsOf (p .wpb) (treeOf a) ++ freeCells p f) ≡ weigh w ((a .index, indexText (p .wpb) (olds a)) ∷ (leafCell (p .wpb) (a .leaf) ∷ rest))
+      → weigh w (cellsOf p (treeOf a) ++ freeCells p f) ≡ weigh w ((a .index, indexText p (olds a)) ∷ (leafCell p (a .leaf) ∷ rest))
   unfolding rest
   cells-here w = simp (cells-append, one-section, map-append, weigh-append, weigh-cons, weigh-nil) (omega arith)
 
   module _ (master : List ℕ) (text : ℕ → List ℕ) (h : HoldsCells p master text (treeOf a) f) where
-    here-agree : Agree text ((a .index, indexText (p .wpb) (olds a)) ∷ (leafCell (p .wpb) (a .leaf) ∷ rest))
+    here-agree : Agree text ((a .index, indexText p (olds a)) ∷ (leafCell p (a .leaf) ∷ rest))
     here-agree = agree-same text _ _ cells-here (h .agree)
 
     here-once : (b : ℕ) → is (a .index) b + (is (a .leaf .block) b + cellTimes b rest) ≡ inside (p .n) b
     unfolding cellTimes weigh leafCell
     here-once b = sym (cells-here (λ c. is (c .0) b)) ∙ h .once b
 
-    pub index-text : text (a .index) ≡ indexText (p .wpb) (olds a)
+    pub index-text : text (a .index) ≡ indexText p (olds a)
     index-text = here-agree .0
 
-    pub leaf-text : text (a .leaf .block) ≡ table (p .wpb) (a .leaf .records)
+    pub leaf-text : text (a .leaf .block) ≡ table (detailShape p) (p .wpb) (a .leaf .records)
     unfolding leafCell
     leaf-text = here-agree .1 .0
 
@@ -221,9 +222,9 @@ pub spot-in : (p : Description) (master : List ℕ) (text : ℕ → List ℕ) (s
     → (1 ≤ b) × (b ≤ p .n)
 spot-in p master text ss f b h s = subst (λ (c : ℕ). (1 ≤ c) × (c ≤ p .n)) (s .block) (leaf-in p (s .place) f master text (rw (s .is) at h))
 
-pub spot-cell : (p : Description) (ss : List Section) (b : ℕ) → Spot ss b → 1 ≤ cellTimes b (cellsOf (p .wpb) ss)
-spot-cell p ss b s = rw (s .is) (omega (arith, cells-in (p .wpb) (s .place) b, subst (λ (c : ℕ). is c b ≡ 1) (sym (s .block)) (is-self b)))
+pub spot-cell : (p : Description) (ss : List Section) (b : ℕ) → Spot ss b → 1 ≤ cellTimes b (cellsOf p ss)
+spot-cell p ss b s = rw (s .is) (omega (arith, cells-in p (s .place) b, subst (λ (c : ℕ). is c b ≡ 1) (sym (s .block)) (is-self b)))
 
 pub spot-text : (p : Description) (master : List ℕ) (text : ℕ → List ℕ) (ss : List Section) (f : Free) (b : ℕ) → HoldsCells p master text ss f
-    → (s : Spot ss b) → text b ≡ table (p .wpb) (s .place .leaf .records)
+    → (s : Spot ss b) → text b ≡ table (detailShape p) (p .wpb) (s .place .leaf .records)
 spot-text p master text ss f b h s = ap text (sym (s .block)) ∙ leaf-text p (s .place) f _ _ (rw (s .is) at h)

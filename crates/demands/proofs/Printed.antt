@@ -13,7 +13,7 @@ use Rattle.rules.proofs.Computing.{computing}
 
 -- "Input `8 3 1 0 2 4`": WPB WPR K SPACE CONTROL N
 abbrev small : Description
-small = record { wpb = 8; wpr = 3; k = 1; space = 0; control = 2; n = 4 }
+small = record { wpb = 8; wpr = 3; k = 1; space = 0; control = 2; n = 4; form = 1 }
 
 -- the words that the calls carry: NSERT 10 1 2, 20 3 4, 5 7 7, 15 6 6, 12 0 0; DLETE 5, 10; XTEND 30 8 9, 25 0 0; SEEK 20
 abbrev words : List ℕ
@@ -69,3 +69,24 @@ pub table :
     × (ended words (begun small) (take 5 calls) .file ≡ drawn)
 unfolding computing
 table = (refl, refl, refl)
+
+-- the same parameters with the second block form
+abbrev second : Description
+second = record { wpb = 8; wpr = 3; k = 1; space = 0; control = 2; n = 4; form = 2 }
+
+-- the file after the fifteen calls in the second form: block 2 is free, and says so
+abbrev atEnd : List ℕ
+atEnd =
+    1 ∷ 2 ∷ 5 ∷ 262143 ∷ 1 ∷ 0 ∷ 0 ∷ 0
+    ∷ 4098 ∷ 20 ∷ 4 ∷ 262143 ∷ 3 ∷ 0 ∷ 0 ∷ 0
+    ∷ 12288 ∷ 0 ∷ 0 ∷ 0 ∷ 0 ∷ 0 ∷ 0 ∷ 0
+    ∷ 8194 ∷ 30 ∷ 8 ∷ 9 ∷ 262143 ∷ 0 ∷ 0 ∷ 0
+    ∷ 8194 ∷ 15 ∷ 6 ∷ 6 ∷ 20 ∷ 3 ∷ 4 ∷ 0 ∷ []
+
+-- in the second form the same lines, block 1 after the third NSERT with its kind, and the file at the end
+pub table-second :
+    (printed words (begun second) calls ≡ lines)
+    × (textOf (texts (ended words (begun second) (take 5 calls))) 1 ≡ 4099 ∷ 10 ∷ 2 ∷ 20 ∷ 4 ∷ 262143 ∷ 3 ∷ 0 ∷ [])
+    × (ended words (begun second) calls .file ≡ atEnd)
+unfolding computing
+table-second = (refl, refl, refl)

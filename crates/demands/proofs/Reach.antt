@@ -9,7 +9,7 @@ use lib.ListN.{length}
 use borrow.Author.Tests.{le-leb, ne-eqb, eq-eqb}
 use Rattle.numbers.specs.Checked.{passed, between}
 use Rattle.drum.specs.declared.Description.{Description}
-use Rattle.drum.specs.Params.{D}
+use Rattle.drum.specs.Params.{D, detailShape}
 use Rattle.drum.specs.Blocks.{Transfer, Read, written, blockAt, Texts, textOf}
 use Rattle.rules.specs.declared.Way.{Way}
 use Rattle.rules.specs.declared.Way.the-variants.{Here, By}
@@ -36,8 +36,8 @@ pub record At (v : Texts) (flag : Bool) (ss : List Section) (f : Free) (a : Plac
   pub here-is : isHere way ≡ true → v .current ≡ a .leaf .block
   pub by-is : isHere way ≡ false → way ≡ By (pathOf a)
   pub current-is : reached v flag way .current ≡ a .leaf .block
-  pub buffer-is : reached v flag way .buffer ≡ table (v .desc .wpb) (a .leaf .records)
-  pub text-is : textAt v way ≡ table (v .desc .wpb) (a .leaf .records)
+  pub buffer-is : reached v flag way .buffer ≡ table (detailShape (v .desc)) (v .desc .wpb) (a .leaf .records)
+  pub text-is : textAt v way ≡ table (detailShape (v .desc)) (v .desc .wpb) (a .leaf .records)
   pub kept : KeptTree (textsLeft v (reached v flag way)) (reached v flag way .flag) (treeOf a) f
   pub held : HoldsCells (v .desc) (masterOf (v .desc) (v .file)) (textOf v) (treeOf a) f
 
@@ -60,7 +60,7 @@ module _ (v : Texts) (flag : Bool) (ss : List Section) (f : Free) (h : KeptTree 
       simp (
         ne-eqb (v .current) 0 (λ e. omega (arith, i .0)),
         buffer-leaf v flag ss f h s,
-        count-table (p .wpb) (s .place .leaf .records),
+        count-table (detailShape p) (p .wpb) (s .place .leaf .records),
         le-leb 1 (v .current) (i .0),
         le-leb (v .current) (p .n) (i .1),
         le-leb 1 (length (s .place .leaf .records)) (ok .some),
@@ -112,7 +112,7 @@ module _ (v : Texts) (flag : Bool) (ss : List Section) (f : Free) (h : KeptTree 
   pub at-here : (s : Spot ss (v .current)) → At v flag ss f (s .place) Here
   unfolding reached
   at-here s =
-      let t : v .buffer ≡ table (p .wpb) (s .place .leaf .records) = buffer-leaf v flag ss f h s in
+      let t : v .buffer ≡ table (detailShape p) (p .wpb) (s .place .leaf .records) = buffer-leaf v flag ss f h s in
       record {
         is = s .is;
         here-is = λ e. sym (s .block);
@@ -129,7 +129,7 @@ module _ (v : Texts) (flag : Bool) (ss : List Section) (f : Free) (h : KeptTree 
   at-by a e =
       let hz : HoldsCells p (masterOf p (v .file)) (textOf v) (treeOf a) f
       = subst (λ (z : List Section). HoldsCells p (masterOf p (v .file)) (textOf v) z f) e (h .holds) in
-      let t : textOf v (a .leaf .block) ≡ table (p .wpb) (a .leaf .records) = leaf-text p a f _ (textOf v) hz in
+      let t : textOf v (a .leaf .block) ≡ table (detailShape p) (p .wpb) (a .leaf .records) = leaf-text p a f _ (textOf v) hz in
       record {
         is = e;
         here-is = λ g. no-true-false g refl;

@@ -11,7 +11,7 @@ use borrow.Author.Tests.{eq-eqb, ne-eqb, le-leb, lt-leb}
 use Rattle.words.specs.Words.{zeros}
 use Rattle.table.specs.Tables.{laid}
 use Rattle.drum.specs.declared.Description.{Description}
-use Rattle.drum.specs.Params.{masterSize}
+use Rattle.drum.specs.Params.{masterSize, detailShape, indexShape}
 use Rattle.layout.specs.Tree.{Leaf, Section, Tree, boundOf, leafBlocks, blocksIn, headOf, times}
 use Rattle.layout.specs.Holds.{indexEntries, masterEntries, masterText}
 use Rattle.demands.proofs.Rows.{cat, tab}
@@ -57,11 +57,11 @@ head-same (c ∷ cs) = refl
 
 -- ---- texts
 
-pub index-same : (p : Description) (ls : List Leaf) → laid (p .wpb) (length ls) (indexEntries ls) ≡ indexText (p .wpb) ls
+pub index-same : (p : Description) (ls : List Leaf) → laid (p .wpb) (indexShape p .tag + length ls) (indexEntries ls) ≡ indexText p ls
 unfolding indexText table
 index-same p ls = rw (entries-flat ls, length-map ls entry)
 
-pub detail-same : (p : Description) (rows : List (List ℕ)) → laid (p .wpb) (length rows) (flatten rows) ≡ table (p .wpb) rows
+pub detail-same : (p : Description) (rows : List (List ℕ)) → laid (p .wpb) (detailShape p .tag + length rows) (flatten rows) ≡ table (detailShape p) (p .wpb) rows
 unfolding table
 detail-same p rows = rw (cat-flat rows)
 
@@ -91,17 +91,17 @@ unfolding times
 times-append b [] ys = omega arith
 times-append b (x ∷ xs) ys = rw (times-append b xs ys) (omega arith)
 
-leaf-times : (b wpb : ℕ) (ls : List Leaf) → times b (leafBlocks ls) ≡ cells.cellTimes b (map (leafCell wpb) ls)
+leaf-times : (b : ℕ) (p : Description) (ls : List Leaf) → times b (leafBlocks ls) ≡ cells.cellTimes b (map (leafCell p) ls)
 unfolding times leafBlocks cells.cellTimes cells.weigh leafCell
-leaf-times b wpb [] = refl
-leaf-times b wpb (l ∷ ls) = ap₂ (λ (x y : ℕ). x + y) (one-same b (l .block)) (leaf-times b wpb ls)
+leaf-times b p [] = refl
+leaf-times b p (l ∷ ls) = ap₂ (λ (x y : ℕ). x + y) (one-same b (l .block)) (leaf-times b p ls)
 
-pub tree-times : (b wpb : ℕ) (ss : List Section) → times b (blocksIn ss) ≡ cells.cellTimes b (cellsOf wpb ss)
+pub tree-times : (b : ℕ) (p : Description) (ss : List Section) → times b (blocksIn ss) ≡ cells.cellTimes b (cellsOf p ss)
 unfolding times blocksIn cellsOf
-tree-times b wpb [] = unfold cells.cellTimes cells.weigh in refl
-tree-times b wpb (s ∷ ss) =
-    rw (times-append b (leafBlocks (s .leaves)) (blocksIn ss), one-same b (s .block), leaf-times b wpb (s .leaves), tree-times b wpb ss)
-    (sym (cell-times b (s .block, indexText wpb (s .leaves)) (map (leafCell wpb) (s .leaves)) (cellsOf wpb ss)))
+tree-times b p [] = unfold cells.cellTimes cells.weigh in refl
+tree-times b p (s ∷ ss) =
+    rw (times-append b (leafBlocks (s .leaves)) (blocksIn ss), one-same b (s .block), leaf-times b p (s .leaves), tree-times b p ss)
+    (sym (cell-times b (s .block, indexText p (s .leaves)) (map (leafCell p) (s .leaves)) (cellsOf p ss)))
   where
     cell-times : (b : ℕ) (c : cells.Cell) (xs ys : List cells.Cell)
         → cells.cellTimes b ((c ∷ xs) ++ ys) ≡ cells.is (c .0) b + (cells.cellTimes b xs + cells.cellTimes b ys)

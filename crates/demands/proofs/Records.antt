@@ -124,7 +124,7 @@ module _ (p : Description) (kr : p .k ≤ p .wpr) where
   key-rows w q e (r ∷ rows) h = ((key-long r (h .0) .0 ∙ sym e, key-long r (h .0) .1), key-rows w q e rows (h .1))
 
   module _ (rows : List (List ℕ)) (ok : All (RowOk p) rows) (w : List ℕ) (q : allWords w ≡ true) (e : length w ≡ p .k) where
-    pub at-key : AtKey (p .k) (val w) rows (rowWith (detailShape p) w (table (p .wpb) rows))
+    pub at-key : AtKey (p .k) (val w) rows (rowWith (detailShape p) w (table (detailShape p) (p .wpb) rows))
     unfolding detailShape key
     at-key =
         rw (table-with-is (detailShape p) kr rows (rows-long p rows ok) w q (key-rows w q e rows ok) refl (p .wpb))
@@ -136,24 +136,24 @@ module _ (p : Description) (kr : p .k ≤ p .wpr) where
         go (at bs r cs l n h t) = present bs r cs l n (eqb-true (key (p .k) r) (val w) t)
 
     -- the place of the first record above the key
-    pub above-at : rowAbove (detailShape p) w (table (p .wpb) rows) ≡ firstIn (λ r. ltb (val w) (key (p .k) r)) rows
+    pub above-at : rowAbove (detailShape p) w (table (detailShape p) (p .wpb) rows) ≡ firstIn (λ r. ltb (val w) (key (p .k) r)) rows
     unfolding detailShape key
     above-at =
         table-above-is (detailShape p) kr rows (rows-long p rows ok) w q (key-rows w q e rows ok) refl (p .wpb)
 
     -- the place for a new record
-    pub new-at : hit (key (p .k)) (val w) rows ≡ [] → rowAbove (detailShape p) w (table (p .wpb) rows) ≡ length (below (key (p .k)) (val w) rows)
+    pub new-at : hit (key (p .k)) (val w) rows ≡ [] → rowAbove (detailShape p) w (table (detailShape p) (p .wpb) rows) ≡ length (below (key (p .k)) (val w) rows)
     new-at none = above-at ∙ place-new (key (p .k)) (val w) rows none
 
   pub row-here : (bs : List (List ℕ)) (r : List ℕ) (cs : List (List ℕ)) → All (RowOk p) (bs ++ r ∷ cs)
-      → row (detailShape p) (table (p .wpb) (bs ++ r ∷ cs)) (length bs) ≡ r
+      → row (detailShape p) (table (detailShape p) (p .wpb) (bs ++ r ∷ cs)) (length bs) ≡ r
   unfolding detailShape
   row-here bs r cs ok =
       table-row (p .wpb) (detailShape p) refl bs cs (rows-long p bs (all-left (RowOk p) bs _ ok)) (rows-long p cs (all-right (RowOk p) bs _ ok .1)) r
       (all-right (RowOk p) bs _ ok .0 .0)
 
   pub key-here : (bs : List (List ℕ)) (r : List ℕ) (cs : List (List ℕ)) → All (RowOk p) (bs ++ r ∷ cs)
-      → keyAt (detailShape p) (table (p .wpb) (bs ++ r ∷ cs)) (length bs) ≡ take (p .k) r
+      → keyAt (detailShape p) (table (detailShape p) (p .wpb) (bs ++ r ∷ cs)) (length bs) ≡ take (p .k) r
   unfolding detailShape
   key-here bs r cs ok =
       table-key (p .wpb) (detailShape p) refl bs cs (rows-long p bs (all-left (RowOk p) bs _ ok)) (rows-long p cs (all-right (RowOk p) bs _ ok .1)) r
@@ -162,21 +162,21 @@ module _ (p : Description) (kr : p .k ≤ p .wpr) where
   -- what is done to the words of the block
   module _ (bs : List (List ℕ)) (x : List ℕ) (cs : List (List ℕ)) where
     pub record-replace : All (RowOk p) (bs ++ x ∷ cs) → (r : List ℕ) → length r ≡ p .wpr
-        → replaced (detailShape p) (length bs) r (table (p .wpb) (bs ++ x ∷ cs)) ≡ table (p .wpb) (bs ++ r ∷ cs)
+        → replaced (detailShape p) (length bs) r (table (detailShape p) (p .wpb) (bs ++ x ∷ cs)) ≡ table (detailShape p) (p .wpb) (bs ++ r ∷ cs)
     unfolding detailShape
     record-replace ok r lr =
         table-replace (p .wpb) (detailShape p) refl bs cs (rows-long p bs (all-left (RowOk p) bs _ ok)) (rows-long p cs (all-right (RowOk p) bs _ ok .1)) x r
         (all-right (RowOk p) bs _ ok .0 .0) lr
 
     pub record-remove : All (RowOk p) (bs ++ x ∷ cs) → 1 + length (bs ++ x ∷ cs) * p .wpr ≤ p .wpb
-        → removed (detailShape p) (length bs) (table (p .wpb) (bs ++ x ∷ cs)) ≡ table (p .wpb) (bs ++ cs)
+        → removed (detailShape p) (length bs) (table (detailShape p) (p .wpb) (bs ++ x ∷ cs)) ≡ table (detailShape p) (p .wpb) (bs ++ cs)
     unfolding detailShape
     record-remove ok fits =
         table-remove (p .wpb) (detailShape p) refl bs cs (rows-long p bs (all-left (RowOk p) bs _ ok)) (rows-long p cs (all-right (RowOk p) bs _ ok .1)) x
         (all-right (RowOk p) bs _ ok .0 .0) fits
 
     pub record-insert : All (RowOk p) (bs ++ cs) → length x ≡ p .wpr → 1 + length (bs ++ x ∷ cs) * p .wpr ≤ p .wpb
-        → inserted (detailShape p) (length bs) x (table (p .wpb) (bs ++ cs)) ≡ table (p .wpb) (bs ++ x ∷ cs)
+        → inserted (detailShape p) (length bs) x (table (detailShape p) (p .wpb) (bs ++ cs)) ≡ table (detailShape p) (p .wpb) (bs ++ x ∷ cs)
     unfolding detailShape
     record-insert ok lx fits =
         table-insert (p .wpb) (detailShape p) refl bs cs (rows-long p bs (all-left (RowOk p) bs _ ok))
@@ -184,17 +184,17 @@ module _ (p : Description) (kr : p .k ≤ p .wpr) where
 
   -- a record put in where its key goes
   pub record-ins : (rs : List (List ℕ)) (r : List ℕ) → All (RowOk p) rs → length r ≡ p .wpr → 1 + suc (length rs) * p .wpr ≤ p .wpb
-      → inserted (detailShape p) (length (below (key (p .k)) (key (p .k) r) rs)) r (table (p .wpb) rs) ≡ table (p .wpb) (ins (key (p .k)) r rs)
+      → inserted (detailShape p) (length (below (key (p .k)) (key (p .k) r) rs)) r (table (detailShape p) (p .wpb) rs) ≡ table (detailShape p) (p .wpb) (ins (key (p .k)) r rs)
   unfolding ins
   record-ins rs r ok lr fits =
       let bs : List (List ℕ) = below (key (p .k)) (key (p .k) r) rs in
       let cs : List (List ℕ) = from (key (p .k)) (key (p .k) r) rs in
       let e : bs ++ cs ≡ rs = below-from (key (p .k)) (key (p .k) r) rs in
       let n : length (ins (key (p .k)) r rs) ≡ suc (length rs) = length-ins (key (p .k)) r rs in
-      ap (λ (z : List (List ℕ)). inserted (detailShape p) (length bs) r (table (p .wpb) z)) (sym e) ∙ put-in bs cs (subst (All (RowOk p)) (sym e) ok) n
+      ap (λ (z : List (List ℕ)). inserted (detailShape p) (length bs) r (table (detailShape p) (p .wpb) z)) (sym e) ∙ put-in bs cs (subst (All (RowOk p)) (sym e) ok) n
     where
       put-in : (bs cs : List (List ℕ)) → All (RowOk p) (bs ++ cs) → length (bs ++ r ∷ cs) ≡ suc (length rs)
-          → inserted (detailShape p) (length bs) r (table (p .wpb) (bs ++ cs)) ≡ table (p .wpb) (bs ++ r ∷ cs)
+          → inserted (detailShape p) (length bs) r (table (detailShape p) (p .wpb) (bs ++ cs)) ≡ table (detailShape p) (p .wpb) (bs ++ r ∷ cs)
       put-in bs cs ok n = record-insert bs r cs ok lr (rw n fits)
 
   -- ---- the end record stays the last

@@ -5,6 +5,7 @@ use mathlib.Core.Path.{_≡_, refl}
 use mathlib.Core.List.{List, [], _∷_, map}
 use Rattle.words.specs.Words.{zeros}
 use Rattle.table.specs.Tables.{count}
+use lib.ListN.{getD}
 use Rattle.drum.specs.declared.Description.{Description}
 use Rattle.drum.specs.Blocks.{blockAt, chainHead, lowestUnused}
 use Rattle.rules.specs.State.{State}
@@ -17,10 +18,10 @@ use Rattle.demands.specs.Filled.{disturbs, OnlyXtends}
 use Rattle.demands.specs.Reuse.{larger, peak}
 
 abbrev small : Description
-small = record { wpb = 8; wpr = 3; k = 1; space = 0; control = 2; n = 6 }
+small = record { wpb = 8; wpr = 3; k = 1; space = 0; control = 2; n = 6; form = 1 }
 
 abbrev spaced : Description
-spaced = record { wpb = 12; wpr = 3; k = 1; space = 1; control = 2; n = 9 }
+spaced = record { wpb = 12; wpr = 3; k = 1; space = 1; control = 2; n = 9; form = 1 }
 
 -- CREATE and OPEN
 abbrev madeWith : Description → State
@@ -78,6 +79,6 @@ others-between = refl
 abbrev extensions : List Request
 extensions = map extending (rec 10 ∷ rec 20 ∷ rec 30 ∷ rec 40 ∷ rec 50 ∷ rec 60 ∷ rec 70 ∷ rec 80 ∷ [])
 
-pub space-left : map (λ b. count (blockAt spaced (left (madeWith spaced) extensions .file) b)) (1 ∷ 2 ∷ 3 ∷ 4 ∷ 5 ∷ 6 ∷ 7 ∷ []) ≡ 4 ∷ 2 ∷ 2 ∷ 2 ∷ 2 ∷ 1 ∷ 1 ∷ []
+pub space-left : map (λ b. getD (blockAt spaced (left (madeWith spaced) extensions .file) b) 0 0) (1 ∷ 2 ∷ 3 ∷ 4 ∷ 5 ∷ 6 ∷ 7 ∷ []) ≡ 4 ∷ 2 ∷ 2 ∷ 2 ∷ 2 ∷ 1 ∷ 1 ∷ []
 unfolding computing
 space-left = refl

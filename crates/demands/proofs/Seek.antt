@@ -98,7 +98,7 @@ module _ (st : State) (ss : List Section) (f : Free) (r : Ready (desc st .k) st 
       let back : KeptTree (textsLeft v here) (here .flag) ss f
       = subst (λ (z : List Section). KeptTree (textsLeft v here) (here .flag) z f) (sym (A .is)) (A .kept) in
       let at : row (detailShape p) (here .buffer) (length bs) ≡ x
-      = ap (λ (b : List ℕ). row (detailShape p) b (length bs)) (A .buffer-is ∙ ap (table (p .wpb)) q) ∙ row-here p kr bs x cs ok in
+      = ap (λ (b : List ℕ). row (detailShape p) b (length bs)) (A .buffer-is ∙ ap (table (detailShape p) (p .wpb)) q) ∙ row-here p kr bs x cs ok in
       let kw : Key p (keyIn p (st .work)) = key-of (p .k) st ss f r (omega arith) kr in
       inr (
         x,
@@ -156,9 +156,9 @@ module _ (st : State) (ss : List Section) (f : Free) (r : Ready (desc st .wpr) s
       = ap (upd K (st .work)) q
       ∙ upd-at K (lo p a) bs x cs (hi p a) (subst (λ (z : List (List ℕ)). Asc K (lo p a) z (hi p a)) q asc) (st .work) (key-is ∙ sym k) in
       let len : length (bs ++ st .work ∷ cs) ≡ length (a .leaf .records) = rw (q, length-append bs (st .work ∷ cs), length-append bs (x ∷ cs)) in
-      let text : t ≡ table (p .wpb) (bs ++ st .work ∷ cs)
-      = ap (λ (b : List ℕ). replaced (detailShape p) (length bs) (recordIn p (st .work)) b) (A .buffer-is ∙ ap (table (p .wpb)) q)
-      ∙ ap (λ (w : List ℕ). replaced (detailShape p) (length bs) w (table (p .wpb) (bs ++ x ∷ cs))) (work-is st ss f r)
+      let text : t ≡ table (detailShape p) (p .wpb) (bs ++ st .work ∷ cs)
+      = ap (λ (b : List ℕ). replaced (detailShape p) (length bs) (recordIn p (st .work)) b) (A .buffer-is ∙ ap (table (detailShape p) (p .wpb)) q)
+      ∙ ap (λ (w : List ℕ). replaced (detailShape p) (length bs) w (table (detailShape p) (p .wpb) (bs ++ x ∷ cs))) (work-is st ss f r)
       ∙ record-replace p kr bs x cs ok (st .work) (r .work-length) in
       inr (
         x,

@@ -13,7 +13,7 @@ use Rattle.words.specs.Words.{allWords}
 use Rattle.words.specs.Keys.{ones, val}
 use Rattle.words.proofs.Keys.{clash}
 use Rattle.drum.specs.declared.Description.{Description}
-use Rattle.drum.specs.Params.{D, masterSize, fileSize, goodParams}
+use Rattle.drum.specs.Params.{D, masterSize, fileSize, goodParams, detailShape}
 use Rattle.drum.specs.Blocks.{Transfer, Read, Write, blockAt, written, Texts, seen, textOf}
 use Rattle.drum.proofs.Good.{caps}
 use Rattle.layout.specs.Create.{endRecord}
@@ -103,7 +103,7 @@ module _ (v : Texts) (flag : Bool) (ss : List Section) (f : Free) (h : KeptTree 
   current-in l = spot-in p _ (textOf v) ss f (v .current) (h .holds) (h .current l) .1
 
   -- the buffer's words are those of its leaf
-  pub buffer-leaf : (s : Spot ss (v .current)) → v .buffer ≡ table (p .wpb) (s .place .leaf .records)
+  pub buffer-leaf : (s : Spot ss (v .current)) → v .buffer ≡ table (detailShape p) (p .wpb) (s .place .leaf .records)
   buffer-leaf s = sym (text-current v) ∙ spot-text p _ (textOf v) ss f (v .current) (h .holds) s
 
   pub clean-text : (c : ℕ) → 1 ≤ c → (flag ≡ true → c ≢ v .current) → blockAt p (v .file) c ≡ textOf v c
@@ -253,25 +253,25 @@ rows-long p [] h = tt
 rows-long p (r ∷ rows) h = (h .0 .0, rows-long p rows (h .1))
 
 pub leaf-length : (p : Description) (rows : List (List ℕ)) → goodParams p ≡ true → All (RowOk p) rows → length rows ≤ D p
-    → length (table (p .wpb) rows) ≡ p .wpb
-leaf-length p rows g ok room = length-table (p .wpb) (p .wpr) rows (rows-long p rows ok) (omega (arith, caps p g .records-fit, mul-le-mul-right (p .wpr) room))
+    → length (table (detailShape p) (p .wpb) rows) ≡ p .wpb
+leaf-length p rows g ok room = length-table (detailShape p) (p .wpb) (p .wpr) rows (rows-long p rows ok) (omega (arith, caps p g .records-fit, mul-le-mul-right (p .wpr) room))
 
 -- the leaf in the buffer gets other rows, flag on
 pub store-leaf : (v : Texts) (flag : Bool) (a : Place) (f : Free) → KeptTree v flag (treeOf a) f → v .current ≡ a .leaf .block
     → (rows : List (List ℕ)) → Asc (key (v .desc .k)) (lo (v .desc) a) rows (hi (v .desc) a) → LeafFits (v .desc) (withRows (v .desc) (a .leaf) rows)
     → Ended (v .desc) (recordsIn (leavesIn (treeWith a (withRows (v .desc) (a .leaf) rows ∷ []))))
-    → KeptTree (seen (v .desc) (v .current) (v .file) (table (v .desc .wpb) rows)) true (treeWith a (withRows (v .desc) (a .leaf) rows ∷ [])) f
+    → KeptTree (seen (v .desc) (v .current) (v .file) (table (detailShape (v .desc)) (v .desc .wpb) rows)) true (treeWith a (withRows (v .desc) (a .leaf) rows ∷ [])) f
 unfolding leafCell
 store-leaf v flag a f h e rows asc ok z =
     let p : Description = v .desc in
     let l′ : Leaf = withRows p (a .leaf) rows in
     let b : Place = record { before = a .before; index = a .index; low = a .low; leaf = l′; high = a .high; behind = a .behind } in
-    store-kept v flag (treeOf a) f h (table (p .wpb) rows) (treeWith a (l′ ∷ []))
+    store-kept v flag (treeOf a) f h (table (detailShape p) (p .wpb) rows) (treeWith a (l′ ∷ []))
     (spot-in p _ (textOf v) (treeOf a) f (v .current) (h .holds) (record { place = a; is = refl; block = sym e }) .0)
     (leaf-length p rows (h .good) (ok .rows) (ok .room))
     (record { place = b; is = refl; block = sym e })
-    (subst (λ (c : ℕ). HoldsCells p (masterOf p (v .file)) (wrote (textOf v) c (table (p .wpb) rows)) (treeWith a (l′ ∷ [])) f) (sym e)
-    (subst (λ (m : List ℕ). HoldsCells p m (wrote (textOf v) (a .leaf .block) (table (p .wpb) rows)) (treeWith a (l′ ∷ [])) f)
+    (subst (λ (c : ℕ). HoldsCells p (masterOf p (v .file)) (wrote (textOf v) c (table (detailShape p) (p .wpb) rows)) (treeWith a (l′ ∷ [])) f) (sym e)
+    (subst (λ (m : List ℕ). HoldsCells p m (wrote (textOf v) (a .leaf .block) (table (detailShape p) (p .wpb) rows)) (treeWith a (l′ ∷ [])) f)
     (master-same p a f (l′ ∷ []) (λ d. refl) ∙ sym (h .holds .master-is))
     (replace-rows p (a .before) (a .index) (a .low) (a .leaf) (a .high) (a .behind) f _ _ (h .holds) rows asc ok)))
     z

@@ -20,21 +20,21 @@ sec ib ls = record { block = ib; leaves = ls }
 
 module _ (p : Description) where
   abbrev pub lf : Leaf → Cell
-  lf = leafCell (p .wpb)
+  lf = leafCell p
 
   abbrev pub ix : List Leaf → List ℕ
-  ix = indexText (p .wpb)
+  ix = indexText p
 
   -- where the sections after bs start
   abbrev pub start : List Section → ℕ
   start bs = reach (p .k) 0 (leavesIn bs)
 
-  section-cells : (ib : ℕ) (ls : List Leaf) (free : List Cell) → SameCells (cellsOf (p .wpb) (sec ib ls ∷ []) ++ free) ((ib, ix ls) ∷ (map lf ls ++ free))
+  section-cells : (ib : ℕ) (ls : List Leaf) (free : List Cell) → SameCells (cellsOf p (sec ib ls ∷ []) ++ free) ((ib, ix ls) ∷ (map lf ls ++ free))
   unfolding cellsOf
   section-cells ib ls free w = simp (weigh-append, weigh-cons, weigh-nil) (omega arith)
 
   two-cells : (ib : ℕ) (ls : List Leaf) (nib : ℕ) (ms : List Leaf) (free : List Cell)
-      → SameCells (cellsOf (p .wpb) (sec ib ls ∷ (sec nib ms ∷ [])) ++ free) ((ib, ix ls) ∷ (map lf ls ++ ((nib, ix ms) ∷ (map lf ms ++ free))))
+      → SameCells (cellsOf p (sec ib ls ∷ (sec nib ms ∷ [])) ++ free) ((ib, ix ls) ∷ (map lf ls ++ ((nib, ix ms) ∷ (map lf ms ++ free))))
   unfolding cellsOf
   two-cells ib ls nib ms free w = simp (weigh-append, weigh-cons, weigh-nil) (omega arith)
 
@@ -236,7 +236,7 @@ module _ (p : Description) where
       (record { some = oks .0 .some; room = oks .0 .room; rows = oks .0 .rows; bound = oks .1 .0 .bound; wide = oks .1 .0 .wide }, tt) refl
 
   gone-cells : (jb : ℕ) (ns : List Leaf) (x y : Cell) (free : List Cell)
-      → SameCells (cellsOf (p .wpb) (sec jb ns ∷ []) ++ (x ∷ (y ∷ free))) ((y ∷ (x ∷ [])) ++ ((jb, ix ns) ∷ (map lf ns ++ free)))
+      → SameCells (cellsOf p (sec jb ns ∷ []) ++ (x ∷ (y ∷ free))) ((y ∷ (x ∷ [])) ++ ((jb, ix ns) ∷ (map lf ns ++ free)))
   gone-cells jb ns x y free w = section-cells jb ns (x ∷ (y ∷ free)) w ∙ simp (weigh-append, weigh-cons, weigh-nil) (omega arith)
 
   -- it is the only one of its section, which goes too: the section after it covers its range

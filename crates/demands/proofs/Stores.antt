@@ -63,14 +63,14 @@ module _ (st : State) (ss : List Section) (f : Free) (h : Sound st ss f) (o : st
   -- other rows for the leaf in the buffer, flag on, "position = key"
   pub store-gives : (a : Place) → KeptTree (textsLeft (texts st) r) (r .flag) (treeOf a) f → r .current ≡ a .leaf .block
       → (rs new : List (List ℕ)) (t : List ℕ) (n : ℕ) (work : List ℕ)
-      → t ≡ table (p .wpb) rs → Asc (key (p .k)) (lo p a) rs (hi p a) → 1 ≤ length rs → length rs ≤ D p → All (RowOk p) rs
+      → t ≡ table (detailShape p) (p .wpb) rs → Asc (key (p .k)) (lo p a) rs (hi p a) → 1 ≤ length rs → length rs ≤ D p → All (RowOk p) rs
       → recordsIn (leavesIn (treeWith a (withRows p (a .leaf) rs ∷ []))) ≡ new → Ended p new → Key p (keyIn p work) → (brought : Growth)
       → Grows p ss (treeWith a (withRows p (a .leaf) rs ∷ [])) brought
       → Gives st ss (outcome (st .session) (storing n work r t)) n most new brought (treeWith a (withRows p (a .leaf) rs ∷ [])) f
   unfolding storing
   store-gives a k e rs new t n work et asc some room oks c z kw brought grew =
       let ok : LeafFits p (a .leaf) = leaf-ok p a f _ _ (k .holds) in
-      let k₁ : KeptTree (seen p (r .current) (r .file) (table (p .wpb) rs)) true (treeWith a (withRows p (a .leaf) rs ∷ [])) f
+      let k₁ : KeptTree (seen p (r .current) (r .file) (table (detailShape p) (p .wpb) rs)) true (treeWith a (withRows p (a .leaf) rs ∷ [])) f
       = store-leaf (textsLeft (texts st) r) (r .flag) a f k e rs asc (record { some = some; room = room; rows = oks; bound = ok .bound; wide = ok .wide })
       (rw c z) in
       effect-gives st ss f h o (storing n work r t) (treeWith a (withRows p (a .leaf) rs ∷ [])) f

@@ -57,7 +57,7 @@ module _ (v : Texts) (flag : Bool) (ss : List Section) (f : Free) (k : KeptTree 
   pub one-some : 1 ≤ freeCount f → takeOne v flag (pathOf a) ≡ passed (takenOf f)
   unfolding takeOne
   one-some some =
-      simp (heads, lows, grant-some v f fr some, next-is some, new-pass v flag ss f k a is (next f) (next-outside p _ _ ss f hd some))
+      simp (heads, lows, grant-some v (k .good) f fr some, next-is some, new-pass v flag ss f k a is (next f) (next-outside p _ _ ss f hd some))
 
   -- two are asked for, and a section: there is none, only one, or no section is left; or they are the next two
   pub two-none : freeCount f ≡ 0 → takeTwo v flag (pathOf a) ≡ passed (record { detail = 0; index = noneOf f })
@@ -71,7 +71,7 @@ module _ (v : Texts) (flag : Bool) (ss : List Section) (f : Free) (k : KeptTree 
       simp (
         heads,
         lows,
-        grant-some v f fr some,
+        grant-some v (k .good) f fr some,
         grant-none v (taken f) (free-taken v f fr some) (omega (arith, z, taken-count f some)),
         next-is some,
       )
@@ -92,8 +92,8 @@ module _ (v : Texts) (flag : Bool) (ss : List Section) (f : Free) (k : KeptTree 
         simp (
           heads,
           lows,
-          grant-some v f fr some,
-          grant-some v (taken f) (free-taken v f fr some) some₂,
+          grant-some v (k .good) f fr some,
+          grant-some v (k .good) (taken f) (free-taken v f fr some) some₂,
           next-is some,
           second-is,
           secs,
@@ -106,8 +106,8 @@ module _ (v : Texts) (flag : Bool) (ss : List Section) (f : Free) (k : KeptTree 
         simp (
           heads,
           lows,
-          grant-some v f fr some,
-          grant-some v (taken f) (free-taken v f fr some) some₂,
+          grant-some v (k .good) f fr some,
+          grant-some v (k .good) (taken f) (free-taken v f fr some) some₂,
           next-is some,
           second-is,
           secs,

@@ -27,22 +27,22 @@ half c h =
 
 module _ (h : Shape) (one : h .base ≡ 1) (wpb : ℕ) (bs cs : List (List ℕ)) (hb : Each (h .stride) bs) (hc : Each (h .stride) cs) where
   -- the block that an entry names
-  pub table-names : h .stride ≡ h .width + 1 → (k : List ℕ) → length k ≡ h .width → (b : ℕ) → blockIn h (table wpb (bs ++ (k ++ (b ∷ [])) ∷ cs)) (length bs) ≡ b
+  pub table-names : h .stride ≡ h .width + 1 → (k : List ℕ) → length k ≡ h .width → (b : ℕ) → blockIn h (table h wpb (bs ++ (k ++ (b ∷ [])) ∷ cs)) (length bs) ≡ b
   table-names hs k hk b =
       let rows : List (List ℕ) = bs ++ (k ++ (b ∷ [])) ∷ cs in
       let each : Each (h .stride) rows = all-append (λ r. length r ≡ h .stride) bs ((k ++ (b ∷ [])) ∷ cs) hb (rw (length-append k (b ∷ []), hk, hs), hc) in
-      ap (λ (t : List ℕ). blockIn h t (length bs)) (table-encode wpb (h .stride) rows each)
-      ∙ entry-block h (length rows ∷ []) one hs bs hb k hk b cs (behind wpb (h .stride) rows)
+      ap (λ (t : List ℕ). blockIn h t (length bs)) (table-encode h wpb (h .stride) rows each)
+      ∙ entry-block h ((h .tag + length rows) ∷ []) one hs bs hb k hk b cs (behind wpb (h .stride) rows)
 
   -- a full table of n rows and one row more, in two
   module _ (r : List ℕ) (hr : length r ≡ h .stride) (n : ℕ) (en : length (bs ++ cs) ≡ n) (us vs : List (List ℕ)) (cut : bs ++ r ∷ cs ≡ us ++ vs)
       (low : length us ≡ lowCount n) where
-    pub low-table : lowText wpb h n (length bs) r (table wpb (bs ++ cs)) ≡ table wpb us
+    pub low-table : lowText wpb h n (length bs) r (table h wpb (bs ++ cs)) ≡ table h wpb us
     low-table =
-        ap (λ (m : ℕ). lowText wpb h m (length bs) r (table wpb (bs ++ cs))) (sym en)
+        ap (λ (m : ℕ). lowText wpb h m (length bs) r (table h wpb (bs ++ cs))) (sym en)
         ∙ table-low wpb h one bs cs hb hc r hr us vs cut (low ∙ ap (λ (m : ℕ). lowCount m) (sym en))
 
-    pub high-table : highText wpb h n (length bs) r (table wpb (bs ++ cs)) ≡ table wpb vs
+    pub high-table : highText wpb h n (length bs) r (table h wpb (bs ++ cs)) ≡ table h wpb vs
     high-table =
-        ap (λ (m : ℕ). highText wpb h m (length bs) r (table wpb (bs ++ cs))) (sym en)
+        ap (λ (m : ℕ). highText wpb h m (length bs) r (table h wpb (bs ++ cs))) (sym en)
         ∙ table-high wpb h one bs cs hb hc r hr us vs cut (low ∙ ap (λ (m : ℕ). lowCount m) (sym en))

@@ -66,7 +66,7 @@ module _ (p : Description) (g : goodParams p ≡ true) (f : List ℕ) (size : le
 
   -- ---- texts
 
-  agree-leaves : (ls : List Leaf) → cells.Agree (blockAt p f) (map (leafCell (p .wpb)) ls) → lay.All (lay.DetailIn p f) ls
+  agree-leaves : (ls : List Leaf) → cells.Agree (blockAt p f) (map (leafCell p) ls) → lay.All (lay.DetailIn p f) ls
   unfolding lay.All leafCell
   agree-leaves [] q = tt
   agree-leaves (l ∷ ls) q = (q .0 ∙ sym (detail-same p (l .records)), agree-leaves ls (q .1))
@@ -76,15 +76,15 @@ module _ (p : Description) (g : goodParams p ≡ true) (f : List ℕ) (size : le
   join [] ys a b = b
   join (x ∷ xs) ys a b = (a .0, join xs ys (a .1) b)
 
-  texts : (zs : List Section) → cells.Agree (blockAt p f) (cellsOf (p .wpb) zs) → lay.All (lay.IndexIn p f) zs × lay.All (lay.DetailIn p f) (leavesIn zs)
+  texts : (zs : List Section) → cells.Agree (blockAt p f) (cellsOf p zs) → lay.All (lay.IndexIn p f) zs × lay.All (lay.DetailIn p f) (leavesIn zs)
   unfolding lay.All cellsOf
   texts [] q = (tt, tt)
   texts (s ∷ zs) q =
       let P : cells.Cell → Type 0 = λ c. blockAt p f (c .0) ≡ c .1 in
-      let rest = texts zs (all-right P (map (leafCell (p .wpb)) (s .leaves)) _ (q .1)) in (
+      let rest = texts zs (all-right P (map (leafCell p) (s .leaves)) _ (q .1)) in (
         (q .0 ∙ sym (index-same p (s .leaves)), rest .0),
         join (s .leaves) (leavesIn zs)
-            (agree-leaves (s .leaves) (all-left P (map (leafCell (p .wpb)) (s .leaves)) _ (q .1))) (rest .1),
+            (agree-leaves (s .leaves) (all-left P (map (leafCell p) (s .leaves)) _ (q .1))) (rest .1),
       )
 
   chain-texts : (cs : List ℕ) → cells.Agree (blockAt p f) (held.chainCells p cs) → lay.ChainIn p f cs
@@ -104,13 +104,13 @@ module _ (p : Description) (g : goodParams p ≡ true) (f : List ℕ) (size : le
   abbrev T : cells.Cell → Type 0
   T c = blockAt p f (c .0) ≡ c .1
 
-  in-tree : cells.Agree (blockAt p f) (cellsOf (p .wpb) ss)
-  in-tree = all-left T (cellsOf (p .wpb) ss) _ (h .agree)
+  in-tree : cells.Agree (blockAt p f) (cellsOf p ss)
+  in-tree = all-left T (cellsOf p ss) _ (h .agree)
 
   in-free : cells.Agree (blockAt p f) (held.chainCells p (fr .chain)) × cells.Agree (blockAt p f) (held.freshCells p (fr .lowest) (fr .spare))
   unfolding held.freeCells
   in-free =
-      let q = all-right T (cellsOf (p .wpb) ss) _ (h .agree) in
+      let q = all-right T (cellsOf p ss) _ (h .agree) in
       (all-left T (held.chainCells p (fr .chain)) _ q, all-right T (held.chainCells p (fr .chain)) _ q)
 
   -- ---- each block once
@@ -122,9 +122,9 @@ module _ (p : Description) (g : goodParams p ≡ true) (f : List ℕ) (size : le
       omega (
         arith,
         h .once b,
-        cells.weigh-append w (cellsOf (p .wpb) ss) (held.chainCells p (fr .chain) ++ held.freshCells p (fr .lowest) (fr .spare)),
+        cells.weigh-append w (cellsOf p ss) (held.chainCells p (fr .chain) ++ held.freshCells p (fr .lowest) (fr .spare)),
         cells.weigh-append w (held.chainCells p (fr .chain)) (held.freshCells p (fr .lowest) (fr .spare)),
-        tree-times b (p .wpb) ss,
+        tree-times b p ss,
         chain-times b p (fr .chain),
         fresh-times b p (fr .lowest) (fr .spare),
       )

@@ -1,5 +1,7 @@
 -- The tree that a file holds: sections of leaves of rows, and the free cells.
 use Prim.Native.Nat.{ℕ, suc, _+_, _-_}
+use Rattle.drum.specs.declared.Description.{Description}
+use Rattle.drum.specs.Params.{detailShape, indexShape}
 use mathlib.Core.Path.{_≡_, refl, sym}
 use mathlib.Core.List.{List, [], _∷_, _++_, map, append-assoc}
 use native.Mathlib.Omega.{arith}
@@ -72,12 +74,12 @@ module _ (k : ℕ) where
 unfoldable pub entry : Leaf → List ℕ
 entry l = l .bound ++ (l .block ∷ [])
 
-module _ (wpb : ℕ) where
+module _ (p : Description) where
   unfoldable pub leafCell : Leaf → Cell
-  leafCell l = (l .block, table wpb (l .records))
+  leafCell l = (l .block, table (detailShape p) (p .wpb) (l .records))
 
   unfoldable pub indexText : List Leaf → List ℕ
-  indexText ls = table wpb (map entry ls)
+  indexText ls = table (indexShape p) (p .wpb) (map entry ls)
 
   unfoldable pub cellsOf : List Section → List Cell
   cellsOf [] = []

@@ -6,13 +6,14 @@ use mathlib.Core.List.{List, []}
 use native.Mathlib.Omega.{arith}
 use lib.Dec.{ltb, eqb}
 use borrow.Author.Tests.{eqb-false}
-use Rattle.numbers.specs.Checked.{Checked, passed, upTo, _>>=_}
+use Rattle.numbers.specs.Checked.{Checked, passed, upTo, _>>=_, require, _>>_}
 use Rattle.numbers.proofs.Passed.{Passed, chain, by-passed}
 use Rattle.words.specs.Keys.{keyLt}
 use Rattle.table.specs.Tables.{count, keyAt, rowAbove}
+use Rattle.numbers.specs.Numbers.{badFile}
 use Rattle.drum.specs.declared.Description.{Description}
-use Rattle.drum.specs.Params.{D, I, FD, FI, detailShape}
-use Rattle.drum.specs.Blocks.{Texts, textOf, seen, linkIn}
+use Rattle.drum.specs.Params.{D, I, FD, FI, detailShape, indexShape}
+use Rattle.drum.specs.Blocks.{Texts, textOf, seen, linkIn, isFree}
 use Rattle.rules.specs.declared.Path.{Path}
 use Rattle.rules.specs.declared.Way.{Way}
 use Rattle.rules.specs.declared.Way.the-variants.{Here, By}
@@ -41,7 +42,8 @@ use Rattle.demands.proofs.UnusedLooks.{text-same, unused-index, unused-
 -- the chain's head, as a new block
 abbrev linked : Texts → ℕ → ℕ → Checked Taken
 linked v head lowest = do
-  link ← upTo (v .desc .n) (linkIn (textOf v head))
+  require (isFree (v .desc) (textOf v head)) badFile
+  link ← upTo (v .desc .n) (linkIn (v .desc) (textOf v head))
   passed (record { block = head; head = link; lowest = lowest })
 
 module _ (p : Description) (f a b : List ℕ) where
@@ -146,8 +148,8 @@ module _ (p : Description) (f a b : List ℕ) where
       insert-at-same : (i : ℕ) → SameChecks (n.insertAt v false w i) (n.insertAt u false w i)
       unfolding n.insertAt
       insert-at-same i =
-          same-test _ _ _ _ _ _ (ap (λ (t : List ℕ). ltb (count t) (D p)) (unused-detail p f a b w q)) (λ e. room-same i)
-          (λ e. same-test _ _ _ _ _ _ (ap (λ (t : List ℕ). ltb (count t) (I p)) (unused-index p f a b w q)) (λ z. split-same i) (λ z. both-same i))
+          same-test _ _ _ _ _ _ (ap (λ (t : List ℕ). ltb (count (detailShape p) t) (D p)) (unused-detail p f a b w q)) (λ e. room-same i)
+          (λ e. same-test _ _ _ _ _ _ (ap (λ (t : List ℕ). ltb (count (indexShape p) t) (I p)) (unused-index p f a b w q)) (λ z. split-same i) (λ z. both-same i))
 
     insert-missing : (w : Path) → PathFits v w → FlushFits v false → (key : List ℕ)
         → SameChecks (n.insertAfter v false key (look-is.Missing w)) (n.insertAfter u false key (look-is.Missing w))
@@ -212,16 +214,16 @@ module _ (p : Description) (f a b : List ℕ) where
       new-same : SameChecks (x.newDeed v false (By w)) (x.newDeed u false (By w))
       unfolding x.newDeed x.lastOf x.newAt x.startDeed x.sectionDeed
       new-same =
-          rw (unused-detail p f a b w q) (same-test _ _ _ _ _ _ (ap (λ (z : List ℕ). ltb (count z) (FI p)) (unused-index p f a b w q))
+          rw (unused-detail p f a b w q) (same-test _ _ _ _ _ _ (ap (λ (z : List ℕ). ltb (count (indexShape p) z) (FI p)) (unused-index p f a b w q))
           (λ z. same-bind _ _ _ _ (one-same w) (λ t e. same-refl _)) (λ z. same-bind _ _ _ _ (two-same w) (λ t e. same-refl _)))
 
       extend-at-same : (key : List ℕ) → SameChecks (x.extendAt v false key (By w)) (x.extendAt u false key (By w))
       unfolding x.extendAt
       extend-at-same key =
           let t = textOf u (w .detail) in
-          let alone = eqb (count t) 1 in
-          let low = not (keyLt (keyAt (detailShape p) t (count t - 2)) key) in
-          let few = ltb (count t) (FD p) in
+          let alone = eqb (count (detailShape p) t) 1 in
+          let low = not (keyLt (keyAt (detailShape p) t (count (detailShape p) t - 2)) key) in
+          let few = ltb (count (detailShape p) t) (FD p) in
           rw (unused-detail p f a b w q) (same-test alone alone _ _ _ _ refl (λ e. alone-same key)
           (λ e. same-test low low _ _ _ _ refl (λ z. same-refl _)
           (λ z. same-test few few _ _ _ _ refl (λ y. extend-room-same 0) (λ y. new-same))))

@@ -10,7 +10,7 @@ use Rattle.numbers.specs.Checked.{Checked, passed, _>>=_, _>>_}
 use Rattle.numbers.proofs.Passed.{Passed, chain}
 use Rattle.table.specs.Tables.{count}
 use Rattle.drum.specs.declared.Description.{Description}
-use Rattle.drum.specs.Params.{D, I, masterShape, indexShape}
+use Rattle.drum.specs.Params.{D, I, masterShape, indexShape, detailShape}
 use Rattle.drum.specs.Blocks.{Texts, textOf, seen}
 use Rattle.rules.specs.declared.Which.{Which}
 use Rattle.rules.specs.declared.Entry.{Entry}
@@ -112,7 +112,7 @@ module _ (p : Description) (f a b : List ℕ) where
   next-same : (w : Path) → PathFits v w → SameChecks (nextPath v w) (nextPath u w)
   unfolding nextPath
   next-same w h =
-      same-test _ _ _ _ _ _ (ap (λ (t : List ℕ). ltb (w .entry + 1) (count t)) (unused-index w h)) (λ e. path-same _ _ []) (λ e. path-same _ _ [])
+      same-test _ _ _ _ _ _ (ap (λ (t : List ℕ). ltb (w .entry + 1) (count (indexShape p) t)) (unused-index w h)) (λ e. path-same _ _ []) (λ e. path-same _ _ [])
 
   beyond-same : (placed : Bool) (at : List ℕ) (w : Path) → PathFits v w
       → SameChecks (advBeyond v placed at w) (advBeyond u placed at w)
@@ -127,7 +127,7 @@ module _ (p : Description) (f a b : List ℕ) where
   unfolding advAt
   adv-at-same placed at w h =
       let t = textOf u (w .detail) in
-      let here = ltb (nextRow u placed at t) (count t) in
+      let here = ltb (nextRow u placed at t) (count (detailShape p) t) in
       rw (unused-detail w h) (same-test here here _ _ _ _ refl (λ e. same-refl _) (λ e. beyond-same placed at w h))
 
   first-same : (placed : Bool) (at : List ℕ)

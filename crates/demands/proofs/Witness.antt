@@ -23,7 +23,7 @@ use Rattle.demands.proofs.Blocks.{masterOf}
 use Rattle.demands.proofs.Sound.{Sound, no-true-false}
 
 abbrev pub small : Description
-small = record { wpb = 8; wpr = 3; k = 1; space = 0; control = 2; n = 4 }
+small = record { wpb = 8; wpr = 3; k = 1; space = 0; control = 2; n = 4; form = 1 }
 
 -- the state after CREATE and OPEN
 abbrev pub made : State
@@ -35,7 +35,7 @@ tree = sec 1 (record { bound = 262143 ∷ []; block = 2; records = (262143 ∷ (
 abbrev pub free : Free
 free = record { chain = []; lowest = 3; spare = 2 }
 
-once : (b : ℕ) → cellTimes b (cellsOf 8 tree ++ freeCells small free) ≡ inside 4 b
+once : (b : ℕ) → cellTimes b (cellsOf small tree ++ freeCells small free) ≡ inside 4 b
 unfolding cellTimes weigh cellsOf freeCells leafCell is inside
 once zero = refl
 once (suc zero) = refl
@@ -54,7 +54,7 @@ once (suc (suc (suc (suc (suc b))))) =
     )
 
 -- a master and blocks with these words hold the tree
-holds-by : (master : List ℕ) (text : ℕ → List ℕ) → master ≡ masterFor small tree free → Agree text (cellsOf 8 tree ++ freeCells small free)
+holds-by : (master : List ℕ) (text : ℕ → List ℕ) → master ≡ masterFor small tree free → Agree text (cellsOf small tree ++ freeCells small free)
     → HoldsCells small master text tree free
 unfolding computing val key bd
 holds-by master text m a = record {

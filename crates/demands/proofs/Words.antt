@@ -9,11 +9,13 @@ use lib.ListN.{length, take, length-map, getD}
 use lib.Seq.{getD-take}
 use borrow.Author.Tests.{le-leb}
 use Rattle.words.specs.Words.{part, zeros, allWords, topWord}
-use Rattle.words.proofs.All.{cons-allWords, append-allWords, allWords-none, allWords-replicate, allWords-getD}
+use Rattle.words.proofs.All.{cons-allWords, append-allWords, allWords-none, allWords-replicate, allWords-getD, allWords-set}
 use Rattle.table.specs.Tables.{laid}
+use Rattle.table.specs.declared.Shape.{Shape}
+use Rattle.drum.proofs.Forms.{index-tag, detail-tag, tag-most}
 use Rattle.drum.specs.declared.Description.{Description}
-use Rattle.drum.specs.Params.{masterSize, goodParams, fileSize, start}
-use Rattle.drum.specs.Blocks.{blockAt, freeText, Block}
+use Rattle.drum.specs.Params.{masterSize, goodParams, fileSize, start, indexShape, detailShape, tagOf, freeKind}
+use Rattle.drum.specs.Blocks.{blockAt, freeText, Block, linkPlace}
 use Rattle.drum.proofs.Good.{good-facts, caps}
 use Rattle.layout.specs.Tree.{Leaf, Section}
 use Rattle.demands.proofs.Lists.{All, all-append, all-left, all-right}
@@ -36,15 +38,17 @@ unfolding cat
 rows-words [] h = allWords-none
 rows-words (r ∷ rows) h = append-allWords r (cat rows) (h .0) (rows-words rows (h .1))
 
-pub table-words : (wpb : ℕ) (rows : List (List ℕ)) → length rows ≤ topWord → All (λ r. allWords r ≡ true) rows → allWords (table wpb rows) ≡ true
+pub table-words : (s : Shape) (wpb : ℕ) (rows : List (List ℕ)) → s .tag + length rows ≤ topWord → All (λ r. allWords r ≡ true) rows → allWords (table s wpb rows) ≡ true
 unfolding table laid
-table-words wpb rows l h =
-    cons-allWords (length rows) _ l
+table-words s wpb rows l h =
+    cons-allWords (s .tag + length rows) _ l
     (append-allWords (cat rows) (zeros (wpb - 1 - length (cat rows))) (rows-words rows h) (allWords-replicate (wpb - 1 - length (cat rows)) 0 (omega arith)))
 
 pub free-words : (p : Description) (b : ℕ) → b ≤ topWord → allWords (freeText p b) ≡ true
 unfolding freeText laid
-free-words p b l = cons-allWords b _ l (allWords-replicate (p .wpb - 1 - 0) 0 (omega arith))
+free-words p b l =
+    allWords-set _ (linkPlace p) b
+    (cons-allWords (tagOf p freeKind) _ (omega (arith, tag-most p freeKind)) (allWords-replicate (p .wpb - 1 - 0) 0 (omega arith))) l
 
 module _ (p : Description) (g : goodParams p ≡ true) (f : List ℕ) (size : length f ≡ fileSize p) (ss : List Section) (fr : held.Free)
     (h : held.HoldsCells p (masterOf p f) (blockAt p f) ss fr) where
@@ -57,8 +61,8 @@ module _ (p : Description) (g : goodParams p ≡ true) (f : List ℕ) (size : le
   abbrev Words : cells.Cell → Type 0
   Words c = allWords (c .1) ≡ true
 
-  numbers : All Num (cellsOf (p .wpb) ss ++ held.freeCells p fr)
-  numbers = go (cellsOf (p .wpb) ss ++ held.freeCells p fr) (λ b l. inside-low (p .n) b (omega (arith, h .once b)) .1)
+  numbers : All Num (cellsOf p ss ++ held.freeCells p fr)
+  numbers = go (cellsOf p ss ++ held.freeCells p fr) (λ b l. inside-low (p .n) b (omega (arith, h .once b)) .1)
     where
       go : (cs : List cells.Cell) → ((b : ℕ) → 1 ≤ cells.cellTimes b cs → b ≤ p .n) → All Num cs
       go [] q = tt
@@ -73,7 +77,7 @@ module _ (p : Description) (g : goodParams p ≡ true) (f : List ℕ) (size : le
   topped : p .n + 1 ≤ topWord
   topped = omega (arith, good-facts p g .n-most)
 
-  entries-words : (ls : List Leaf) → All (held.LeafFits p) ls → All Num (map (leafCell (p .wpb)) ls) → All (λ r. allWords r ≡ true) (map entry ls)
+  entries-words : (ls : List Leaf) → All (held.LeafFits p) ls → All Num (map (leafCell p) ls) → All (λ r. allWords r ≡ true) (map entry ls)
   unfolding entry leafCell
   entries-words [] ok n = tt
   entries-words (l ∷ ls) ok n = (
@@ -82,24 +86,24 @@ module _ (p : Description) (g : goodParams p ≡ true) (f : List ℕ) (size : le
         (ok .1) (n .1),
   )
 
-  details-words : (ls : List Leaf) → All (held.LeafFits p) ls → All Words (map (leafCell (p .wpb)) ls)
+  details-words : (ls : List Leaf) → All (held.LeafFits p) ls → All Words (map (leafCell p) ls)
   unfolding leafCell
   details-words [] ok = tt
   details-words (l ∷ ls) ok =
-      (table-words (p .wpb) (l .records) (omega (arith, ok .0 .room, caps p g .d-most)) (rows (l .records) (ok .0 .rows)), details-words ls (ok .1))
+      (table-words (detailShape p) (p .wpb) (l .records) (omega (arith, ok .0 .room, caps p g .d-most, detail-tag p g)) (rows (l .records) (ok .0 .rows)), details-words ls (ok .1))
     where
       rows : (rs : List (List ℕ)) → All (held.RowOk p) rs → All (λ r. allWords r ≡ true) rs
       rows [] q = tt
       rows (r ∷ rs) q = (q .0 .1, rows rs (q .1))
 
-  tree-words : (zs : List Section) → All (held.SectionOk p) zs → All Num (cellsOf (p .wpb) zs) → All Words (cellsOf (p .wpb) zs)
+  tree-words : (zs : List Section) → All (held.SectionOk p) zs → All Num (cellsOf p zs) → All Words (cellsOf p zs)
   unfolding cellsOf indexText
   tree-words [] ok n = tt
   tree-words (s ∷ zs) ok n = (
-    table-words (p .wpb) (map entry (s .leaves)) (rw (length-map (s .leaves) entry) (omega (arith, ok .0 .room, caps p g .i-most)))
-        (entries-words (s .leaves) (ok .0 .leaves) (all-left Num (map (leafCell (p .wpb)) (s .leaves)) _ (n .1))),
-    all-append Words (map (leafCell (p .wpb)) (s .leaves)) (cellsOf (p .wpb) zs) (details-words (s .leaves) (ok .0 .leaves))
-        (tree-words zs (ok .1) (all-right Num (map (leafCell (p .wpb)) (s .leaves)) _ (n .1))),
+    table-words (indexShape p) (p .wpb) (map entry (s .leaves)) (rw (length-map (s .leaves) entry) (omega (arith, ok .0 .room, caps p g .i-most, index-tag p g)))
+        (entries-words (s .leaves) (ok .0 .leaves) (all-left Num (map (leafCell p) (s .leaves)) _ (n .1))),
+    all-append Words (map (leafCell p) (s .leaves)) (cellsOf p zs) (details-words (s .leaves) (ok .0 .leaves))
+        (tree-words zs (ok .1) (all-right Num (map (leafCell p) (s .leaves)) _ (n .1))),
   )
 
   head-in : (cs : List ℕ) → All Num (held.chainCells p cs) → held.headOr cs 0 ≤ topWord
@@ -116,16 +120,16 @@ module _ (p : Description) (g : goodParams p ≡ true) (f : List ℕ) (size : le
 
   chain-numbers : All Num (held.chainCells p (fr .chain))
   unfolding held.freeCells
-  chain-numbers = all-left Num (held.chainCells p (fr .chain)) _ (all-right Num (cellsOf (p .wpb) ss) _ numbers)
+  chain-numbers = all-left Num (held.chainCells p (fr .chain)) _ (all-right Num (cellsOf p ss) _ numbers)
 
-  cell-words : All Words (cellsOf (p .wpb) ss ++ held.freeCells p fr)
+  cell-words : All Words (cellsOf p ss ++ held.freeCells p fr)
   unfolding held.freeCells
   cell-words =
-      all-append Words (cellsOf (p .wpb) ss) _ (tree-words ss (h .sized) (all-left Num (cellsOf (p .wpb) ss) _ numbers))
+      all-append Words (cellsOf p ss) _ (tree-words ss (h .sized) (all-left Num (cellsOf p ss) _ numbers))
       (all-append Words (held.chainCells p (fr .chain)) _ (chain-words (fr .chain) chain-numbers) (fresh-words (fr .lowest) (fr .spare)))
 
   block-words : (b : ℕ) → Block p b → allWords (blockAt p f b) ≡ true
-  block-words b i = pick (cellsOf (p .wpb) ss ++ held.freeCells p fr) (h .agree) cell-words (rw (h .once b) (inside-yes b i))
+  block-words b i = pick (cellsOf p ss ++ held.freeCells p fr) (h .agree) cell-words (rw (h .once b) (inside-yes b i))
     where
       inside-yes : (b : ℕ) → Block p b → 1 ≤ held.inside (p .n) b
       inside-yes b i = unfold held.inside in rw (le-leb 1 b (i .0), le-leb b (p .n) (i .1)) (omega arith)
@@ -151,15 +155,15 @@ module _ (p : Description) (g : goodParams p ≡ true) (f : List ℕ) (size : le
       ap allWords (h .master-is)
       ∙ cons-allWords (length rows) _ (rw (length-map ss (held.masterEntry p)) (omega (arith, h .sections, good-facts p g .control-most)))
       (cons-allWords (held.headOr (fr .chain) 0) _ (head-in (fr .chain) chain-numbers) (cons-allWords (fr .lowest) _ (omega (arith, h .numbers, topped))
-      (append-allWords (cat rows) _ (rows-words rows (entries ss (h .sized) (all-left Num (cellsOf (p .wpb) ss) _ numbers)))
+      (append-allWords (cat rows) _ (rows-words rows (entries ss (h .sized) (all-left Num (cellsOf p ss) _ numbers)))
       (append-allWords (zeros (masterSize p - (3 + length rows * (p .k + 1)))) []
       (allWords-replicate (masterSize p - (3 + length rows * (p .k + 1))) 0 (omega arith)) allWords-none))))
     where
-      entries : (zs : List Section) → All (held.SectionOk p) zs → All Num (cellsOf (p .wpb) zs) → All (λ r. allWords r ≡ true) (map (held.masterEntry p) zs)
+      entries : (zs : List Section) → All (held.SectionOk p) zs → All Num (cellsOf p zs) → All (λ r. allWords r ≡ true) (map (held.masterEntry p) zs)
       entries [] ok n = tt
       entries (s ∷ zs) ok n =
-          let m : (s .block ≤ p .n) × All Num (cellsOf (p .wpb) zs) = unfold cellsOf in
-          (n .0, all-right Num (map (leafCell (p .wpb)) (s .leaves)) _ (n .1)) in (
+          let m : (s .block ≤ p .n) × All Num (cellsOf p zs) = unfold cellsOf in
+          (n .0, all-right Num (map (leafCell p) (s .leaves)) _ (n .1)) in (
             unfold held.masterEntry in append-allWords (held.lastBound [] (s .leaves)) (s .block ∷ [])
                 (last-bounded p [] (s .leaves) (ok .0 .some) (ok .0 .leaves) .1) (cons-allWords (s .block) [] (omega (arith, m .0, topped)) allWords-none),
             entries zs (ok .1) (m .1),

@@ -36,7 +36,7 @@ use Rattle.demands.proofs.Opens.{file-alone}
 use Rattle.demands.proofs.Witness as witness
 
 abbrev pub small : Description
-small = record { wpb = 8; wpr = 3; k = 1; space = 0; control = 2; n = 4 }
+small = record { wpb = 8; wpr = 3; k = 1; space = 0; control = 2; n = 4; form = 1 }
 
 abbrev pub resting : Bool → Session
 resting t = record { desc = small; opened = t; current = 0; flag = false; placed = false; position = zeros 63 }

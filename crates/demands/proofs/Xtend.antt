@@ -109,11 +109,11 @@ module _ (st : State) (ss : List Section) (f : Free) (r : Ready (desc st .wpr) s
       val-inj (L .leaf .bound) (ones (p .k)) (lk .wide) (allWords-replicate (p .k) topWord (omega arith))
       (lk .bound ∙ sym (length-replicate {A = ℕ} (p .k) topWord)) (omega (arith, top-is))
 
-  pub text-is : textAt v (L .way) ≡ table (p .wpb) (L .front ++ endRecord p ∷ [])
-  text-is = L .at .text-is ∙ ap (table (p .wpb)) (L .rows-are)
+  pub text-is : textAt v (L .way) ≡ table (detailShape p) (p .wpb) (L .front ++ endRecord p ∷ [])
+  text-is = L .at .text-is ∙ ap (table (detailShape p) (p .wpb)) (L .rows-are)
 
-  pub counted : count (textAt v (L .way)) ≡ size
-  counted = ap count (L .at .text-is) ∙ count-table (p .wpb) (L .leaf .records)
+  pub counted : count (detailShape (v .desc)) (textAt v (L .way)) ≡ size
+  counted = ap (count (detailShape p)) (L .at .text-is) ∙ count-table (detailShape p) (p .wpb) (L .leaf .records)
 
   pub heads : chainHead (st .file) ≡ headOr (f .chain) 0
   heads = head-is p (st .file) ss f (held .master-is) (held .sized)
@@ -207,13 +207,13 @@ module _ (st : State) (ss : List Section) (f : Free) (r : Ready (desc st .wpr) s
     room-gives less x deed =
         let n : ℕ = storedWith p (size + 1) f in
         let here : Reached = reached v flag (L .way) in
-        let t : List ℕ = inserted (detailShape p) (count (here .buffer) - 1) (recordIn p (st .work)) (here .buffer) in
+        let t : List ℕ = inserted (detailShape p) (count (detailShape (v .desc)) (here .buffer) - 1) (recordIn p (st .work)) (here .buffer) in
         let rs : List (List ℕ) = L .front ++ st .work ∷ (endRecord p ∷ []) in
         let len : length rs ≡ suc size = length-append (L .front) (st .work ∷ (endRecord p ∷ [])) ∙ omega (arith, size-is) in
         let fits : 1 + length rs * p .wpr ≤ p .wpb = rw len (omega (arith, caps p good .records-fit, mul-le-mul-right (p .wpr) (full less))) in
-        let buf : here .buffer ≡ table (p .wpb) (L .front ++ endRecord p ∷ []) = L .at .buffer-is ∙ ap (table (p .wpb)) (L .rows-are) in
-        let i : count (here .buffer) - 1 ≡ length (L .front) = omega (arith, ap count (L .at .buffer-is) ∙ count-table (p .wpb) (L .leaf .records), size-is) in
-        let words : t ≡ table (p .wpb) rs
+        let buf : here .buffer ≡ table (detailShape p) (p .wpb) (L .front ++ endRecord p ∷ []) = L .at .buffer-is ∙ ap (table (detailShape p) (p .wpb)) (L .rows-are) in
+        let i : count (detailShape (v .desc)) (here .buffer) - 1 ≡ length (L .front) = omega (arith, ap (count (detailShape p)) (L .at .buffer-is) ∙ count-table (detailShape p) (p .wpb) (L .leaf .records), size-is) in
+        let words : t ≡ table (detailShape p) (p .wpb) rs
         = ap (λ (m : ℕ). inserted (detailShape p) m (recordIn p (st .work)) (here .buffer)) i
         ∙ ap (λ (y : List ℕ). inserted (detailShape p) (length (L .front)) y (here .buffer)) (work-is st ss f r)
         ∙ ap (inserted (detailShape p) (length (L .front)) (st .work)) buf
@@ -245,7 +245,7 @@ module _ (st : State) (ss : List Section) (f : Free) (r : Ready (desc st .wpr) s
         = L .rows-are ∙ ap (λ (u : List (List ℕ)). u ++ endRecord p ∷ []) e ∙ append-assoc fr (y ∷ []) (endRecord p ∷ []) in
         let all : All (RowOk p) (fr ++ y ∷ (endRecord p ∷ [])) = subst (All (RowOk p)) q (lk .rows) in
         let kl : (length (take (p .k) y) ≡ p .k) × (allWords (take (p .k) y) ≡ true) = key-long p kr y (all-right (RowOk p) fr _ all .0) in
-        ap₂ (λ (t : List ℕ) (m : ℕ). keyLt (keyAt (detailShape p) t m) w) (L .at .text-is ∙ ap (table (p .wpb)) q) n
+        ap₂ (λ (t : List ℕ) (m : ℕ). keyLt (keyAt (detailShape p) t m) w) (L .at .text-is ∙ ap (table (detailShape p) (p .wpb)) q) n
         ∙ ap (λ (t : List ℕ). keyLt t w) (key-here p kr fr y (endRecord p ∷ []) all)
         ∙ keyLt-val (take (p .k) y) w (kl .1) (kw .wide) (kl .0 ∙ sym (kw .long))
 
@@ -290,7 +290,7 @@ pub record End (st : State) (ss : List Section) (f : Free) (L : Last (texts st) 
   pub fo : FreeOk (texts st) f
   pub rok : All (RowOk (desc st)) (L .front ++ endRecord (desc st) ∷ [])
   pub so : SectionOk (desc st) (sec (L .index) (L .low ++ (L .leaf ∷ [])))
-  pub index-is : textOf (texts st) (L .index) ≡ indexText (desc st .wpb) (L .low ++ (L .leaf ∷ []))
+  pub index-is : textOf (texts st) (L .index) ≡ indexText (desc st) (L .low ++ (L .leaf ∷ []))
 
 pub the-end : (st : State) (ss : List Section) (f : Free) → Ready (desc st .wpr) st ss f → Key (desc st) (keyIn (desc st) (st .work))
     → (L : Last (texts st) (st .session .flag) ss f) → End st ss f L

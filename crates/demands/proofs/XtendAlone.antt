@@ -84,7 +84,7 @@ module _ (st : State) (ss : List Section) (f : Free) (r : Ready (desc st .wpr) s
             let mok : LeafFits p m = all-right (LeafFits p) ls _ all .0 in
             let d : length (L .low) - 1 ≡ length ls = omega (arith, n) in
             let kb : keyAt (indexShape p) (textOf v (L .index)) (length (L .low) - 1) ≡ m .bound
-            = ap₂ (λ (t : List ℕ) (i : ℕ). keyAt (indexShape p) t i) (index-text p a f _ _ (L .at .held) ∙ ap (indexText (p .wpb)) eo) d
+            = ap₂ (λ (t : List ℕ) (i : ℕ). keyAt (indexShape p) t i) (index-text p a f _ _ (L .at .held) ∙ ap (indexText p) eo) d
             ∙ index-key p ls m (L .leaf ∷ []) all in
             let l : lo p a ≡ suc (val (m .bound))
             = ap (reach (p .k) (reach (p .k) 0 (leavesIn (L .before)))) e ∙ reach-append (p .k) (reach (p .k) 0 (leavesIn (L .before))) ls (m ∷ [])

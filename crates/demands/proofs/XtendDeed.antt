@@ -9,7 +9,7 @@ use Rattle.numbers.specs.Numbers.{noRoom}
 use Rattle.numbers.specs.Checked.{Checked, passed, _>>=_, _>>_}
 use Rattle.words.specs.Keys.{val}
 use Rattle.table.specs.Tables.{count}
-use Rattle.drum.specs.Params.{FD, FI}
+use Rattle.drum.specs.Params.{FD, FI, detailShape, indexShape}
 use Rattle.drum.specs.Blocks.{textOf}
 use Rattle.rules.specs.declared.Path.{Path}
 use Rattle.rules.specs.declared.Extend.the-variants.{Stop, New, Both}
@@ -43,11 +43,11 @@ module _ (st : State) (ss : List Section) (f : Free) (r : Ready (desc st .wpr) s
   unfolding newDeed
   to-at =
       to-new st ss f r kw L fr y e higher full
-      ∙ ap (λ (m : Checked Path). m >>= (λ x. newAt v flag (L .way) x (count (textAt v (L .way))))) (path-of st ss f r kw L)
+      ∙ ap (λ (m : Checked Path). m >>= (λ x. newAt v flag (L .way) x (count (detailShape (v .desc)) (textAt v (L .way))))) (path-of st ss f r kw L)
       ∙ ap (newAt v flag (L .way) (pathOf end)) (counted st ss f r kw L)
 
-  cnt : count (textOf v (L .index)) ≡ length (L .low ++ (L .leaf ∷ []))
-  cnt = ap count index-is ∙ count-index p (L .low ++ (L .leaf ∷ []))
+  cnt : count (indexShape (v .desc)) (textOf v (L .index)) ≡ length (L .low ++ (L .leaf ∷ []))
+  cnt = ap (count (indexShape p)) index-is ∙ count-index p (L .low ++ (L .leaf ∷ []))
 
   module _ (room : length (L .low ++ (L .leaf ∷ [])) < FI (desc st)) where
     pub none-deed : freeCount f ≡ 0 → extendAt v flag w (L .way) ≡ passed (Stop (L .way) 0 noRoom)

@@ -95,10 +95,10 @@ module _ (st : State) (ss : List Section) (f : Free) (r : Ready (desc st .wpr) s
 
   -- ---- their words
 
-  last-at : count (textAt v (L .way)) - 1 ≡ length (L .front)
+  last-at : count (detailShape (v .desc)) (textAt v (L .way)) - 1 ≡ length (L .front)
   last-at = omega (arith, counted st ss f r kw L, size-is st ss f r kw L)
 
-  old-is : oldText v (L .way) (st .work) ≡ table (p .wpb) (L .front ++ (st .work ∷ []))
+  old-is : oldText v (L .way) (st .work) ≡ table (detailShape p) (p .wpb) (L .front ++ (st .work ∷ []))
   unfolding oldText
   old-is =
       ap (λ (m : ℕ). replaced (detailShape p) m (recordIn p (st .work)) (textAt v (L .way))) last-at
@@ -106,10 +106,10 @@ module _ (st : State) (ss : List Section) (f : Free) (r : Ready (desc st .wpr) s
       ∙ ap (replaced (detailShape p) (length (L .front)) (st .work)) (text-is st ss f r kw L)
       ∙ record-replace p (kr st ss f r kw L) (L .front) (endRecord p) [] rok (st .work) (r .work-length)
 
-  end-is : endText v (L .way) ≡ table (p .wpb) (endRecord p ∷ [])
+  end-is : endText v (L .way) ≡ table (detailShape p) (p .wpb) (endRecord p ∷ [])
   unfolding endText table cat
   end-is =
-      ap (laid (p .wpb) 1) (ap (λ (m : ℕ). row (detailShape p) (textAt v (L .way)) m) last-at ∙ ap (λ (t : List ℕ). row (detailShape p) t (length (L .front)))
+      ap (laid (p .wpb) (detailShape p .tag + 1)) (ap (λ (m : ℕ). row (detailShape p) (textAt v (L .way)) m) last-at ∙ ap (λ (t : List ℕ). row (detailShape p) t (length (L .front)))
       (text-is st ss f r kw L) ∙ row-here p (kr st ss f r kw L) (L .front) (endRecord p) [] rok ∙ sym (append-nil (endRecord p)))
 
   bound-key : l₁ .bound ≡ w
@@ -219,5 +219,5 @@ module _ (st : State) (ss : List Section) (f : Free) (r : Ready (desc st .wpr) s
       (endRecord p ∷ []) nb asc ok₁ ok₂ nib us zs joined a₁ a₂ b₁ b₂ false) n 8 (cost ms 5 refl) bothStart
       (grow-from p ss (treeOf end) _ bothStart (L .at .is) (grow-start-both p g end l₁ l₂ nib us zs joined refl refl full old-length refl most us-length refl)))
     where
-      one-entry : (b : ℕ) → laid (p .wpb) 1 (onesEntry p b) ≡ ix p (upper p (L .leaf) b (endRecord p ∷ []) ∷ [])
+      one-entry : (b : ℕ) → laid (p .wpb) (indexShape p .tag + 1) (onesEntry p b) ≡ ix p (upper p (L .leaf) b (endRecord p ∷ []) ∷ [])
       one-entry b = unfold indexText table onesEntry entry cat in rw (bound-ones st ss f r kw L, append-nil (ones (p .k) ++ (b ∷ [])))

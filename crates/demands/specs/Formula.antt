@@ -8,7 +8,7 @@ use lib.ListN.{length}
 use Rattle.numbers.specs.Numbers.{done, accepted}
 use Rattle.table.specs.Tables.{count, blockIn}
 use Rattle.drum.specs.declared.Description.{Description}
-use Rattle.drum.specs.Params.{D, I, FD, FI, masterShape}
+use Rattle.drum.specs.Params.{D, I, FD, FI, masterShape, indexShape}
 use Rattle.drum.specs.Blocks.{blockAt, sections}
 use Rattle.rules.specs.State.{Session, State, Outcome, desc, lent}
 use Rattle.rules.specs.Open.{create, openFile}
@@ -25,7 +25,7 @@ hI p = (I p + 1) / 2
 -- the detail blocks that the first n sections of the file f name: "Index block: word 0 count, then entries: key and detail block"
 unfoldable pub detailsUnder : Description → List ℕ → ℕ → ℕ
 detailsUnder p f zero = 0
-detailsUnder p f (suc n) = detailsUnder p f n + count (blockAt p f (blockIn (masterShape p) f n))
+detailsUnder p f (suc n) = detailsUnder p f n + count (indexShape p) (blockAt p f (blockIn (masterShape p) f n))
 
 -- the detail blocks and the index blocks in use. An index block is never the buffered one, so that its words are the file's [F2]
 unfoldable pub detailBlocks : State → ℕ

@@ -8,6 +8,7 @@ use Rattle.numbers.specs.Numbers.{wrongSize, alreadyOpen, isClosed, wrongKey, b
 use Rattle.numbers.specs.Checked.{Checked, passed, _>>=_}
 use Rattle.words.specs.Words.{zeros}
 use Rattle.table.specs.Tables.{count}
+use Rattle.drum.specs.Params.{detailShape}
 use Rattle.drum.specs.Blocks.{Texts}
 use Rattle.rules.specs.declared.Way.{Way}
 use Rattle.rules.specs.declared.Way.the-variants.{Here, By}
@@ -60,7 +61,7 @@ pub record LookupDone (st : State) (o : Outcome) : Type 0 where
 
 -- "If it holds only the end record, read the index (1)": the index block that XTEND reads besides the way, or 0 [C24]
 unfoldable pub besides : Texts → Way → Checked ℕ
-besides v way = cond (eqb (count (textAt v way)) 1) (do
+besides v way = cond (eqb (count (detailShape (v .desc)) (textAt v way)) 1) (do
   w ← lastOf v way
   passed (w .index)) (passed 0)
 

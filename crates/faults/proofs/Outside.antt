@@ -44,11 +44,11 @@ space-facts p h = go (leb (D p) (I p)) refl h
     go true e k = let q = leb-true (D p) (I p) e in (omega arith, omega arith)
     go false e k = let q = leb-false (D p) (I p) e in (omega arith, omega arith)
 
--- all six within their ranges make good parameters
-all-within : (p : Description) → wpbGood (p .wpb) ≡ true → within 1 (p .k) (mostKey p) ≡ true → within (p .k) (p .wpr) (half p) ≡ true
+-- all six within their ranges make good parameters, with the first block form
+all-within : (p : Description) → p .form ≡ 1 → wpbGood (p .wpb) ≡ true → within 1 (p .k) (mostKey p) ≡ true → within (p .k) (p .wpr) (half p) ≡ true
     → within 0 (p .space) (mostSpace p) ≡ true → within 1 (p .control) 16383 ≡ true → within 2 (p .n) 262142 ≡ true → goodParams p ≡ true
 unfolding D I
-all-within p w k r s c n =
+all-within p first w k r s c n =
     let (even, w₁, w₂) = wpb-facts (p .wpb) w in
     let (k₁, k₂) = within-both 1 (p .k) (mostKey p) k in
     let (k₃, k₄) = key-facts p k₂ k₁ in
@@ -73,6 +73,8 @@ all-within p w k r s c n =
       control-most = c₂;
       n-least = n₁;
       n-most = n₂;
+      form-least = omega arith;
+      form-most = omega arith;
     })
 
 -- a parameter is told where it is out of its range, or the next are looked at
@@ -84,9 +86,9 @@ told what v a b more f g = go (within a v b) refl
     go true e = g e
     go false e = f e
 
-pub range-outside : (p : Description) → goodParams p ≡ false → Outside (rangeFault p)
+pub range-outside : (p : Description) → p .form ≡ 1 → goodParams p ≡ false → Outside (rangeFault p)
 unfolding rangeFault outFault
-range-outside p bad = go (wpbGood (p .wpb)) refl
+range-outside p first bad = go (wpbGood (p .wpb)) refl
   where
     last : (t : Bool) → within 2 (p .n) 262142 ≡ t → (within 2 (p .n) 262142 ≡ true → goodParams p ≡ true) → within 2 (p .n) 262142 ≡ false
     last false e f = e
@@ -99,4 +101,4 @@ range-outside p bad = go (wpbGood (p .wpb)) refl
         told K (p .k) 1 (mostKey p) _ (λ e. e) λ k.
         told Wpr (p .wpr) (p .k) (half p) _ (λ e. e) λ r.
         told Space (p .space) 0 (mostSpace p) _ (λ e. e) λ s.
-        told Control (p .control) 1 16383 _ (λ e. e) λ c. last (within 2 (p .n) 262142) refl (all-within p w k r s c)
+        told Control (p .control) 1 16383 _ (λ e. e) λ c. last (within 2 (p .n) 262142) refl (all-within p first w k r s c)

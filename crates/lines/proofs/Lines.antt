@@ -162,6 +162,7 @@ described-put l v e h =
       space = getD-put-in l 0 v 3 (omega arith) (omega arith) g j;
       control = getD-put-in l 0 v 4 (omega arith) (omega arith) g j;
       n = getD-put-in l 0 v 5 (omega arith) (omega arith) g j;
+      form = 1;
     }
 
 agree-described : (x y : Bool) (v l : List ℕ) → x ≡ y → (x ≡ true → described v ≡ described l)

@@ -130,10 +130,12 @@ module _ (p : Description) (r : Reading) (name : List ℕ) (k : code.Named) (e :
       call-whole h q = (rw (eq-eqb _ _ h, eq-eqb _ _ (q ∙ en))) ∙ call-as
 
 -- six numbers read one by one, each step handing the description on
-pub described-by : (v : List ℕ) (p : Description) (a b c d e f : ℕ) → p ≡ record { wpb = a; wpr = b; k = c; space = d; control = e; n = f }
+pub described-by : (v : List ℕ) (p : Description) (a b c d e f g : ℕ)
+    → p ≡ record { wpb = a; wpr = b; k = c; space = d; control = e; n = f; form = g } → g ≡ 1
     → a ≡ getD v 0 0 → b ≡ getD v 1 0 → c ≡ getD v 2 0 → d ≡ getD v 3 0 → e ≡ getD v 4 0 → f ≡ getD v 5 0 → p ≡ described v
 unfolding described
-described-by v p a b c d e f h g₀ g₁ g₂ g₃ g₄ g₅ = h ∙ (λ j. record { wpb = g₀ j; wpr = g₁ j; k = g₂ j; space = g₃ j; control = g₄ j; n = g₅ j })
+described-by v p a b c d e f g h h₁ g₀ g₁ g₂ g₃ g₄ g₅ =
+    h ∙ (λ j. record { wpb = g₀ j; wpr = g₁ j; k = g₂ j; space = g₃ j; control = g₄ j; n = g₅ j; form = h₁ j })
 
 -- the parameters that a line gives
 module _ (r : Reading) (numbers : List ℕ) where

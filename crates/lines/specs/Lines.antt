@@ -135,7 +135,7 @@ unfoldable pub firstNamed : List (List ℕ) → Option Call
 firstNamed [] = none
 firstNamed (w ∷ ws) = named w
 
--- "WPB WPR K SPACE CONTROL N" [O1]
+-- "WPB WPR K SPACE CONTROL N": six numbers, which mean the first block form [O1, K1]
 unfoldable pub described : List ℕ → Description
 described v = record {
   wpb = getD v 0 0;
@@ -144,6 +144,7 @@ described v = record {
   space = getD v 3 0;
   control = getD v 4 0;
   n = getD v 5 0;
+  form = 1;
 }
 
 -- "a first line not of six numbers, prints `BAD LINE`" [O6]

@@ -1,5 +1,6 @@
 // What a line of a list does.
 use super::shown::print_line;
+use super::shown::print_turned;
 use super::shown::print_words;
 use super::shown::told;
 use super::shown::words_of;
@@ -18,7 +19,9 @@ pub enum Deed {
     Updat,
     Xtend,
     View,
+    Turn,
     Short,
+    Form,
     FileWord,
     BufferWord,
     Current,
@@ -69,6 +72,10 @@ fn made_up(line: Line, s: Session, file: &mut [u32], buffer: &mut [u32]) -> Sess
             next.current = wide(a);
             next.flag = b == 1;
         }
+        Deed::Form => {
+            let p = s.desc;
+            next.desc = p.with_form(wide(a));
+        }
         Deed::Position => {
             let mut position = s.position;
             position[0] = b;
@@ -108,6 +115,11 @@ fn play_plain(
         Deed::View => {
             print_words(b"  lent", s.view(file, buffer, wide(numbers[0])));
             answered(s)
+        }
+        Deed::Turn => {
+            let answer = s.turn(file, marks);
+            print_turned(answer.session, marks);
+            answer
         }
         _ => answered(made_up(line, s, file, buffer)),
     }

@@ -43,16 +43,10 @@ fn called(call: Call) -> Deed {
     }
 }
 
-// What a word means that names no call of the printed session.
-fn other_deed(name: &[u8; 8], n: usize) -> Deed
+// What a word means that names no call: a remark, and what makes up words and sessions.
+fn made_deed(name: &[u8; 8], n: usize) -> Deed
     requires { ⌜ n ≤ 8 ⌝ }
 {
-    if lines::is_name(name, n, b"VIEW") {
-        return Deed::View;
-    }
-    if lines::is_name(name, n, b"SHORT") {
-        return Deed::Short;
-    }
     if lines::is_name(name, n, b"FILE") {
         return Deed::FileWord;
     }
@@ -65,10 +59,29 @@ fn other_deed(name: &[u8; 8], n: usize) -> Deed
     if lines::is_name(name, n, b"POSITION") {
         return Deed::Position;
     }
+    if lines::is_name(name, n, b"FORM") {
+        return Deed::Form;
+    }
     if lines::is_name(name, n, b"#") {
         return Deed::Remark;
     }
     Deed::Unknown
+}
+
+// What a word means that names no call of the printed session.
+fn other_deed(name: &[u8; 8], n: usize) -> Deed
+    requires { ⌜ n ≤ 8 ⌝ }
+{
+    if lines::is_name(name, n, b"VIEW") {
+        return Deed::View;
+    }
+    if lines::is_name(name, n, b"TURN") {
+        return Deed::Turn;
+    }
+    if lines::is_name(name, n, b"SHORT") {
+        return Deed::Short;
+    }
+    made_deed(name, n)
 }
 
 // What the first word of a line means.

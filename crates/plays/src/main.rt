@@ -1,6 +1,7 @@
 // Lists of calls of the library: plays each file of data/ that an argument names, its name before what it prints.
 // A list begins with a line of the six parameters; then a line says what to do and gives the words for it, those that are not given being 0:
 //   CREATE OPEN CLOSE ADV            SEEK DLETE NSERT UPDAT XTEND, the words put into the workspace first            VIEW block
+//   TURN, with the form and the marks that it leaves                 FORM form, the session's block form, 1 where no line says it
 //   SHORT, a SEEK with a workspace that is too short; and what no call does, to make up words and sessions that no call would leave:
 //   FILE place word                  BUFFER place word                  CURRENT block flag            POSITION given word
 // A line that begins with # says something to its reader.

@@ -9,6 +9,10 @@ fn long(x: u32) -> u64 {
     x as u64
 }
 
+fn byte(x: u8) -> u64 {
+    x as u64
+}
+
 fn count(x: usize) -> u64 {
     x as u64
 }
@@ -44,6 +48,24 @@ pub fn print_words(label: &[u8], words: &[u32]) {
         i += 1;
     }
     print_bytes(b"\n");
+}
+
+fn print_marks(marks: &[u8]) {
+    print_bytes(b" marks");
+    let mut i = 0;
+    while i < marks.len() {
+        print_number(byte(marks[i]));
+        i += 1;
+    }
+    print_bytes(b"\n");
+}
+
+// What a turn leaves beside the file: the session's block form, and the marks.
+pub fn print_turned(s: Session, marks: &[u8]) {
+    let p = s.desc;
+    print_bytes(b"  form");
+    print_number(count(p.form));
+    print_marks(marks);
 }
 
 fn first_bytes(name: &[u8], n: usize) {

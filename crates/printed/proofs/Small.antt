@@ -11,7 +11,7 @@ use borrow.Author.Tests.{eqb-true}
 use Rattle.numbers.specs.Numbers.{wrongSize, alreadyOpen, isClosed, wrongKey, badFile, notFound, outOfSequence, noRoom, noneFree, atEnd, done, accepted}
 use Rattle.words.specs.Words.{topWord, allWords}
 use Rattle.words.proofs.All.{allWords-part, allWords-getD}
-use Rattle.table.specs.Tables.{blockIn}
+use Rattle.table.specs.Tables.{count, blockIn}
 use Rattle.drum.specs.declared.Description.{Description}
 use Rattle.drum.specs.Params.{masterShape}
 use Rattle.drum.specs.Blocks.{blockAt, sections}
@@ -84,7 +84,7 @@ module _ (n : ℕ) where
 
 module _ (p : Description) (f : List ℕ) (h : allWords f ≡ true) where
   details-few : (n : ℕ) → detailsUnder p f n ≤ n * topWord
-  unfolding detailsUnder blockAt
+  unfolding detailsUnder blockAt count
   details-few zero = omega arith
   details-few (suc n) = omega (arith, details-few n, allWords-getD (blockAt p f (blockIn (masterShape p) f n)) 0 (allWords-part _ _ f h))
 

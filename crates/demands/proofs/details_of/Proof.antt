@@ -1,5 +1,6 @@
 -- The most detail blocks put in use.
 use native.Mathlib.Omega.{arith}
+use Rattle.drum.specs.declared.Description.{Description}
 use Rattle.demands.proofs.Planning.{details-by}
 use borrow.Author.Needs.{needs}
 use Rattle.demands.proofs.details_of.Statement.{statement}

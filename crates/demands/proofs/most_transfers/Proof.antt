@@ -1,4 +1,5 @@
 -- The formula's bound of a planned session.
+use Rattle.drum.specs.declared.Description.{Description}
 use Rattle.demands.proofs.Planning.{transfers-by}
 use borrow.Author.Needs.{needs}
 use Rattle.demands.proofs.most_transfers.Statement.{statement}

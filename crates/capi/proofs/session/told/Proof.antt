@@ -7,7 +7,7 @@ pub told-spec : {M : Type 1} → statement M
 told-spec =
     tie.close
     (tie.spec
-    (λ c κs. (search, search, search))
+    (λ c κs. search)
     (λ c κs. search needs)
     (λ c. search needs)
     (λ c. (search, search)))

@@ -4,7 +4,7 @@ use native.Mathlib.Omega.{arith}
 use lib.ListN.{length-set}
 use borrow.Author.Needs.{needs}
 use Rattle.capi.proofs.Told.{asked-whole}
-use Rattle.capi.proofs.TrayTold.{tray-parameters, tray-current, tray-none, tray-untold, tray-called}
+use Rattle.capi.proofs.TrayTold.{tray-writable, tray-none, tray-untold, tray-called}
 use Rattle.capi.proofs.trays.nasturakh_nsert_tray.Statement.{statement}
 use Rattle.capi.proofs.trays.nasturakh_nsert_tray.Tie as tie
 
@@ -21,7 +21,7 @@ nasturakh-nsert-tray-spec =
     (λ c. search tray-untold)
     (λ c κs. search asked-whole)
     (λ c κs. search needs)
-    (λ c κs. (search asked-whole, search tray-parameters, search tray-current))
+    (λ c κs. search tray-writable)
     (λ c. search needs)
     (λ c. simp length-set (omega arith))
     (λ c κs. search needs)

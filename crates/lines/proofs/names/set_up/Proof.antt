@@ -1,4 +1,6 @@
 -- `names::set_up` meets its contract: six numbers read, each step handing the description on.
+use mathlib.Core.Path.{ap}
+use Rattle.drum.specs.declared.Description.{Description}
 use Rattle.drum.proofs.Setup.{set-up}
 use Rattle.lines.proofs.Turns.{described-by}
 use borrow.Author.Needs.{needs}
@@ -23,7 +25,7 @@ returns c =
     let steps =
     set-up (c6 .new .result) _ _ _ _ _ _ _ _ _ _ _ _ (c .with-n .ensures) (c1 .with-control .ensures) (c2 .with-space .ensures)
     (c3 .with-k .ensures) (c4 .with-wpr .ensures) (c5 .with-wpb .ensures) in
-    described-by _ _ _ _ _ _ _ _ steps (c12 .word-at .ensures) (c11 .word-at2 .ensures) (c10 .word-at3 .ensures) (c9 .word-at4 .ensures)
+    described-by _ _ _ _ _ _ _ _ _ steps (ap (λ (d : Description). d .form) (c6 .new .ensures)) (c12 .word-at .ensures) (c11 .word-at2 .ensures) (c10 .word-at3 .ensures) (c9 .word-at4 .ensures)
     (c8 .word-at5 .ensures) (c7 .word-at6 .ensures)
 
 pub set-up-spec : {M : Type 1} → statement M
