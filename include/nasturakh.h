@@ -6,7 +6,7 @@
  *
  * SLICES. Each slice travels as a pointer and a length, in words (marks: in bytes). The caller owns all of them; the library keeps no
  * pointer, allocates nothing and has no state. No two slices of one call may overlap. No pointer may be null, also where a length is 0.
- *   session    73 words, see below
+ *   session    73 words or 74, see below
  *   file       exactly nasturakh_file_words(..) words
  *   buffer     exactly WPB words; belongs to the session: hand in what the last call left
  *   workspace  exactly WPR words: the record, or for SEEK and DLETE the key in its first K words (the others are not read)
@@ -16,7 +16,12 @@
  *   row        exactly 7 words, see nasturakh_put; file and workspace there have lengths of their own
  * A slice whose length is wrong is refused by 020007; so no length reads or writes outside what it says.
  *
- * SESSION. 73 words of the caller: set 0..5 to the parameters and 6..72 to 0, then hand in to each call what the last one left.
+ * SESSION. 73 words of the caller: set 0..5 to the parameters and 6..72 to 0, then hand in to each call what the last one left. A session
+ * of 74 words has one parameter more, word 73, the block form; 73 words mean the first form. A session slice of any other length is refused.
+ *
+ * BLOCK FORMS. In the first form, 1, word 0 of a block is its count, and nothing in a block says what it is. In the second, 2, word 0 is 4096
+ * plus the count of an index block, 8192 plus the count of a detail block, and 12288 in a free block, whose link then is its word 1. A block
+ * never used is 0 in both. All calls answer the same in both forms; no file is good in both, and nasturakh_turn makes one of the other.
  *
  * THREADS. Any thread may call, and any number at once, as long as no two calls share a slice: one call at a time on one session.
  *
@@ -46,7 +51,9 @@ enum {
   NASTURAKH_FLAG = 8,     /* 1: the buffer is to be written before another block is read */
   NASTURAKH_PLACED = 9,   /* 1: there is a position */
   NASTURAKH_POSITION = 10, /* the position, a key in the first K of 63 words */
-  NASTURAKH_SESSION = 73  /* words in all */
+  NASTURAKH_SESSION = 73, /* words in all, in the first block form */
+  NASTURAKH_FORM = 73,    /* the block form, one more parameter: 1 or 2 */
+  NASTURAKH_SESSION_FORM = 74 /* words in all, with it */
 };
 
 /* The numbers returned, by the names that docs/NUMBERS.md gives them. */
@@ -56,7 +63,7 @@ enum {
                                            * there, not above the bound before that block, which can be a key since taken out */
 #define NASTURAKH_WRONG_SIZE 020007u      /* a parameter or a slice's length is wrong, or session word 6, 8 or 9 is above 1; all unchanged */
 #define NASTURAKH_WRONG_LENGTH 020012u    /* PUT, GET: the record is of length 0, or larger than the data area; all unchanged */
-#define NASTURAKH_ALREADY_OPEN 020006u    /* OPEN or COPY of an open session; all unchanged */
+#define NASTURAKH_ALREADY_OPEN 020006u    /* OPEN, COPY or TURN of an open session; all unchanged */
 #define NASTURAKH_IS_CLOSED 020005u       /* another call on a closed session; all unchanged */
 #define NASTURAKH_WRONG_KEY 030001u       /* a workspace word above 262143, or the reserved key; all unchanged */
 #define NASTURAKH_AT_END 030002u          /* ADV: no record is left; the end record is in the workspace, the position stays. GET: none is
@@ -64,7 +71,8 @@ enum {
 #define NASTURAKH_NOT_ALLOWED 030007u     /* ROMANISE, HOLD, FREE: the name is in another state; its record is in the workspace */
 #define NASTURAKH_NONE_FREE 070001u       /* stored; but the record's block is now full and no block is free */
 #define NASTURAKH_NO_ROOM 070002u         /* NSERT, XTEND: not stored, too few blocks or sections are free. PUT: no block is left */
-#define NASTURAKH_BAD_FILE 070003u        /* OPEN, COPY: not a good file; else a bad number in file or buffer; all unchanged but the marks */
+#define NASTURAKH_BAD_FILE 070003u        /* OPEN, COPY, TURN: not a good file in the session's block form; else a bad number in file or buffer, in
+                                           * the second form a wrong kind too; all unchanged but the marks */
 
 /* The two parts of an answer. */
 static inline uint32_t nasturakh_number(uint64_t answer) { return (uint32_t)answer; }
@@ -190,6 +198,12 @@ uint64_t nasturakh_view(const uint32_t *session, size_t session_words, const uin
  * word 0 of the file, its sections in use; 020006; or 070003 with all marks 0. Each refusal leaves the second file. No transfers. */
 uint64_t nasturakh_copy(const uint32_t *session, size_t session_words, const uint32_t *file, size_t file_words, uint32_t *second,
                         size_t second_words, size_t control, uint8_t *marks, size_t marks_bytes);
+
+/* TURN: makes of the session's file, which must be closed and good, the same file in the other block form, in its place, and writes that
+ * form to word 73 of the session, which must have 74 words; no other word of the session changes. The same records in the same blocks, the
+ * same free chain; turned again it is the file that it was, word for word. 0, with OPEN's marks; 020007, also for a session of 73 words;
+ * 020006; or 070003 with all marks 0. Each refusal leaves session and file. No transfers. */
+uint64_t nasturakh_turn(uint32_t *session, size_t session_words, uint32_t *file, size_t file_words, uint8_t *marks, size_t marks_bytes);
 
 /* The words of a plan: the most calls of each kind, refused ones counted, and the most records that NSERT and XTEND are to put in
  * (answers 0 and 070001). OPEN and VIEW cost no transfer. */

@@ -1,4 +1,4 @@
-/* Makes a file of names, finds one, and walks the file in order. */
+/* Makes a file of names, finds one, walks the file in order, and turns it to the second block form. */
 #include "letters.h"
 #include "nasturakh.h"
 
@@ -81,6 +81,15 @@ static void walk(void) {
     print_record();
 }
 
+/* For a desk whose blocks say what they are: the closed file in the second form. Its session has a word more, the form. */
+static void turn_file(void) {
+  uint32_t formed[NASTURAKH_SESSION_FORM];
+  memcpy(formed, session, sizeof session);
+  formed[NASTURAKH_FORM] = 1;
+  if (said("TURN ", nasturakh_turn(formed, NASTURAKH_SESSION_FORM, file, file_words, marks, N)) == NASTURAKH_DONE)
+    printf("form %u, block 1 begins with %u\n", (unsigned)formed[NASTURAKH_FORM], (unsigned)file[file_words - (size_t)N * WPB]);
+}
+
 int main(void) {
   file_words = nasturakh_file_words(session);
   file = (uint32_t *)malloc(file_words * sizeof *file);
@@ -97,6 +106,7 @@ int main(void) {
     return 1;
   walk();
   close_file();
+  turn_file();
   free(file);
   return 0;
 }

@@ -79,13 +79,7 @@ fn heading(name: &str) -> &str {
 fn left(answer: &Answer, s: &Session, lent: &Lent) -> Vec<String> {
     let (open, flag, given) = (s.open as u32, s.flag as u32, s.given as u32);
     vec![
-        format!(
-            " {:06o} {}  open {open} current {} flag {flag} position {given} {}",
-            answer.number,
-            answer.moves.len(),
-            s.current,
-            s.position[0]
-        ),
+        format!(" {:06o} {}  open {open} current {} flag {flag} position {given} {}", answer.number, answer.moves.len(), s.current, s.position[0]),
         shown("  workspace", &lent.workspace),
         shown("  buffer", &lent.buffer),
         shown("  file", &lent.file),
@@ -106,6 +100,16 @@ fn line(session: &mut Session, lent: &mut Lent, name: &str, given: &[u32]) -> Ve
         "UPDAT" => keyed(session, lent, Kind::Updat, given),
         "XTEND" => keyed(session, lent, Kind::Xtend, given),
         "SHORT" => short(session, lent, given),
+        "TURN" => {
+            let answer = session.turn(&mut lent.file, &mut lent.marks);
+            let marks: Vec<u32> = lent.marks.iter().map(|&mark| mark.into()).collect();
+            out.push(shown(&format!("  form {} marks", session.p.form), &marks));
+            answer
+        }
+        "FORM" => {
+            session.p.form = given[0];
+            Answer::refused(0)
+        }
         "VIEW" => {
             let part = session.view(lent, given[0] as usize);
             out.push(shown("  lent", viewed(part, lent, session.p.wpb())));

@@ -7,7 +7,7 @@
 
 enum {
   CREATE, OPEN, CLOSE, SEEK, ADV, NSERT, DLETE, UPDAT, XTEND, VIEW, MOST, COPY, PUT, GET, BLOCKS, SECTIONS, TRAY,
-  ENTER, ASK, HOLD, FREE, ROMANISE
+  ENTER, ASK, HOLD, FREE, ROMANISE, TURN
 };
 enum { OF_SESSION, OF_FILE, OF_BUFFER, OF_WORKSPACE, OF_MARKS, SLICES };
 
@@ -75,6 +75,8 @@ static uint64_t perform(const struct call *c, void **slices) {
   case ROMANISE: /* the spelling comes as the marks, four bytes a word */
     return nasturakh_romanise(s, n[OF_SESSION], f, n[OF_FILE], b, n[OF_BUFFER], slices[OF_WORKSPACE], n[OF_WORKSPACE], slices[OF_MARKS],
                               n[OF_MARKS] / sizeof(uint32_t));
+  case TURN:
+    return nasturakh_turn(s, n[OF_SESSION], f, n[OF_FILE], slices[OF_MARKS], n[OF_MARKS]);
   default:
     return on_record(c, s, f, b, slices[OF_WORKSPACE]);
   }

@@ -1,4 +1,4 @@
-//! Makes a file of names, finds one, and walks the file in order.
+//! Makes a file of names, finds one, walks the file in order, and turns it to the second block form.
 #[allow(dead_code)]
 mod nasturakh;
 
@@ -137,6 +137,14 @@ impl Directory {
         }
     }
 
+    /// For a desk whose blocks say what they are: the closed file in the second form.
+    fn turn(&mut self) {
+        if say("TURN ", self.session.turn(&mut self.file, &mut self.marks)) {
+            let word = self.file[P.file_words() - (P.n * P.wpb) as usize];
+            println!("form {}, block 1 begins with {word}", self.session.form());
+        }
+    }
+
     /// From the start of the file: OPEN has left the session without a position.
     fn walk(&mut self) {
         while self
@@ -163,4 +171,5 @@ fn main() {
     assert!(d.open());
     d.walk();
     d.close();
+    d.turn();
 }

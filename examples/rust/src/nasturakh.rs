@@ -1,7 +1,7 @@
 //! A safe wrapper of the archive's functions. Copy this file, and link libcapi.a.
 //!
-//! A `Session` is the 73 words that travel with every call. File, buffer, workspace and marks are lent by the caller; Rust's borrows keep
-//! them apart, which is all that the functions ask of a caller. A wrong length is refused by its number.
+//! A `Session` is the 73 words that travel with every call, 74 in the second block form. File, buffer, workspace and marks are lent by the
+//! caller; Rust's borrows keep them apart, which is all that the functions ask of a caller. A wrong length is refused by its number.
 
 /// Done.
 pub const DONE: u32 = 0;
@@ -14,7 +14,7 @@ pub const OUT_OF_SEQUENCE: u32 = 5;
 pub const WRONG_SIZE: u32 = 0o020007;
 /// PUT, GET: the record is of length 0, or larger than the data area.
 pub const WRONG_LENGTH: u32 = 0o020012;
-/// OPEN or COPY of an open session.
+/// OPEN, COPY or TURN of an open session.
 pub const ALREADY_OPEN: u32 = 0o020006;
 /// Another call on a closed session.
 pub const IS_CLOSED: u32 = 0o020005;
@@ -28,7 +28,7 @@ pub const NOT_ALLOWED: u32 = 0o030007;
 pub const NONE_FREE: u32 = 0o070001;
 /// Not stored: too few blocks or sections are free; PUT: no block is left.
 pub const NO_ROOM: u32 = 0o070002;
-/// OPEN, COPY: not a good file; else a bad number in file or buffer.
+/// OPEN, COPY, TURN: not a good file in the session's block form; else a bad number in file or buffer, a wrong kind of block too.
 pub const BAD_FILE: u32 = 0o070003;
 
 /// The states of a name in the register: the first data word of its record.
@@ -36,7 +36,8 @@ pub const RAW: u32 = 0;
 pub const ROMANISED: u32 = 1;
 pub const HELD: u32 = 2;
 
-const WORDS: usize = 73;
+const WORDS: usize = 74;
+const FORM: usize = 73;
 const ROW: usize = 7;
 const IN_FILE: u64 = 1 << 32;
 const IN_BUFFER: u64 = 1 << 33;
@@ -98,6 +99,14 @@ mod raw {
             tray_words: usize,
             told: *mut u64,
             told_words: usize,
+        ) -> u64;
+        pub fn nasturakh_turn(
+            session: *mut u32,
+            session_words: usize,
+            file: *mut u32,
+            file_words: usize,
+            marks: *mut u8,
+            marks_bytes: usize,
         ) -> u64;
         pub fn nasturakh_most_transfers(
             session: *const u32,
@@ -260,11 +269,12 @@ macro_rules! calls {
     ($($(#[$doc:meta])* $name:ident, $raw:ident, $work:ty, $pointer:ident;)*) => {
         $($(#[$doc])*
         pub fn $name(&mut self, file: &mut [u32], buffer: &mut [u32], work: $work) -> Answer {
+            let words = self.len();
             // SAFETY: each pointer is that of a live slice with its length, and the borrows keep what is written apart from the rest.
             Answer::of(unsafe {
                 raw::$raw(
                     self.words.as_mut_ptr(),
-                    WORDS,
+                    words,
                     file.as_mut_ptr(),
                     file.len(),
                     buffer.as_mut_ptr(),
@@ -278,28 +288,54 @@ macro_rules! calls {
 }
 
 impl Session {
-    /// A closed session.
+    /// A closed session, in the first block form.
     pub fn new(p: Parameters) -> Self {
+        Self::with_form(p, 1)
+    }
+
+    /// A closed session in this block form: 1, or 2, in which blocks say what they are.
+    pub fn with_form(p: Parameters, form: u32) -> Self {
         let mut words = [0; WORDS];
         words[..6].copy_from_slice(&[p.wpb, p.wpr, p.k, p.space, p.control, p.n]);
+        words[FORM] = form;
         Self { words }
+    }
+
+    /// The block form.
+    pub fn form(&self) -> u32 {
+        self.words[FORM]
+    }
+
+    /// The words that are lent: the first form needs none to say it.
+    fn len(&self) -> usize {
+        if self.form() == 1 {
+            FORM
+        } else {
+            WORDS
+        }
     }
 
     /// CREATE: writes a new file with no records.
     pub fn create(&self, file: &mut [u32]) -> Answer {
         // SAFETY: as for the other calls.
         Answer::of(unsafe {
-            raw::nasturakh_create(self.words.as_ptr(), WORDS, file.as_mut_ptr(), file.len())
+            raw::nasturakh_create(
+                self.words.as_ptr(),
+                self.len(),
+                file.as_mut_ptr(),
+                file.len(),
+            )
         })
     }
 
     /// OPEN: inspects the file; marks each block 1 in use, 2 on the free chain, 0 never used.
     pub fn open(&mut self, file: &[u32], buffer: &[u32], marks: &mut [u8]) -> Answer {
+        let words = self.len();
         // SAFETY: as for the other calls; file and buffer are only read.
         Answer::of(unsafe {
             raw::nasturakh_open(
                 self.words.as_mut_ptr(),
-                WORDS,
+                words,
                 file.as_ptr(),
                 file.len(),
                 buffer.as_ptr(),
@@ -312,11 +348,12 @@ impl Session {
 
     /// CLOSE: writes the buffer to its block if need be, and closes.
     pub fn close(&mut self, file: &mut [u32], buffer: &[u32]) -> Answer {
+        let words = self.len();
         // SAFETY: as for the other calls; the buffer is only read.
         Answer::of(unsafe {
             raw::nasturakh_close(
                 self.words.as_mut_ptr(),
-                WORDS,
+                words,
                 file.as_mut_ptr(),
                 file.len(),
                 buffer.as_ptr(),
@@ -331,7 +368,7 @@ impl Session {
         let found = unsafe {
             raw::nasturakh_view(
                 self.words.as_ptr(),
-                WORDS,
+                self.len(),
                 file.as_ptr(),
                 file.len(),
                 buffer.as_ptr(),
@@ -359,7 +396,7 @@ impl Session {
         Answer::of(unsafe {
             raw::nasturakh_copy(
                 self.words.as_ptr(),
-                WORDS,
+                self.len(),
                 file.as_ptr(),
                 file.len(),
                 second.as_mut_ptr(),
@@ -396,6 +433,21 @@ impl Session {
         }
     }
 
+    /// TURN: makes of the file, which must be closed and good, the same file in the other block form; the session is then of that form.
+    pub fn turn(&mut self, file: &mut [u32], marks: &mut [u8]) -> Answer {
+        // SAFETY: as for the other calls.
+        Answer::of(unsafe {
+            raw::nasturakh_turn(
+                self.words.as_mut_ptr(),
+                WORDS,
+                file.as_mut_ptr(),
+                file.len(),
+                marks.as_mut_ptr(),
+                marks.len(),
+            )
+        })
+    }
+
     /// The most transfers that a session with these parameters can make which keeps to the plan, from CREATE and OPEN on; none where a
     /// parameter is out of range.
     pub fn most_transfers(&self, plan: &Plan) -> Option<u64> {
@@ -411,7 +463,12 @@ impl Session {
         ];
         // SAFETY: as for the other calls; both are only read.
         let most = unsafe {
-            raw::nasturakh_most_transfers(self.words.as_ptr(), WORDS, words.as_ptr(), words.len())
+            raw::nasturakh_most_transfers(
+                self.words.as_ptr(),
+                self.len(),
+                words.as_ptr(),
+                words.len(),
+            )
         };
         (most != u64::MAX).then_some(most)
     }

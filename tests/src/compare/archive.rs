@@ -24,6 +24,7 @@ extern "C" {
     fn nasturakh_romanise(session: *mut u32, words: usize, file: *mut u32, file_words: usize, buffer: *mut u32, buffer_words: usize, workspace: *mut u32, record: usize, spelling: *const u32, spelling_words: usize) -> u64;
     fn nasturakh_view(session: *const u32, words: usize, file: *const u32, file_words: usize, buffer: *const u32, buffer_words: usize, block: usize) -> u64;
     fn nasturakh_copy(session: *const u32, words: usize, file: *const u32, file_words: usize, second: *mut u32, second_words: usize, control: usize, marks: *mut u8, bytes: usize) -> u64;
+    fn nasturakh_turn(session: *mut u32, words: usize, file: *mut u32, file_words: usize, marks: *mut u8, bytes: usize) -> u64;
     fn nasturakh_put(row: *mut u32, words: usize, file: *mut u32, file_words: usize, workspace: *mut u32, record: usize) -> u64;
     fn nasturakh_get(row: *mut u32, words: usize, file: *mut u32, file_words: usize, workspace: *mut u32, record: usize) -> u64;
     fn nasturakh_nsert_tray(session: *mut u32, words: usize, file: *mut u32, file_words: usize, buffer: *mut u32, buffer_words: usize, tray: *const u32, tray_words: usize, told: *mut u64, told_words: usize) -> u64;
@@ -130,6 +131,13 @@ pub fn copy(s: &mut State, second: &mut [u32], control: usize) -> u64 {
             l.marks.len(),
         )
     }
+}
+
+/// Turns the state's file to the other block form; the answer is the number.
+pub fn turn(s: &mut State) -> u64 {
+    let (w, l) = (&mut s.words, &mut s.lent);
+    // SAFETY: as above.
+    unsafe { nasturakh_turn(w.as_mut_ptr(), w.len(), l.file.as_mut_ptr(), l.file.len(), l.marks.as_mut_ptr(), l.marks.len()) }
 }
 
 /// PUT of a sequential file.

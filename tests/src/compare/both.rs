@@ -4,7 +4,7 @@ use crate::state::State;
 use nasturakh_tests::rules::{Answer, Event, Kind};
 use std::collections::BTreeMap;
 
-/// How often each number and each event occurred, each part of VIEW, and each answer to a plan and to a copy.
+/// How often each number and each event occurred, each part of VIEW, each answer to a plan, a copy and a turn, and what became of wrong kinds.
 #[derive(Default)]
 pub struct Tally {
     pub calls: u64,
@@ -13,6 +13,8 @@ pub struct Tally {
     pub views: BTreeMap<&'static str, u64>,
     pub plans: BTreeMap<&'static str, u64>,
     pub copies: BTreeMap<u32, u64>,
+    pub turns: BTreeMap<u32, u64>,
+    pub kinds: BTreeMap<&'static str, u64>,
 }
 
 /// A difference, described.

@@ -5,8 +5,8 @@ use crate::loose;
 use crate::random::Random;
 use crate::sessions;
 use crate::spoil::{place, spoil, spoil_sizes, word};
-use crate::state::{State, SESSION_WORDS};
-use nasturakh_tests::rules::Kind;
+use crate::state::{State, FORM};
+use nasturakh_tests::rules::{Description, Kind, Use};
 
 const KINDS: [Kind; 9] = [Kind::Create, Kind::Open, Kind::Close, Kind::Seek, Kind::Adv, Kind::Nsert, Kind::Dlete, Kind::Updat, Kind::Xtend];
 
@@ -48,7 +48,7 @@ fn calls(keys: &Keys, state: &mut State, r: &mut Random, tally: &mut Tally) -> R
     for _ in 0..r.between(1, 4) {
         let kind = if r.once_in(5) { r.one_of(&KINDS) } else { sessions::any_kind(r) };
         let key = match r.below(3) {
-            0 if state.words.len() == SESSION_WORDS => state.words[10..13].to_vec(),
+            0 if state.words.len() >= 13 => state.words[10..13].to_vec(),
             _ if kind == Kind::Xtend => keys.high(r),
             _ => keys.any(r),
         };
@@ -62,6 +62,14 @@ fn calls(keys: &Keys, state: &mut State, r: &mut Random, tally: &mut Tally) -> R
     Ok(())
 }
 
+/// Most often makes word 0 of a made-up block one that says its kind.
+fn headed(p: &Description, words: &mut [u32], r: &mut Random) {
+    if !r.once_in(6) {
+        let kind = r.one_of(&[Use::Index, Use::Detail, Use::Detail, Use::Free]);
+        words[0] = p.headed(kind, words[0] as usize % 8);
+    }
+}
+
 /// Calls on words that are all made up, most of them small.
 pub fn made_up(r: &mut Random, tally: &mut Tally) -> Result<(), Differs> {
     let p = sessions::parameters(r);
@@ -72,7 +80,11 @@ pub fn made_up(r: &mut Random, tally: &mut Tally) -> Result<(), Differs> {
     state.lent.file.iter_mut().for_each(|w| *w = any(r));
     state.lent.buffer.iter_mut().for_each(|w| *w = any(r));
     state.lent.marks.iter_mut().for_each(|m| *m = r.between(0, 255) as u8);
-    state.words[7..].iter_mut().for_each(|w| *w = any(r));
+    if p.form == 2 {
+        (1..=p.n).for_each(|b| headed(&p, &mut state.lent.file[p.start(b)..], r));
+        headed(&p, &mut state.lent.buffer, r);
+    }
+    state.words[7..FORM].iter_mut().for_each(|w| *w = any(r));
     state.words[6] = !r.once_in(20) as u32;
     state.words[8] = r.between(0, 1);
     state.words[9] = r.between(0, 1);

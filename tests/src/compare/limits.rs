@@ -17,7 +17,8 @@ fn draw(r: &mut Random) -> Description {
     let space = r.one_of(&[0, 0, 0, 1, d.saturating_sub(2), i.saturating_sub(2), d.saturating_sub(1), i.saturating_sub(1)]);
     let control = r.one_of(&[0, 1, 1, 2, 4095, 4096, 16382, 16383, 16384]);
     let n = r.one_of(&[0, 1, 2, 2, 3, 3, 4, 262142, 262143, u32::MAX]);
-    Description { wpb, wpr, k, space, control, n }
+    let form = r.one_of(&[1, 1, 1, 1, 2, 2, 2, 2, 0, 3, u32::MAX]);
+    Description { wpb, wpr, k, space, control, n, form }
 }
 
 /// Parameters at the ends of their ranges; half the time some in range are looked for.
@@ -34,7 +35,7 @@ fn state(p: Description) -> State {
     if p.in_range() && p.file_size() <= LARGEST {
         return State::new(p);
     }
-    let mut state = State::new(Description { wpb: 8, wpr: 3, k: 1, space: 0, control: 2, n: 4 });
+    let mut state = State::new(Description { wpb: 8, wpr: 3, k: 1, space: 0, control: 2, n: 4, form: p.form });
     state.words[..6].copy_from_slice(&[p.wpb, p.wpr, p.k, p.space, p.control, p.n]);
     state.lent = Lent { buffer: vec![0; p.wpb as usize], workspace: vec![0; (p.wpr as usize).min(5000)], ..state.lent };
     state
@@ -56,7 +57,7 @@ pub fn compare(r: &mut Random, tally: &mut Tally) -> Result<(), Differs> {
 
 /// The most blocks a file can have.
 pub fn most_blocks(tally: &mut Tally) -> Result<(), Differs> {
-    let mut state = State::new(Description { wpb: 6, wpr: 2, k: 1, space: 0, control: 1, n: 262142 });
+    let mut state = State::new(Description { wpb: 6, wpr: 2, k: 1, space: 0, control: 1, n: 262142, form: 1 });
     for kind in [Kind::Create, Kind::Open, Kind::Nsert, Kind::Close] {
         state.lent.workspace.fill(5);
         both::call(kind, &mut state, tally)?;

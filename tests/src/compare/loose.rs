@@ -1,17 +1,24 @@
-//! Files in which each number is in its range, and nothing else holds: blocks may be index and detail at once,
-//! current, chained and in use.
+//! Files in which each number is in its range, and nothing else holds: blocks may be current, chained and in use at once, and, where they do
+//! not say their kind, index and detail.
 use crate::keys::Keys;
 use crate::random::Random;
 use crate::sessions;
-use crate::state::State;
-use nasturakh_tests::rules::{Description, ONES};
+use crate::state::{State, FORM};
+use nasturakh_tests::rules::{Description, Use, ONES};
 
 struct Maker<'a> {
     p: &'a Description,
     /// Blocks named are 1 to this.
     blocks: u32,
+    /// The kind of each block.
+    kinds: Vec<Use>,
     base: u32,
     r: &'a mut Random,
+}
+
+/// A kind of block, more often one that is used.
+fn any_use(r: &mut Random) -> Use {
+    r.one_of(&[Use::Free, Use::Index, Use::Index, Use::Detail, Use::Detail, Use::Detail, Use::Detail])
 }
 
 impl Maker<'_> {
@@ -39,32 +46,61 @@ impl Maker<'_> {
         }
     }
 
-    fn entries(&mut self, most: usize) -> Vec<u32> {
-        let count = self.count(most);
-        let mut words = vec![count as u32];
-        for key in self.keys(count, 4) {
-            words.extend(key);
-            words.push(self.r.between(1, self.blocks));
+    /// A block to be used so; where blocks say their kind, most often one of this kind.
+    fn named(&mut self, kind: Use) -> u32 {
+        let any = self.r.between(1, self.blocks);
+        let fitting = (1..=self.blocks).map(|ahead| (any + ahead - 1) % self.blocks + 1).find(|&b| self.kinds[b as usize - 1] == kind);
+        match fitting {
+            Some(b) if self.p.form == 2 && !self.r.once_in(8) => b,
+            _ => any,
         }
-        words
     }
 
-    fn records(&mut self) -> Vec<u32> {
+    /// Entries for blocks to be used so, and their count.
+    fn entries(&mut self, most: usize, kind: Use) -> (usize, Vec<u32>) {
+        let count = self.count(most);
+        let mut words = Vec::new();
+        for key in self.keys(count, 4) {
+            words.extend(key);
+            words.push(self.named(kind));
+        }
+        (count, words)
+    }
+
+    fn records(&mut self) -> (usize, Vec<u32>) {
         let count = self.count(self.p.d());
-        let mut words = vec![count as u32];
+        let mut words = Vec::new();
         for key in self.keys(count, 2) {
             words.extend(key);
             words.extend((self.p.k()..self.p.wpr()).map(|_| self.r.between(0, 9)));
         }
+        (count, words)
+    }
+
+    /// Word 0 and the rows of an index or detail block.
+    fn headed(&mut self, kind: Use) -> Vec<u32> {
+        let (count, rows) = if kind == Use::Index { self.entries(self.p.i(), Use::Detail) } else { self.records() };
+        let mut words = vec![self.p.headed(kind, count)];
+        words.extend(rows);
         words
     }
 
-    /// A block of any kind; the words that belong to no item are not always 0.
-    fn block(&mut self) -> Vec<u32> {
-        let mut words = match self.r.below(7) {
-            0 => vec![self.r.between(0, self.blocks)],
-            1 | 2 => self.entries(self.p.i()),
-            _ => self.records(),
+    /// A free block's link: none, or a block.
+    fn link(&mut self) -> u32 {
+        match self.r.below(3) {
+            0 => 0,
+            _ => self.named(Use::Free),
+        }
+    }
+
+    /// A block of this kind; the words that belong to no item are not always 0.
+    fn block(&mut self, kind: Use) -> Vec<u32> {
+        let mut words = match kind {
+            Use::Free => {
+                let link = self.link();
+                self.p.chained(link)[..self.p.form as usize].to_vec()
+            }
+            _ => self.headed(kind),
         };
         let rest = if self.r.once_in(3) { 0 } else { self.r.between(0, ONES) };
         words.resize(self.p.wpb(), rest);
@@ -72,13 +108,13 @@ impl Maker<'_> {
     }
 
     fn file(&mut self) -> Vec<u32> {
-        let master = self.entries(self.p.control as usize);
+        let (sections, entries) = self.entries(self.p.control as usize, Use::Index);
         let never = self.r.one_of(&[1, self.blocks, self.p.n, self.p.n + 1, self.p.n + 1]);
-        let mut file = vec![master[0], self.r.one_of(&[0, 0, 1, 2, self.blocks]), never];
-        file.extend(&master[1..]);
+        let mut file = vec![sections as u32, self.link(), never];
+        file.extend(entries);
         file.resize(self.p.master(), 0);
-        for _ in 0..self.p.n {
-            file.extend(self.block());
+        for kind in self.kinds.clone() {
+            file.extend(self.block(kind));
         }
         file
     }
@@ -95,9 +131,11 @@ pub fn state(r: &mut Random) -> (Description, Keys, State) {
     let keys = Keys::small(&p);
     let mut state = State::new(p);
     let blocks = r.between(2, p.n);
-    let mut maker = Maker { p: &p, blocks, base: Keys::SMALL, r };
+    let kinds = (0..p.n).map(|_| any_use(r)).collect();
+    let mut maker = Maker { p: &p, blocks, kinds, base: Keys::SMALL, r };
     state.lent.file = maker.file();
-    state.lent.buffer = maker.block();
+    let held = any_use(maker.r);
+    state.lent.buffer = maker.block(held);
     let position = maker.key();
     let current = r.between(0, blocks);
     if current > 0 && r.once_in(3) {
@@ -105,6 +143,6 @@ pub fn state(r: &mut Random) -> (Description, Keys, State) {
     }
     state.words[6..10].copy_from_slice(&[1, current, r.between(0, 1), r.between(0, 1)]);
     state.words[10..10 + p.k()].copy_from_slice(&position);
-    state.words[10 + p.k()..].fill(r.between(0, 1));
+    state.words[10 + p.k()..FORM].fill(r.between(0, 1));
     (p, keys, state)
 }

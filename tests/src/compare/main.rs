@@ -7,6 +7,7 @@ mod fabricated;
 mod fifteen;
 mod keys;
 mod known;
+mod known_turns;
 mod limits;
 mod loose;
 mod names;
@@ -19,13 +20,15 @@ mod space;
 mod spoil;
 mod state;
 mod trays;
+mod turns;
+mod twins;
 
 use both::{Differs, Tally};
 use random::Random;
 
 const ROUNDS: u64 = 2000;
 
-/// One seed: a session, calls on its states spoilt, and calls on words and parameters made up.
+/// One seed: a session, calls on its states spoilt, calls on words and parameters made up, its files copied and turned, and sequential files.
 fn round(seed: u64, tally: &mut report::Tallies) -> Result<(), Differs> {
     let mut r = Random::new(seed);
     let calls = r.between(50, 600) as usize;
@@ -48,6 +51,9 @@ fn round(seed: u64, tally: &mut report::Tallies) -> Result<(), Differs> {
     limits::compare(&mut r, &mut tally.limits)?;
     for _ in 0..60 {
         copies::compare(&kept[r.below(kept.len())].1, &mut r, &mut tally.copies)?;
+        turns::compare(&kept[r.below(kept.len())].1, &mut r, &mut tally.turns)?;
+        let (keys, state) = &kept[r.below(kept.len())];
+        turns::wrong_kind(keys, state, &mut r, &mut tally.turns)?;
     }
     for _ in 0..100 {
         sequential::list(&mut r, &mut tally.sequential)?;
@@ -76,6 +82,7 @@ fn all(rounds: u64) -> Result<report::Tallies, Differs> {
     limits::most_blocks(&mut tallies.limits)?;
     known::compare(&mut tallies.copies)?;
     space::stored(&mut tallies.filled)?;
+    known_turns::compare(&mut tallies.turns)?;
     for seed in 0..rounds {
         round(seed, &mut tallies).map_err(|differs| format!("seed {seed}: {differs}"))?;
     }

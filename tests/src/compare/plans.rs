@@ -4,7 +4,7 @@ use crate::both::{Differs, Tally};
 use crate::limits;
 use crate::random::Random;
 use crate::sessions;
-use crate::state::{State, SESSION_WORDS};
+use crate::state::{described, is_session, State, SESSION_WORDS};
 use nasturakh_tests::rules::{Answer, Description, Kind, Plan, DONE, STORED_FULL};
 
 /// What the archive says where there is no plan.
@@ -40,17 +40,16 @@ fn any_plan(r: &mut Random) -> Plan {
 pub fn session_words(p: Description, r: &mut Random) -> Vec<u32> {
     let mut words: Vec<u32> = [p.wpb, p.wpr, p.k, p.space, p.control, p.n].into_iter().collect();
     words.extend((6..SESSION_WORDS).map(|j| if matches!(j, 6 | 8 | 9) { r.between(0, 1) } else { r.next() as u32 }));
+    if p.form != 1 || r.once_in(2) {
+        words.push(p.form);
+    }
     match r.below(12) {
         0 => words.truncate(r.below(SESSION_WORDS)),
-        1 => words.push(0),
+        1 => words.resize(SESSION_WORDS + 2, 0),
         2 => words[r.one_of(&[6, 8, 9])] = r.one_of(&[2, u32::MAX]),
         _ => {}
     }
     words
-}
-
-pub fn is_session(session: &[u32]) -> bool {
-    session.len() == SESSION_WORDS && [6, 8, 9].iter().all(|&j| session[j] <= 1)
 }
 
 /// The rendering's bound, where there is a session, parameters in range and a plan of eight words.
@@ -58,7 +57,7 @@ fn expected(session: &[u32], plan: &Plan, length: usize) -> Option<u128> {
     if !is_session(session) || length != 8 {
         return None;
     }
-    let p = Description::from_words(session);
+    let p = described(session);
     p.in_range().then(|| plan.most_transfers(&p))
 }
 

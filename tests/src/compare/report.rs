@@ -1,4 +1,5 @@
-//! What was tried: how often each number, each kind of split, each part of VIEW and each answer to a plan, a copy and a tray occurred.
+//! What was tried: how often each number, each kind of split, each part of VIEW, each answer to a plan, a copy, a turn and a tray occurred, and
+//! what became of blocks that say a wrong kind.
 use crate::both::Tally;
 use crate::names;
 use crate::sequential;
@@ -15,6 +16,7 @@ pub struct Tallies {
     pub limits: Tally,
     pub copies: Tally,
     pub filled: Tally,
+    pub turns: Tally,
     pub sequential: sequential::Tally,
     pub trays: trays::Tally,
     pub names: names::Tally,
@@ -22,6 +24,7 @@ pub struct Tallies {
 
 const NUMBERS: [u32; 11] = [0, 0o1, 0o5, 0o020005, 0o020006, 0o020007, 0o030001, 0o030002, 0o070001, 0o070002, 0o070003];
 
+/// What a copy and a turn can answer.
 const COPIES: [u32; 4] = [0, 0o020006, 0o020007, 0o070003];
 /// What PUT and GET can answer.
 const SEQUENTIAL: [(&str, u32); 8] =
@@ -73,14 +76,19 @@ fn show(title: &str, tally: &Tally) {
     if !tally.plans.is_empty() {
         println!("  plans {:?}", tally.plans);
     }
-    if !tally.copies.is_empty() {
-        let numbers: Vec<String> = tally.copies.iter().map(|(number, count)| format!("{number:06o} {count}")).collect();
-        println!("  copies {}", numbers.join(", "));
+    for (what, answers) in [("copies", &tally.copies), ("turns", &tally.turns)] {
+        if !answers.is_empty() {
+            let numbers: Vec<String> = answers.iter().map(|(number, count)| format!("{number:06o} {count}")).collect();
+            println!("  {what} {}", numbers.join(", "));
+        }
+    }
+    if !tally.kinds.is_empty() {
+        println!("  wrong kinds {:?}", tally.kinds);
     }
 }
 
 /// What never occurred: whole sessions must show every event and every number but 020007, which states spoilt must show, what plans
-/// can answer, and what a copy can.
+/// can answer, what a copy and a turn can, and both that may become of a wrong kind.
 fn missing(tallies: &Tallies) -> Vec<String> {
     let mut lacking = Vec::new();
     for number in NUMBERS {
@@ -100,6 +108,9 @@ fn missing(tallies: &Tallies) -> Vec<String> {
     ];
     lacking.extend(plans.iter().filter(|(tally, kind)| !tally.plans.contains_key(kind)).map(|(_, kind)| kind.to_string()));
     lacking.extend(COPIES.iter().filter(|number| !tallies.copies.copies.contains_key(number)).map(|number| format!("a copy with {number:06o}")));
+    lacking.extend(COPIES.iter().filter(|number| !tallies.turns.turns.contains_key(number)).map(|number| format!("a turn with {number:06o}")));
+    let kinds = ["refused", "not looked at"].into_iter().filter(|kind| !tallies.turns.kinds.contains_key(kind));
+    lacking.extend(kinds.map(|kind| format!("a wrong kind {kind}")));
     let rows = SEQUENTIAL.iter().filter(|answer| !tallies.sequential.contains_key(answer));
     lacking.extend(rows.map(|(kind, number)| format!("{kind} {number:06o}")));
     lacking.extend(TRAYS.iter().filter(|number| !tallies.trays.contains_key(number)).map(|number| format!("a tray with {number:06o}")));
@@ -117,6 +128,7 @@ pub fn print(rounds: u64, tallies: &Tallies) {
     show("parameters at their limits", &tallies.limits);
     show("files copied under another CONTROL", &tallies.copies);
     show("names in just their space", &tallies.filled);
+    show("files turned to the other block form, blocks of a wrong kind", &tallies.turns);
     println!("records in a row");
     for ((kind, number), count) in &tallies.sequential {
         println!("  {number:06o}  {kind} {count}");

@@ -20,6 +20,7 @@ const ASK: u64 = 18;
 const HOLD: u64 = 19;
 const FREE: u64 = 20;
 const ROMANISE: u64 = 21;
+const TURN: u64 = 22;
 
 struct Server {
     to: BufWriter<ChildStdin>,
@@ -141,6 +142,11 @@ pub fn copy(s: &mut State, second: &mut [u32], control: usize) -> u64 {
     s.lent.file = lent.lent.file;
     s.lent.marks = lent.lent.marks;
     answer
+}
+
+/// Turns the state's file to the other block form; the answer is the number.
+pub fn turn(s: &mut State) -> u64 {
+    asked(TURN, 0, s)
 }
 
 /// A call of a sequential file. The row travels as the session.

@@ -4,6 +4,7 @@ use crate::keys::Keys;
 use crate::plans::Spent;
 use crate::random::Random;
 use crate::state::State;
+use crate::twins::Twin;
 use nasturakh_tests::rules::{Description, Kind, ONES};
 
 /// Parameters in range, small enough that blocks and sections run out.
@@ -17,6 +18,7 @@ pub fn parameters(r: &mut Random) -> Description {
             space: r.one_of(&[0, 0, 1, 2, 3]),
             control: r.between(1, 5),
             n: r.between(2, 24),
+            form: r.between(1, 2),
         };
         if p.in_range() {
             return p;
@@ -58,7 +60,7 @@ fn pick(mood: Mood, open: bool, r: &mut Random) -> Kind {
 }
 
 /// Puts a key and data into the workspace, now and then what no key or record may be.
-fn fill(kind: Kind, keys: &Keys, state: &mut State, r: &mut Random) {
+pub fn fill(kind: Kind, keys: &Keys, state: &mut State, r: &mut Random) {
     let key = if kind == Kind::Xtend && !r.once_in(8) { keys.high(r) } else { keys.any(r) };
     for word in state.lent.workspace.iter_mut() {
         *word = r.one_of(&[0, 1, 7, 262142, ONES]);
@@ -73,40 +75,54 @@ fn fill(kind: Kind, keys: &Keys, state: &mut State, r: &mut Random) {
     }
 }
 
-/// One call of a session, what all its calls may have cost, and a look at a block.
-fn turn(keys: &mut Keys, spent: &mut Spent, kind: Kind, state: &mut State, r: &mut Random, tally: &mut Tally) -> Result<(), Differs> {
-    if matches!(kind, Kind::Seek | Kind::Nsert | Kind::Dlete | Kind::Updat | Kind::Xtend) {
-        fill(kind, keys, state, r);
+/// A session on its way: its keys, what it has cost, and the same session in the other block form.
+struct Course {
+    keys: Keys,
+    spent: Spent,
+    twin: Twin,
+    state: State,
+}
+
+impl Course {
+    fn begin(r: &mut Random) -> Course {
+        let p = parameters(r);
+        let state = if r.once_in(2) { State::new(p).with_form() } else { State::new(p) };
+        Course { keys: Keys::new(&p, r), spent: Spent::default(), twin: Twin::of(p), state }
     }
-    let key = state.lent.workspace[..keys.k].to_vec();
-    let answer = both::call(kind, state, tally)?;
-    keys.learn(kind, answer.number, &key);
-    spent.learn(kind, &answer, state, tally)?;
-    both::view(r.below(state.words[5] as usize + 2), state, tally)
+
+    /// One call, what all calls may have cost, what the call is in the other form, and a look at a block.
+    fn call(&mut self, kind: Kind, r: &mut Random, tally: &mut Tally) -> Result<(), Differs> {
+        if matches!(kind, Kind::Seek | Kind::Nsert | Kind::Dlete | Kind::Updat | Kind::Xtend) {
+            fill(kind, &self.keys, &mut self.state, r);
+        }
+        let work = self.state.lent.workspace.clone();
+        let answer = both::call(kind, &mut self.state, tally)?;
+        self.keys.learn(kind, answer.number, &work[..self.keys.k]);
+        self.spent.learn(kind, &answer, &self.state, tally)?;
+        self.twin.follow(kind, &work, &answer, &self.state)?;
+        both::view(r.below(self.state.words[5] as usize + 2), &self.state, tally)
+    }
 }
 
 /// A session of this many calls; CREATE comes only while it is closed. States on the way are kept.
 pub fn session(calls: usize, r: &mut Random, tally: &mut Tally) -> Result<Vec<(Keys, State)>, Differs> {
-    let p = parameters(r);
-    let mut keys = Keys::new(&p, r);
-    let mut state = State::new(p);
-    let mut spent = Spent::default();
+    let mut course = Course::begin(r);
     let mut kept = Vec::new();
     if !r.once_in(20) {
-        turn(&mut keys, &mut spent, Kind::Create, &mut state, r, tally)?;
-        turn(&mut keys, &mut spent, Kind::Open, &mut state, r, tally)?;
+        course.call(Kind::Create, r, tally)?;
+        course.call(Kind::Open, r, tally)?;
     }
     let mut mood = Mood::Insert;
     for _ in 0..calls {
         if r.once_in(40) {
             mood = r.one_of(&[Mood::Insert, Mood::Extend, Mood::Delete, Mood::Mixed]);
         }
-        let kind = pick(mood, state.words[6] == 1, r);
-        turn(&mut keys, &mut spent, kind, &mut state, r, tally)?;
+        course.call(pick(mood, course.state.words[6] == 1, r), r, tally)?;
         if r.once_in(10) {
-            kept.push((keys.clone(), state.clone()));
+            course.twin.turned(&course.state)?;
+            kept.push((course.keys.clone(), course.state.clone()));
         }
     }
-    kept.push((keys, state));
+    kept.push((course.keys, course.state));
     Ok(kept)
 }

@@ -3,10 +3,10 @@
 use crate::archive;
 use crate::both::{self, Differs, Tally};
 use crate::limits;
-use crate::plans::{any_count, is_session, session_words, NO_PLAN};
+use crate::plans::{any_count, session_words, NO_PLAN};
 use crate::random::Random;
 use crate::sessions;
-use crate::state::State;
+use crate::state::{described, is_session, State};
 use nasturakh_tests::rules::{Description, Kind, Space, DONE, NOT_FOUND, STORED_FULL};
 
 /// Any parameters, any number of names.
@@ -15,7 +15,7 @@ pub fn compare(r: &mut Random, tally: &mut Tally) -> Result<(), Differs> {
     let session = session_words(p, r);
     let names = any_count(r);
     let found = (archive::most_blocks(&session, names), archive::most_sections(&session, names));
-    let asked = is_session(&session).then(|| Description::from_words(&session)).filter(Description::in_range);
+    let asked = is_session(&session).then(|| described(&session)).filter(Description::in_range);
     *tally.plans.entry(if asked.is_some() { "space" } else { "no space" }).or_default() += 1;
     let none = u128::from(NO_PLAN);
     let wanted = asked.map(|p| Space::of(names, &p)).map_or((none, none), |s| (s.blocks(), s.sections));
@@ -96,7 +96,7 @@ pub fn filled(r: &mut Random, tally: &mut Tally) -> Result<(), Differs> {
 
 /// Seven names at D 3 and I 3 that meet both bounds with equality, in the six blocks and two sections that are told for them.
 pub fn stored(tally: &mut Tally) -> Result<(), Differs> {
-    let p = Description { wpb: 8, wpr: 2, k: 1, space: 0, control: 2, n: 6 };
+    let p = Description { wpb: 8, wpr: 2, k: 1, space: 0, control: 2, n: 6, form: 1 };
     let mut state = State::new(p);
     let mut counts = vec![both::call(Kind::Create, &mut state, tally)?, both::call(Kind::Open, &mut state, tally)?];
     for record in [[10, 1], [20, 2], [30, 3], [15, 4], [12, 5], [17, 6], [18, 7]] {

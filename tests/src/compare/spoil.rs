@@ -1,17 +1,19 @@
 //! Ways to spoil a state.
 use crate::random::Random;
-use crate::state::State;
+use crate::state::{State, FORM};
 use nasturakh_tests::rules::{Description, ONES};
 
 /// A word near some limit.
 pub fn word(p: &Description, r: &mut Random) -> u32 {
-    match r.below(8) {
+    match r.below(if p.form == 2 { 10 } else { 8 }) {
         0 => r.one_of(&[0, 1, ONES, ONES + 1, u32::MAX]),
         1 => p.n + r.between(0, 2),
         2 => p.control + r.between(0, 1),
         3 => p.d() as u32 + r.between(0, 1),
         4 => p.i() as u32 + r.between(0, 1),
         5 => r.between(0, 4),
+        8 => r.one_of(&[4096, 8192, 12288]) + r.between(0, 2),
+        9 => r.one_of(&[4096 + p.i() as u32, 8192 + p.d() as u32]) + r.between(0, 1),
         _ => r.between(0, p.n),
     }
 }
@@ -55,6 +57,15 @@ fn spoil_buffer(p: &Description, state: &mut State, r: &mut Random) {
     }
 }
 
+/// Makes word 0 of a block, or of the buffer, that of another kind.
+fn spoil_kind(p: &Description, state: &mut State, r: &mut Random) {
+    let word = match r.below(4) {
+        0 => &mut state.lent.buffer[0],
+        _ => &mut state.lent.file[p.start(r.between(1, p.n))],
+    };
+    *word = word.wrapping_add(r.one_of(&[4096, 8192, 12288])) % 16384;
+}
+
 /// Lengths, flags and parameters that no call takes, or takes otherwise.
 pub fn spoil_sizes(state: &mut State, r: &mut Random) {
     let by = r.one_of(&[-1, 1, 2]);
@@ -72,7 +83,7 @@ pub fn spoil_sizes(state: &mut State, r: &mut Random) {
 
 /// A parameter changed, and the lengths fitted to it where that is possible.
 fn spoil_parameters(state: &mut State, r: &mut Random) {
-    let at = r.below(6);
+    let at = if state.words.len() > FORM && r.once_in(6) { FORM } else { r.below(6) };
     state.words[at] = match r.below(4) {
         0 => r.one_of(&[0, 1, 2, 5, 63, 64, 4095, 4096, 4097, 4098, 16383, 16384, 262142, 262143, u32::MAX]),
         1 => state.words[at].wrapping_sub(1),
@@ -89,9 +100,10 @@ fn spoil_parameters(state: &mut State, r: &mut Random) {
 
 /// One thing spoilt that no length depends on.
 pub fn spoil(p: &Description, state: &mut State, r: &mut Random) {
-    match r.below(4) {
+    match r.below(if p.form == 2 { 5 } else { 4 }) {
         0 => spoil_session(p, state, r),
         1 => spoil_buffer(p, state, r),
+        4 => spoil_kind(p, state, r),
         _ => state.lent.file[place(p, r)] = word(p, r),
     }
 }

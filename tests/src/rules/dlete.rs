@@ -22,26 +22,19 @@ pub fn dlete(t: &Texts) -> Planned<Plan> {
     emptied(t, plan, way)
 }
 
-/// A free block: the link, and 0 elsewhere.
-fn chained(t: &Texts, link: u32) -> Vec<u32> {
-    let mut words = vec![0; t.p().wpb()];
-    words[0] = link;
-    words
-}
-
 fn emptied(t: &Texts, mut plan: Plan, way: Way) -> Planned<Plan> {
     let (index, count) = t.index(way.index)?;
     let link = t.l.file[1];
     need(link <= t.p().n)?;
     plan.events.push(Event::BlockEmptied);
-    plan.write(way.detail, chained(t, link));
+    plan.write(way.detail, t.p().chained(link));
     plan.moves.push(Move::Read(way.index));
     plan.master[1] = way.detail;
     if count > 1 {
         plan.write(way.index, without(t, index, count, way.entry));
     } else {
         plan.events.push(Event::IndexEmptied);
-        plan.write(way.index, chained(t, way.detail));
+        plan.write(way.index, t.p().chained(way.detail));
         plan.master[1] = way.index;
         let sections = t.sections()?;
         t.entries_of_master().remove(&mut plan.master, sections, way.section);

@@ -1,5 +1,5 @@
 //! New blocks: from the chain's head first, then word 2.
-use super::texts::{need, Plan, Planned, Texts};
+use super::texts::{need, Bad, Plan, Planned, Texts};
 use super::*;
 
 /// The free blocks as the call would leave them.
@@ -25,7 +25,7 @@ impl Free {
     fn take(&mut self, t: &Texts) -> Planned<Option<u32>> {
         let head = self.head;
         if head != 0 {
-            let link = t.text(head)[0];
+            let link = t.p().link(t.text(head)).ok_or(Bad)?;
             need(link <= t.p().n)?;
             self.head = link;
             return Ok(Some(head));

@@ -1,6 +1,6 @@
 //! "Layout": which files open, and the marks OPEN leaves.
 use super::rows::Rows;
-use super::{Description, ONES};
+use super::{Description, Use, ONES};
 
 struct Walk<'a> {
     p: &'a Description,
@@ -9,11 +9,13 @@ struct Walk<'a> {
     met: Vec<u8>,
     /// The bound, or the key, passed last.
     below: Option<Vec<u32>>,
+    /// The record passed last.
+    last: Option<Vec<u32>>,
 }
 
 /// The marks of a good file; none when the file is not as under Layout.
 pub fn inspect(p: &Description, file: &[u32]) -> Option<Vec<u8>> {
-    let mut w = Walk { p, file, met: vec![0; p.n as usize], below: None };
+    let mut w = Walk { p, file, met: vec![0; p.n as usize], below: None, last: None };
     if file.iter().any(|&x| x > ONES) || !w.master() || !w.chain() || !w.never_used() {
         return None;
     }
@@ -49,7 +51,7 @@ impl<'a> Walk<'a> {
         if count < 1 || count > self.p.control as usize || words[3 + count * rows.width..].iter().any(|&x| x != 0) {
             return false;
         }
-        (0..count).all(|j| self.index(rows.block(words, j), rows.key(words, j))) && is_ones(rows.key(words, count - 1)) && self.end_record(count)
+        (0..count).all(|j| self.index(rows.block(words, j), rows.key(words, j))) && is_ones(rows.key(words, count - 1)) && self.ends()
     }
 
     fn index(&mut self, b: u32, bound: &[u32]) -> bool {
@@ -58,8 +60,8 @@ impl<'a> Walk<'a> {
         }
         let rows = Rows { at: 1, width: self.p.k() + 1, k: self.p.k() };
         let words = self.block(b);
-        let count = words[0] as usize;
-        if count < 1 || count > self.p.i() || words[1 + count * rows.width..].iter().any(|&x| x != 0) {
+        let Some(count) = self.p.counted(Use::Index, words[0], self.p.i()) else { return false };
+        if words[1 + count * rows.width..].iter().any(|&x| x != 0) {
             return false;
         }
         (0..count).all(|j| self.detail(rows.block(words, j), rows.key(words, j))) && rows.key(words, count - 1) == bound
@@ -71,10 +73,11 @@ impl<'a> Walk<'a> {
         }
         let rows = Rows { at: 1, width: self.p.wpr(), k: self.p.k() };
         let words = self.block(b);
-        let count = words[0] as usize;
-        if count < 1 || count > self.p.d() || words[1 + count * rows.width..].iter().any(|&x| x != 0) {
+        let Some(count) = self.p.counted(Use::Detail, words[0], self.p.d()) else { return false };
+        if words[1 + count * rows.width..].iter().any(|&x| x != 0) {
             return false;
         }
+        self.last = Some(rows.row(words, count - 1).to_vec());
         for j in 0..count {
             let key = rows.key(words, j);
             if self.below.as_deref().is_some_and(|low| key <= low) || key > bound {
@@ -86,22 +89,23 @@ impl<'a> Walk<'a> {
         true
     }
 
-    /// The last record, of the last block under the last section: key ONES, data 0.
-    fn end_record(&self, sections: usize) -> bool {
-        let (k, wide) = (self.p.k(), self.p.k() + 1);
-        let index = self.block(self.file[3 + sections * wide - 1]);
-        let detail = self.block(index[1 + index[0] as usize * wide - 1]);
-        let last = &detail[1 + (detail[0] as usize - 1) * self.p.wpr()..1 + detail[0] as usize * self.p.wpr()];
-        is_ones(&last[..k]) && last[k..].iter().all(|&x| x == 0)
+    /// The last record of the last block: key ONES, data 0.
+    fn ends(&self) -> bool {
+        let k = self.p.k();
+        self.last.as_deref().is_some_and(|last| is_ones(&last[..k]) && last[k..].iter().all(|&x| x == 0))
     }
 
     fn chain(&mut self) -> bool {
         let mut b = self.file[1];
         while b != 0 {
-            if !self.meet(b, 2) || self.block(b)[1..].iter().any(|&x| x != 0) {
+            if !self.meet(b, 2) {
                 return false;
             }
-            b = self.block(b)[0];
+            let Some(link) = self.p.link(self.block(b)) else { return false };
+            if self.block(b) != self.p.chained(link) {
+                return false;
+            }
+            b = link;
         }
         true
     }

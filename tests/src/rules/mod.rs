@@ -1,5 +1,4 @@
-//! The ten calls of document 01, and of document 02 the copying call, PUT and GET, and the tray.
-//! The ten calls of document 01, and of document 02 the copying call, PUT and GET, and the name register.
+//! The ten calls of document 01, in both block forms, and of document 02 the copying call, the turning call, PUT and GET, the tray, and the name register.
 //!
 //! Each call first makes a plan from the words as they stood when it began, and only then stores:
 //! a plan that fails leaves everything as it was.
@@ -21,10 +20,11 @@ mod session;
 mod space;
 mod texts;
 mod tray;
+mod turn;
 mod xtend;
 
 pub use answer::{Answer, Event, Kind, Lent, Move, Part};
-pub use description::Description;
+pub use description::{Description, Use};
 pub use layout::inspect;
 pub use plan::Plan;
 pub use session::{create, Session};

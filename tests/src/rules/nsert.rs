@@ -48,11 +48,11 @@ fn split(t: &Texts, mut plan: Plan, way: Way, place: usize) -> Planned<Plan> {
     let mut bounded = index.to_vec();
     t.entries().set_key(&mut bounded, way.entry, &lower[lower.len() - 1][..k]);
     let entry = [t.entries().key(index, way.entry), &[blocks[0]]].concat();
-    let (low, high) = (fresh(p.wpb(), &lower), fresh(p.wpb(), &upper));
+    let (low, high) = (fresh(p, Use::Detail, &lower), fresh(p, Use::Detail, &upper));
     plan.moves.push(Move::Read(way.index));
     plan.write(way.detail, low.clone());
     plan.write(blocks[0], high.clone());
-    enter(t, &mut plan, way, &bounded, &entry, &blocks);
+    enter(t, &mut plan, way, (&bounded, entries), &entry, &blocks);
     free.store(&mut plan);
     if in_lower {
         plan.hold(way.detail, low)
@@ -65,9 +65,8 @@ fn split(t: &Texts, mut plan: Plan, way: Way, place: usize) -> Planned<Plan> {
 }
 
 /// Enters the new detail block in the index block, and a new index block, if one is needed, in the master.
-fn enter(t: &Texts, plan: &mut Plan, way: Way, bounded: &[u32], entry: &[u32], blocks: &[u32]) {
+fn enter(t: &Texts, plan: &mut Plan, way: Way, (bounded, count): (&[u32], usize), entry: &[u32], blocks: &[u32]) {
     let (p, rows, k) = (t.p(), t.entries(), t.p().k());
-    let count = bounded[0] as usize;
     if blocks.len() == 1 {
         let mut words = bounded.to_vec();
         rows.insert(&mut words, count, way.entry + 1, entry);
@@ -76,8 +75,8 @@ fn enter(t: &Texts, plan: &mut Plan, way: Way, bounded: &[u32], entry: &[u32], b
         return;
     }
     let (lower, upper) = halves(&rows, bounded, p.i(), way.entry + 1, entry);
-    plan.write(way.index, fresh(p.wpb(), &lower));
-    plan.write(blocks[1], fresh(p.wpb(), &upper));
+    plan.write(way.index, fresh(p, Use::Index, &lower));
+    plan.write(blocks[1], fresh(p, Use::Index, &upper));
     let master = t.entries_of_master();
     let section = [master.key(&t.l.file, way.section), &[blocks[1]]].concat();
     let sections = plan.master[0] as usize;

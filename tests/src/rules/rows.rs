@@ -1,4 +1,5 @@
 //! Rows led by a key: the entries of master and index blocks, and the records of detail blocks.
+use super::{Description, Use};
 
 /// A place in some words where rows of `width` words begin, each led by a key of `k` words.
 #[derive(Clone, Copy)]
@@ -54,10 +55,10 @@ impl Rows {
     }
 }
 
-/// A block written anew: the count, these rows, and 0 elsewhere.
-pub fn fresh(size: usize, rows: &[Vec<u32>]) -> Vec<u32> {
-    let mut words = vec![rows.len() as u32];
+/// A block of this kind written anew: word 0 for so many rows, these rows, and 0 elsewhere.
+pub fn fresh(p: &Description, kind: Use, rows: &[Vec<u32>]) -> Vec<u32> {
+    let mut words = vec![p.headed(kind, rows.len())];
     words.extend(rows.iter().flatten());
-    words.resize(size, 0);
+    words.resize(p.wpb(), 0);
     words
 }

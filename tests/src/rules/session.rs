@@ -23,10 +23,10 @@ pub fn create(p: &Description, file: &mut [u32]) -> Answer {
     file[3..3 + k].fill(ONES);
     file[3 + k] = 1;
     let (one, two) = (p.start(1), p.start(2));
-    file[one] = 1;
+    file[one] = p.headed(Use::Index, 1);
     file[one + 1..one + 1 + k].fill(ONES);
     file[one + 1 + k] = 2;
-    file[two] = 1;
+    file[two] = p.headed(Use::Detail, 1);
     file[two + 1..two + 1 + k].fill(ONES);
     Answer::refused(DONE)
 }

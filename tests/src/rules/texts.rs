@@ -52,21 +52,20 @@ impl<'a> Texts<'a> {
         Ok(sections as usize)
     }
 
-    fn counted(&self, b: u32, most: usize) -> Planned<(&'a [u32], usize)> {
+    fn counted(&self, b: u32, kind: Use, most: usize) -> Planned<(&'a [u32], usize)> {
         need(self.p().is_block(b))?;
         let text = self.text(b);
-        need((1..=most as u64).contains(&(text[0] as u64)))?;
-        Ok((text, text[0] as usize))
+        Ok((text, self.p().counted(kind, text[0], most).ok_or(Bad)?))
     }
 
     /// The text of index block `b` and the number of its entries.
     pub fn index(&self, b: u32) -> Planned<(&'a [u32], usize)> {
-        self.counted(b, self.p().i())
+        self.counted(b, Use::Index, self.p().i())
     }
 
     /// The text of detail block `b` and the number of its records.
     pub fn detail(&self, b: u32) -> Planned<(&'a [u32], usize)> {
-        self.counted(b, self.p().d())
+        self.counted(b, Use::Detail, self.p().d())
     }
 
     /// The number of records buffered; none while current is 0.

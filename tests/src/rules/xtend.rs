@@ -79,12 +79,12 @@ fn start_block(t: &Texts, mut plan: Plan, way: Way, count: usize) -> Planned<Pla
     }
     no_clash(&plan, &[way.index, way.detail], &blocks)?;
     plan.number = stored_number(t, Some(&free), count)?;
-    let new = fresh(p.wpb(), &[records.row(&plan.buffer, count - 1).to_vec()]);
+    let new = fresh(p, Use::Detail, &[records.row(&plan.buffer, count - 1).to_vec()]);
     let mut old = plan.buffer.clone();
     records.set(&mut old, count - 1, &t.l.workspace);
     plan.write(way.detail, old);
     plan.moves.push(Move::Read(way.index));
-    enter(t, &mut plan, way, index, &blocks, &new);
+    enter(t, &mut plan, way, (index, entries), &blocks, &new);
     free.store(&mut plan);
     plan.hold(blocks[0], new);
     plan.session.flag = false;
@@ -94,9 +94,8 @@ fn start_block(t: &Texts, mut plan: Plan, way: Way, count: usize) -> Planned<Pla
 }
 
 /// The last entry's bound becomes the key; the new block is entered after it, or under a new section.
-fn enter(t: &Texts, plan: &mut Plan, way: Way, index: &[u32], blocks: &[u32], new: &[u32]) {
+fn enter(t: &Texts, plan: &mut Plan, way: Way, (index, count): (&[u32], usize), blocks: &[u32], new: &[u32]) {
     let (p, rows) = (t.p(), t.entries());
-    let count = index[0] as usize;
     let entry = |b: u32| [vec![ONES; p.k()], vec![b]].concat();
     let mut words = index.to_vec();
     rows.set_key(&mut words, way.entry, t.wanted());
@@ -107,7 +106,7 @@ fn enter(t: &Texts, plan: &mut Plan, way: Way, index: &[u32], blocks: &[u32], ne
     plan.write(way.index, words);
     plan.write(blocks[0], new.to_vec());
     if blocks.len() == 2 {
-        plan.write(blocks[1], fresh(p.wpb(), &[entry(blocks[0])]));
+        plan.write(blocks[1], fresh(p, Use::Index, &[entry(blocks[0])]));
         let master = t.entries_of_master();
         master.set_key(&mut plan.master, way.section, t.wanted());
         master.set(&mut plan.master, way.section + 1, &entry(blocks[1]));
