@@ -5,3 +5,9 @@ pub mod Spared
 pub mod Romanising
 pub mod Theorems
 pub mod Listed
+pub mod Again
+pub mod Costs
+pub mod Fresh
+pub mod Ordered
+pub mod Listing
+pub mod Moves

@@ -29,7 +29,7 @@ one-only work (r ∷ rs) o s = let n : length rs ≡ 0 = ap length (s .0) in ome
 
 -- the state of the register's run is that of the routine's, but for the workspace
 module _ (st : State) (ds : List Deed) where
-  is : leftBy st ds ≡ lending (leftBy st ds .work) (left st (requests st ds))
+  pub is : leftBy st ds ≡ lending (leftBy st ds .work) (left st (requests st ds))
   unfolding lending
   is = same-run st ds (leftBy st ds .work)
 
@@ -38,7 +38,7 @@ answered-lent : (u : State) (w : List ℕ) (rows last : List (List ℕ)) → Ans
 unfolding lending answer
 answered-lent u w rows last a = record { seek = a .seek; adv = a .adv; nsert = a .nsert; dlete = a .dlete; updat = a .updat; xtend = a .xtend }
 
-contains-lent : (u : State) (w : List ℕ) (rows : List (List ℕ)) → Contains (lending w u) rows → Contains u rows
+pub contains-lent : (u : State) (w : List ℕ) (rows : List (List ℕ)) → Contains (lending w u) rows → Contains u rows
 unfolding lending
 contains-lent u w rows c = record { tree = c .tree; held = c .held; are = c .are }
 
@@ -59,7 +59,7 @@ no-name-twice st marks o ds rows c work k =
     let now = leftBy (openFile st marks .outcome .after) ds in
     one-only work (withKey (desc now) (keyIn (desc now) work) rows) (answer now (seeking work)) (answers st marks o ds rows c .1 .seek work k)
 
-next-is : (now : State) (work : List ℕ) → desc now .k < desc now .wpr → answer now (advancing work) ≡ did now (listing work)
+pub next-is : (now : State) (work : List ℕ) → desc now .k < desc now .wpr → answer now (advancing work) ≡ did now (listing work)
 unfolding did next checked hasState answer lending
 next-is now work h = ap (λ (t : Bool). checked (lending work now) (require t wrongSize) (adv (lending work now))) (sym (lt-ltb (desc now .k) (desc now .wpr) h))
 

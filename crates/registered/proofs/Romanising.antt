@@ -59,7 +59,7 @@ key-no t = test-refuses t wrongKey (λ z. omega arith)
 
 ruleset tests = (then-refuses, size-no, closed-no, key-no)
 
-name-refuses : (st : State) → Refuses (nameOk st)
+pub name-refuses : (st : State) → Refuses (nameOk st)
 unfolding nameOk hasState sizesOk workOk isOpen keyOk
 name-refuses st = search tests depth 9
 

@@ -116,7 +116,7 @@ sought-done from st z = go (eqb (seek st .number) done) (eqb (stateOf (desc st) 
     go false b ea eb z = absurd (eqb-false _ _ ea z)
 
 -- a SEEK that answers 0 hands out its record
-handed-done : (o : Outcome) → o .number ≡ done → handed o ≡ o .after .work ∷ []
+pub handed-done : (o : Outcome) → o .number ≡ done → handed o ≡ o .after .work ∷ []
 unfolding handed
 handed-done o z = ap (λ (t : Bool). cond t (o .after .work ∷ []) []) (eq-eqb _ _ z)
 

@@ -85,7 +85,7 @@ module _ (u : State) (was : List ℕ → List (List ℕ)) (h : Tells (desc u) u 
       go true z = tells-now (desc u) v n t w z
       go false z = absurd (clash z)
 
-  found : Found u was
+  pub found : Found u was
   found ds w z =
       ap handed (asks ds w)
       ∙ found-by (left u (requests u ds)) (now ds) (tells-then ds) w (ap (λ (o : Outcome). leavesAll (o .number)) (sym (asks ds w)) ∙ z)
@@ -165,14 +165,14 @@ module _ (u : State) (was : List ℕ → List (List ℕ)) (h : Tells (desc u) u 
       let n : b .before ≡ s = one-is (b .before) s (sym (b .stood) ∙ ap (now ((ds ++ romanising w x ∷ []) ++ es)) k ∙ e) in
       not-raw (desc u) s rom (ap (stateOf (desc u)) (sym n) ∙ b .was-raw)
 
-  raw-is-zero : RawIsZero u was
+  pub raw-is-zero : RawIsZero u was
   unfolding under
   raw-is-zero ds key g z = run-zero (desc u) ds u was h key z g
 
 -- ---- from an OPEN that answers 0
 
 module _ (P : State → (List ℕ → List (List ℕ)) → Type 0) (all : (u : State) (was : List ℕ → List (List ℕ)) → Tells (desc u) u was → P u was) where
-  from-open : FromOpen P
+  pub from-open : FromOpen P
   from-open st marks o =
       let (t, stands-there, f) = second .tells st marks o in
       let u = openFile st marks .outcome .after in

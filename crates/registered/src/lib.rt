@@ -1,2 +1,2 @@
-// The register over runs of its calls: specs/ says what no sequence of them can do, proofs/ proves it from the statements of `demands` alone.
-// No code stands here.
+// The register over runs of its calls: specs/ says what no sequence of them can do, proofs/ proves it from what `demands` states and
+// proves. No code stands here.
