@@ -7,7 +7,7 @@ use crate::plans::{any_count, session_words, NO_PLAN};
 use crate::random::Random;
 use crate::sessions;
 use crate::state::{described, is_session, State};
-use nasturakh_tests::rules::{Description, Kind, Space, DONE, NOT_FOUND, STORED_FULL};
+use nasturakh_tests::rules::{Description, Kind, Space, Use, DONE, NOT_FOUND, STORED_FULL};
 
 /// Any parameters, any number of names.
 pub fn compare(r: &mut Random, tally: &mut Tally) -> Result<(), Differs> {
@@ -28,7 +28,8 @@ pub fn compare(r: &mut Random, tally: &mut Tally) -> Result<(), Differs> {
 /// Detail blocks and sections in use, by the file's words.
 fn in_use(p: &Description, file: &[u32]) -> (u128, u128) {
     let index = |j: usize| p.start(file[3 + j * (p.k() + 1) + p.k()]);
-    let details: u32 = (0..file[0] as usize).map(|j| file[index(j)]).sum();
+    let none = p.headed(Use::Index, 0);
+    let details: u32 = (0..file[0] as usize).map(|j| file[index(j)] - none).sum();
     (u128::from(details), u128::from(file[0]))
 }
 
