@@ -21,7 +21,7 @@
  *
  * BLOCK FORMS. In the first form, 1, word 0 of a block is its count, and nothing in a block says what it is. In the second, 2, word 0 is 4096
  * plus the count of an index block, 8192 plus the count of a detail block, and 12288 in a free block, whose link then is its word 1. A block
- * never used is 0 in both. All calls answer the same in both forms; no file is good in both, and nasturakh_turn makes one of the other.
+ * never used is 0 in both. Nothing else differs. No file is good in both, and nasturakh_turn makes one of the other.
  *
  * THREADS. Any thread may call, and any number at once, as long as no two calls share a slice: one call at a time on one session.
  *
