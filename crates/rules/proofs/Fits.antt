@@ -103,6 +103,11 @@ flush-fits v false e h = absurd (clash (sym h))
 pub flush-due : (v : Texts) (flag x : Bool) → require (flushOk v flag) badFile ≡ passed x → FlushFits v flag
 flush-due v flag x e = flush-fits v flag (required (flushOk v flag) badFile x e)
 
+-- the same of any way that was gone
+pub flush-of : (v : Texts) (flag : Bool) (way : Way) → WayFits v flag way → FlushFits v flag
+flush-of v flag Here h e = (h .current-least, h .current-most)
+flush-of v flag (By w) h e = h .1 e
+
 -- the buffered block, where a test of its keys was made and holds
 abbrev Tested : Texts → Bool → Bool → Type 0
 Tested v test here = here ≡ true → BufferFits v × (test ≡ true)

@@ -5,6 +5,7 @@ pub mod Rooms
 pub mod Kept
 pub mod DleteKept
 pub mod NsertKept
+pub mod Before
 pub mod XtendKept
 pub mod Computing
 pub mod Copies

@@ -222,6 +222,12 @@ module _ (v : Texts) (fit : Fitting (v .desc) (v .file) (v .buffer)) (flag : Boo
       let low = above-low key w in
       search (chain, stop-deed, room-deed, split-deed, both-deed) depth 16
 
+  -- of a path that a lookup came to
+  pub at-kept : (key : List ℕ) (w : Path) (d : Insert) → PathFits v w → FlushFits v flag
+      → insertAt v flag w (rowAbove (detailShape (v .desc)) key (textOf v (w .detail))) ≡ passed d → Passed (Kept v) (insertDone v flag work d)
+  unfolding insertAfter
+  at-kept key w d path due e = after-kept key (look-is.Missing w) (path, due) .holds d e .kept
+
   deed-kept : (key : List ℕ) → Passed Deed (insertDeed v flag key)
   unfolding insertDeed
   deed-kept key = search (chain, after-kept, looked-fits)

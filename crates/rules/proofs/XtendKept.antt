@@ -11,7 +11,7 @@ use Rattle.numbers.specs.Checked.{passed}
 use Rattle.words.specs.Words.{part}
 use Rattle.words.proofs.Parts.{length-part}
 use Rattle.table.specs.declared.Shape.{Shape}
-use Rattle.table.specs.Tables.{count, place, row}
+use Rattle.table.specs.Tables.{count, place, row, rowAbove}
 use Rattle.table.proofs.Places.{row-lt}
 use Rattle.table.proofs.Lengths.{length-inserted, length-replaced, length-laid}
 use Rattle.table.proofs.Kept.{count-replaced, part-replaced, part-inserted}
@@ -23,22 +23,30 @@ use Rattle.drum.proofs.Blocks.{length-textOf, start-after}
 use Rattle.drum.proofs.Written.{Moves, moves-append, writes-append}
 use Rattle.rules.specs.declared.Path.{Path}
 use Rattle.rules.specs.declared.Way.{Way}
+use Rattle.rules.specs.declared.Way.the-variants.{By}
 use Rattle.rules.specs.declared.Taken.{Taken}
 use Rattle.rules.specs.declared.Pair.{Pair}
+use Rattle.rules.specs.declared.Insert.{Insert}
+use Rattle.rules.specs.declared.Insert.the-variants as insert-is
 use Rattle.rules.specs.declared.Extend.{Extend}
 use Rattle.rules.specs.declared.Extend.the-variants as extend-is
 use Rattle.rules.specs.State.{keyIn}
+use Rattle.rules.specs.Paths.{pathTo}
 use Rattle.rules.specs.Lookup.{Reached, reached, textAt, stopping}
 use Rattle.rules.specs.Free.{takeOne, takeTwo, withFree}
-use Rattle.rules.specs.Xtend.{lastWay, lastOf, lastRoom, aloneDeed, startDeed, sectionDeed, newAt, newDeed, extendAt, extendDeed}
+use Rattle.rules.specs.Nsert.{insertAt}
+use Rattle.rules.specs.NsertDone.{insertDone}
+use Rattle.rules.specs.Xtend.{lastWay, lastOf, lastRoom, insertBefore, lookDeed, aloneDeed, startDeed, sectionDeed, newAt, newDeed, extendAt, extendDeed}
 use Rattle.rules.specs.XtendDone.{reading, oldText, endText, onesEntry, bounded, extended, newMoves, sectionMoves, newFile, sectionFile, extendDone, xtendSteps}
-use Rattle.rules.specs.Fits.{PathFits, WayFits}
+use Rattle.rules.specs.Fits.{PathFits, WayFits, Outside}
 use Rattle.numbers.proofs.Passed.{Passed, chain, by-passed}
-use Rattle.rules.proofs.Fits.{last-passed, lastOf-fits}
+use Rattle.rules.proofs.Fits.{path-fits, flush-of, last-passed, lastOf-fits}
 pub use Rattle.rules.proofs.Sizes.{ones-length}
 use Rattle.rules.proofs.Takes.{neither, one-new, two-new}
 use Rattle.rules.proofs.Rooms.{detail-read, index-base, index-end, index-row, master-base, master-row}
-use Rattle.rules.proofs.Kept.{Kept, Only, index-block, detail-block, reached-text, way-counts, reached-moves, reached-fits, reached-only, insert-length, replace-length, store-kept, land-kept, freed-length, freed-only, freed-count}
+use Rattle.rules.proofs.Kept.{Kept, Only, index-block, detail-block, reached-text, way-counts, reached-moves, reached-fits, reached-only, insert-length, replace-length, stop-kept, store-kept, land-kept, freed-length, freed-only, freed-count}
+use Rattle.rules.proofs.NsertKept.{at-kept}
+use Rattle.rules.proofs.Before.{insert-outside, listed-kept}
 
 -- a table of entries whose last bound becomes the key, and with a new entry behind it
 module _ (p : Description) (h : Shape) (stride : h .stride ≡ p .k + 1) (base : 1 ≤ h .base) (t key : List ℕ) (whole : length key ≡ p .k)
@@ -174,6 +182,10 @@ module _ (v : Texts) (fit : Fitting (v .desc) (v .file) (v .buffer)) (flag : Boo
   record Deed (d : Extend) : Type 0 where
     kept : Passed (Kept v) (extendDone v flag work d)
 
+  stopped : (n : ℕ) (way : Way) → WayFits v flag way → Passed (Kept v) (insertDone v flag work (insert-is.Stop way n))
+  unfolding insertDone
+  stopped n way reach = by-passed _ (stop-kept v fit flag work given n way reach)
+
   module _ (way : Way) (reach : WayFits v flag way) where
     stop-deed : (x n : ℕ) → Deed (extend-is.Stop way x n)
     unfolding extendDone stopping reading
@@ -249,13 +261,26 @@ module _ (v : Texts) (fit : Fitting (v .desc) (v .file) (v .buffer)) (flag : Boo
               ∙ freed-only v fit moves m (x .head) (x .lowest) b k o));
         }
 
+    -- NSERT's effect, under the whole call's list
+    inserted-deed : (w : Path) (d : Insert) → Outside d → Passed (Kept v) (insertDone v flag work d) → Deed (extend-is.Before way w d)
+    unfolding extendDone
+    inserted-deed w d out inner = record { kept = search (chain, listed-kept) }
+
+    turned-deed : (key : List ℕ) (w q : Path) (n : ℕ) → pathTo v key ≡ passed q → Deed (extend-is.Before way w (insert-is.Stop (By q) n))
+    turned-deed key w q n e = inserted-deed w (insert-is.Stop (By q) n) tt (stopped n (By q) (path-fits v _ _ key q e, flush-of v flag way reach))
+
+    before-deed : (key : List ℕ) (w q : Path) (d : Insert) → pathTo v key ≡ passed q
+        → insertAt v flag q (rowAbove (detailShape (v .desc)) key (textOf v (q .detail))) ≡ passed d → Deed (extend-is.Before way w d)
+    before-deed key w q d e f =
+        inserted-deed w d (insert-outside v flag q _ d f) (at-kept v fit flag work given key q d (path-fits v _ _ key q e) (flush-of v flag way reach) f)
+
   -- what the plan passes
   last-fits : (way : Way) → lastWay v flag ≡ passed way → WayFits v flag way
   last-fits way e = last-passed v flag .holds way e
 
   deed-kept : (key : List ℕ) → Passed Deed (extendDeed v flag key)
-  unfolding extendDeed extendAt aloneDeed lastRoom newDeed newAt startDeed sectionDeed
-  deed-kept key = search (chain, last-fits, stop-deed, room-alone, room-more, new-deed, both-deed) depth 20
+  unfolding extendDeed extendAt aloneDeed lookDeed insertBefore lastRoom newDeed newAt startDeed sectionDeed
+  deed-kept key = search (chain, last-fits, stop-deed, turned-deed, before-deed, room-alone, room-more, new-deed, both-deed) depth 24
 
   done-kept : (key : List ℕ) (d : Extend) → extendDeed v flag key ≡ passed d → Passed (Kept v) (extendDone v flag work d)
   done-kept key d e = deed-kept key .holds d e .kept

@@ -1,4 +1,4 @@
--- Document 01, XTEND: what it does.
+-- Document 01, XTEND, and document 02, "Extending after the last name was struck off": what it does.
 use Prim.Native.Nat.{ℕ, _+_, _-_}
 use mathlib.Core.Bool.{Bool, true, false, cond}
 use mathlib.Core.List.{List, [], _∷_, _++_}
@@ -15,11 +15,12 @@ use Rattle.rules.specs.declared.Path.{Path}
 use Rattle.rules.specs.declared.Way.{Way}
 use Rattle.rules.specs.declared.Taken.{Taken}
 use Rattle.rules.specs.declared.Extend.{Extend}
-use Rattle.rules.specs.declared.Extend.the-variants.{Bad, Stop, Room, New, Both}
+use Rattle.rules.specs.declared.Extend.the-variants.{Bad, Stop, Room, New, Both, Before}
 use Rattle.rules.specs.State.{State, Outcome, Effect, desc, texts, keyIn, recordIn}
 use Rattle.rules.specs.Checks.{keyedCall}
 use Rattle.rules.specs.Lookup.{Reached, reached, textAt, stopping, storing, landing}
 use Rattle.rules.specs.Free.{withFree}
+use Rattle.rules.specs.NsertDone.{insertDone}
 use Rattle.rules.specs.Xtend.{extendDeed}
 
 -- "read the index (1), buffer kept": index block x is read besides, where it is not 0 [C24]
@@ -85,6 +86,19 @@ sectionFile v flag way w work b x =
     extended (v .desc) (masterShape (v .desc)) (keyIn (v .desc) work) (x .block)
     (written (v .desc) (reached v flag way .moves ++ sectionMoves v way w work b (x .block)) (withFree (x .head) (x .lowest) (v .file)))
 
+-- what e does, under another list of transfers: that of the whole call [E2]
+unfoldable pub listed : List Transfer → Effect → Effect
+listed moves e = record {
+  number = e .number;
+  transfers = moves;
+  current = e .current;
+  flag = e .flag;
+  keyed = e .keyed;
+  file = e .file;
+  buffer = e .buffer;
+  work = e .work;
+}
+
 -- "insert before the end record, flag on"; "Buffer: the new block, flag off." [C26, C27, C29, C30]
 unfoldable pub extendDone : Texts → Bool → List ℕ → Extend → Checked Effect
 extendDone v flag work Bad = refused badFile
@@ -96,6 +110,12 @@ extendDone v flag work (New way w d n) =
     passed (landing (v .desc) n work (reached v flag way .moves ++ newMoves v way w work (d .block)) (d .block) (newFile v flag way w work d))
 extendDone v flag work (Both way w b x n) =
     passed (landing (v .desc) n work (reached v flag way .moves ++ sectionMoves v way w work b (x .block)) b (sectionFile v flag way w work b x))
+-- "the last block is reached as now and a lookup for the key follows": those transfers come first; a flagged buffer that was written on the way
+-- to the last block is not flagged any more [E2, E3, E4, E7]
+extendDone v flag work (Before way w d) = do
+  e ← insertDone v flag work d
+  then ← insertDone v (reached v flag way .flag) work d
+  passed (listed (reading (w .index) (reached v flag way) .moves ++ then .transfers) e)
 
 -- XTEND's steps, after the refusals [C23]
 unfoldable pub xtendSteps : Texts → Bool → List ℕ → Checked Effect

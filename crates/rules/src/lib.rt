@@ -81,13 +81,14 @@ pub enum Delete {
 }
 
 // What XTEND will do, with its number: stop, or store in the last block (the index block that was read for it, or 0); start a new block;
-// start a new index block and section too.
+// start a new index block and section too; or, from a last block with only the end record, do what NSERT does on another path, or stop there.
 pub enum Extend {
     Bad,
     Stop(Way, usize, u32),
     Room(Way, usize, u32),
     New(Way, Path, Taken, u32),
     Both(Way, Path, usize, Taken, u32),
+    Before(Way, Path, Insert),
 }
 
 // What a call works with beside the lent words: the description, the current block and the flag.

@@ -15,6 +15,8 @@ use Rattle.rules.specs.declared.Look.{Look}
 use Rattle.rules.specs.declared.Look.the-variants as look-is
 use Rattle.rules.specs.declared.Step.{Step}
 use Rattle.rules.specs.declared.Step.the-variants as step-is
+use Rattle.rules.specs.declared.Insert.{Insert}
+use Rattle.rules.specs.declared.Insert.the-variants as insert-is
 
 -- a path: its places are below the counts, its blocks are two of 1..N, and the counts are in range
 pub record PathFits (v : Texts) (w : Path) : Type 0 where
@@ -76,3 +78,12 @@ pub record TwoNew (v : Texts) (w : Path) (t : Pair) : Type 0 where
   pub two : t .detail ≡ t .index .block → ⊥
   pub head-most : t .index .head ≤ v .desc .n
   pub section : sections (v .file) < v .desc .control
+
+-- what NSERT will do, if nothing is bad, after a lookup that the buffer did not answer: all but the write of a flagged buffer is then the same, flag or no
+abbrev pub Outside : Insert → Type 0
+Outside insert-is.Bad = ⊥
+Outside (insert-is.Stop Here n) = ⊥
+Outside (insert-is.Stop (By w) n) = Unit {0}
+Outside (insert-is.Room w i n) = Unit {0}
+Outside (insert-is.Split w i d n) = Unit {0}
+Outside (insert-is.Both w i b x n) = Unit {0}
