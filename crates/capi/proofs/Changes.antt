@@ -2,10 +2,10 @@
 use Prim.Native.Nat.{ℕ, _≤_}
 use mathlib.Core.Path.{_≡_}
 use mathlib.Core.Bool.{Bool, true, false, cond}
-use mathlib.Core.List.{List, [], _∷_}
+use mathlib.Core.List.{List, [], _∷_, _++_}
 use native.Mathlib.Omega.{arith}
 use lib.Dec.{eqb, ltb}
-use lib.ListN.{length}
+use lib.ListN.{length, length-append}
 use Rattle.numbers.specs.Checked.{passed}
 use Rattle.numbers.proofs.Passed.{Passed, chain, by-passed}
 use Rattle.drum.specs.Blocks.{Transfer, Read, Texts, Fitting}
@@ -22,6 +22,8 @@ use Rattle.rules.specs.declared.Delete.{Delete}
 use Rattle.rules.specs.declared.Delete.the-variants as delete-is
 use Rattle.rules.specs.declared.Extend.{Extend}
 use Rattle.rules.specs.declared.Extend.the-variants as extend-is
+use Rattle.rules.specs.State.{Effect}
+use Rattle.rules.specs.Paths.{pathTo}
 use Rattle.rules.specs.Lookup.{look, reached, stopping, storing}
 use Rattle.rules.specs.Free.{takeOne, takeTwo}
 use Rattle.rules.specs.Fits.{PathFits, FlushFits, WayFits, LookFits}
@@ -30,8 +32,9 @@ use Rattle.rules.specs.NsertDone.{splitMoves, bothSplitMoves, halfOf, insertDon
 use Rattle.rules.specs.Dlete.{emptyDeed, emptyAt, deleteAfter, deleteDeed, emptyMoves, emptyAll, bothAll, emptying, deleteDone, dleteSteps}
 use Rattle.rules.specs.Xtend as x
 use Rattle.rules.specs.XtendDone as y
-use Rattle.rules.proofs.Fits.{look-passed, last-passed}
+use Rattle.rules.proofs.Fits.{path-fits, flush-of, look-passed, last-passed}
 use Rattle.rules.proofs.Takes.{one-new, two-new}
+use Rattle.rules.proofs.Before.{insert-few}
 use Rattle.capi.proofs.Modest.{Modest, way-brought, stop-modest, store-modest, land-modest, more-few}
 
 module _ (v : Texts) (fit : Fitting (v .desc) (v .file) (v .buffer)) (flag : Bool) (work : List ℕ) where
@@ -74,14 +77,16 @@ module _ (v : Texts) (fit : Fitting (v .desc) (v .file) (v .buffer)) (flag : Boo
   unfolding insertDone
   duplicate-deed way i n h = record { modest = by-passed _ (stop-modest v fit n work (reached v flag way) (way-brought v fit flag way (h .0))) }
 
+  -- at a place of the block that a lookup came to
+  insert-at : (w : Path) (i : ℕ) → PathFits v w → FlushFits v flag → Passed Inserts (insertAt v flag w i)
+  unfolding insertAt roomDeed splitDeed bothDeed
+  insert-at w i path due = search (chain, stop-deed, room-deed, split-deed, both-deed) depth 16
+
   insert-after : (key : List ℕ) (l : Look) → LookFits v flag l → Passed Inserts (insertAfter v flag key l)
-  unfolding insertAfter insertAt roomDeed splitDeed bothDeed
+  unfolding insertAfter
   insert-after key look-is.Bad h = search chain
   insert-after key (look-is.Found way i) h = by-passed _ (duplicate-deed way i _ h)
-  insert-after key (look-is.Missing w) h =
-      let p : PathFits v w = h .0 in
-      let f : FlushFits v flag = h .1 in
-      search (chain, stop-deed, room-deed, split-deed, both-deed) depth 16
+  insert-after key (look-is.Missing w) h = insert-at w _ (h .0) (h .1)
 
   insert-passed : (key : List ℕ) → Passed Inserts (insertDeed v flag key)
   unfolding insertDeed
@@ -170,12 +175,33 @@ module _ (v : Texts) (fit : Fitting (v .desc) (v .file) (v .buffer)) (flag : Boo
         let new = two-new v flag w t e z .detail .block in
         record { modest = by-passed _ (land-modest v fit n work _ _ _ (new .1) (more-few v fit flag way _ reach (omega arith))) }
 
+    -- the last block reached, and then what NSERT does
+    listed-modest : (n : ℕ) (d : Insert) (e t : Effect) → Passed (Modest v) (insertDone v flag work d) → insertDone v flag work d ≡ passed e
+        → insertDone v (reached v flag way .flag) work d ≡ passed t → Modest v (y.listed (y.reading n (reached v flag way) .moves ++ t .transfers) e)
+    unfolding y.listed y.reading
+    listed-modest n d e t inner h k =
+        let a = way-brought v fit flag way reach .few in
+        let r = index-read n in
+        let m = insert-few v work (reached v flag way .flag) d t k in
+        record { current-most = inner .holds e h .current-most; few = simp length-append (omega arith) }
+
+    extend-before : (w : Path) (d : Insert) → Passed (Modest v) (insertDone v flag work d) → Extends (extend-is.Before way w d)
+    unfolding y.extendDone
+    extend-before w d inner = record { modest = search (chain, listed-modest) }
+
+    extend-turned : (key : List ℕ) (w q : Path) (n : ℕ) → pathTo v key ≡ passed q → Extends (extend-is.Before way w (insert-is.Stop (By q) n))
+    extend-turned key w q n e = extend-before w _ (stop-deed q (path-fits v _ _ key q e) (flush-of v flag way reach) n .modest)
+
+    extend-inserted : (key : List ℕ) (w q : Path) (i : ℕ) (d : Insert) → pathTo v key ≡ passed q → insertAt v flag q i ≡ passed d
+        → Extends (extend-is.Before way w d)
+    extend-inserted key w q i d e f = extend-before w d (insert-at q i (path-fits v _ _ key q e) (flush-of v flag way reach) .holds d f .modest)
+
   last-fits : (way : Way) → x.lastWay v flag ≡ passed way → WayFits v flag way
   last-fits way e = last-passed v flag .holds way e
 
   extend-passed : (key : List ℕ) → Passed Extends (x.extendDeed v flag key)
-  unfolding x.extendDeed x.extendAt x.aloneDeed x.lastRoom x.newDeed x.newAt x.startDeed x.sectionDeed
-  extend-passed key = search (chain, last-fits, extend-stop, extend-room, extend-new, extend-both) depth 20
+  unfolding x.extendDeed x.extendAt x.aloneDeed x.lookDeed x.insertBefore x.lastRoom x.newDeed x.newAt x.startDeed x.sectionDeed
+  extend-passed key = search (chain, last-fits, extend-stop, extend-turned, extend-inserted, extend-room, extend-new, extend-both) depth 24
 
   extend-done : (key : List ℕ) (d : Extend) → x.extendDeed v flag key ≡ passed d → Passed (Modest v) (y.extendDone v flag work d)
   extend-done key d e = extend-passed key .holds d e .modest

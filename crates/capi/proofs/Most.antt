@@ -60,7 +60,7 @@ module _ (ws ps : List ℕ) where
 -- ---- a plan of 32-bit words costs less than 2^64 - 1
 
 module _ (p : Description) (ps : List ℕ) (small : (i : ℕ) → getD ps i 0 ≤ mostWord) where
-  shares-most : planShares (planIn ps) ≤ 107374182375
+  shares-most : planShares (planIn ps) ≤ 115964116965
   unfolding planShares planIn
   shares-most =
       let a = small 0 in

@@ -65,6 +65,17 @@ module _ (v : Texts) (flag : Bool) (w : Path) (path : PathFits v w) (flush : Flu
     at-passed = search (chain, stop-fits, room-fits, split-fits, both-fits) depth 16
 
 module _ (v : Texts) (flag : Bool) (key : List ℕ) where
+  -- the record goes to its place in the block of a path
+  place-passed : (w : Path) → PathFits v w → FlushFits v flag
+      → Passed (InsertFits v flag) (insertAt v flag w (rowAbove (detailShape (v .desc)) key (textOf v (w .detail))))
+  place-passed w path flush =
+      at-passed v flag w path flush (rowAbove (detailShape (v .desc)) key (textOf v (w .detail)))
+      (first-le (fits Over (detailShape (v .desc)) key (textOf v (w .detail))) (count (detailShape (v .desc)) (textOf v (w .detail))))
+
+  pub place-fits : (w : Path) (d : Insert) → PathFits v w → FlushFits v flag
+      → insertAt v flag w (rowAbove (detailShape (v .desc)) key (textOf v (w .detail))) ≡ passed d → InsertFits v flag d
+  place-fits w d path flush e = place-passed w path flush .holds d e
+
   looked : (l : Look) → look v flag key ≡ passed l → LookFits v flag l
   looked l e = look-passed v flag key .holds l e
 
@@ -72,9 +83,7 @@ module _ (v : Texts) (flag : Bool) (key : List ℕ) where
   unfolding insertAfter
   after-passed look-is.Bad h = by-refused badFile
   after-passed (look-is.Found way i) h = by-passed (Stop way notFound) (h .0)
-  after-passed (look-is.Missing w) h =
-      at-passed v flag w (h .0) (h .1) (rowAbove (detailShape (v .desc)) key (textOf v (w .detail)))
-      (first-le (fits Over (detailShape (v .desc)) key (textOf v (w .detail))) (count (detailShape (v .desc)) (textOf v (w .detail))))
+  after-passed (look-is.Missing w) h = place-passed w (h .0) (h .1)
 
   deed-passed : Passed (InsertFits v flag) (insertDeed v flag key)
   unfolding insertDeed

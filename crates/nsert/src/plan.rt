@@ -98,7 +98,7 @@ fn both_deed<'a>(at: Held, file: &'a [u32], buffer: &'a [u32], w: Path, i: usize
 }
 
 // The record goes to place i of the block at the end of the way.
-fn insert_at<'a>(at: Held, file: &'a [u32], buffer: &'a [u32], w: Path, i: usize) -> Insert
+pub fn insert_at<'a>(at: Held, file: &'a [u32], buffer: &'a [u32], w: Path, i: usize) -> Insert
     requires { ⌜
         Fitting (at .desc) (now file) (now buffer) × PathFits (seen (at .desc) (at .current) (now file) (now buffer)) w
         ⌝ }
@@ -114,7 +114,7 @@ fn insert_at<'a>(at: Held, file: &'a [u32], buffer: &'a [u32], w: Path, i: usize
 }
 
 // Where a record with this key goes in that block: before the first record above it.
-fn place_of<'a>(at: Held, file: &'a [u32], buffer: &'a [u32], key: &[u32], w: Path) -> usize
+pub fn place_of<'a>(at: Held, file: &'a [u32], buffer: &'a [u32], key: &[u32], w: Path) -> usize
     requires { ⌜
         Fitting (at .desc) (now file) (now buffer)
         × (at .desc .k ≤ length (now key))

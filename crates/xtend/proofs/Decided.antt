@@ -26,7 +26,7 @@ use Rattle.rules.specs.declared.Extend.{Extend}
 use Rattle.rules.specs.declared.Extend.the-variants as extend-is
 use Rattle.rules.specs.Lookup.{textAt}
 use Rattle.rules.specs.Free.{takeOne, takeTwo, storedNumber}
-use Rattle.rules.specs.Xtend.{lastWay, lastOf, lastRoom, notAboveBefore, aloneDeed, startDeed, sectionDeed, newAt, newDeed, extendAt, extendDeed}
+use Rattle.rules.specs.Xtend.{lastWay, lastOf, lastRoom, notAboveBefore, lookDeed, aloneDeed, startDeed, sectionDeed, newAt, newDeed, extendAt, extendDeed}
 use Rattle.rules.specs.Fits.{PathFits}
 use Rattle.lookup.specs.declared.Route.{Route}
 use Rattle.lookup.specs.declared.Route.the-variants as route-is
@@ -68,8 +68,8 @@ module _ (p : Description) (cur : ℕ) (f b : List ℕ) where
         room-is y e = rw (← en, ← eh, ← ex, e)
 
     -- it holds only the end record: the bound before it
-    module _ (key : List ℕ) (x : Route) (ex : asRoute x ≡ lastOf v way) where
-      pub alone-lost : x ≡ route-is.Bad → refused badFile ≡ aloneDeed v key way
+    module _ (flag : Bool) (key : List ℕ) (x : Route) (ex : asRoute x ≡ lastOf v way) where
+      pub alone-lost : x ≡ route-is.Bad → refused badFile ≡ aloneDeed v flag key way
       unfolding aloneDeed
       alone-lost e = rw (← ex, e)
 
@@ -78,11 +78,11 @@ module _ (p : Description) (cur : ℕ) (f b : List ℕ) where
         last-path h = last-fits v way h w (sym ex ∙ ap asRoute e) .path
 
         module _ (t : Bool) (et : t ≡ notAboveBefore v key w) where
-          pub alone-stop : t ≡ true → passed (extend-is.Stop way (w .index) outOfSequence) ≡ aloneDeed v key way
+          pub alone-look : (r : Extend) → t ≡ true → asExtend r ≡ lookDeed v flag key way w → asExtend r ≡ aloneDeed v flag key way
           unfolding aloneDeed
-          alone-stop y = rw (← ex, e, ← et, y)
+          alone-look r y h = rw (← ex, e, ← et, y) h
 
-          pub alone-room : (r : Extend) → t ≡ false → asExtend r ≡ lastRoom v way (w .index) → asExtend r ≡ aloneDeed v key way
+          pub alone-room : (r : Extend) → t ≡ false → asExtend r ≡ lastRoom v way (w .index) → asExtend r ≡ aloneDeed v flag key way
           unfolding aloneDeed
           alone-room r n h = rw (← ex, e, ← et, n) h
 
@@ -150,7 +150,7 @@ module _ (p : Description) (cur : ℕ) (f b : List ℕ) where
 
     -- its count, and the key of the record before the end record
     module _ (flag : Bool) (key : List ℕ) (n : ℕ) (en : n ≡ count (detailShape p) (textAt v way)) where
-      pub extend-alone : (r : Extend) → n ≡ 1 → asExtend r ≡ aloneDeed v key way → asExtend r ≡ extendAt v flag key way
+      pub extend-alone : (r : Extend) → n ≡ 1 → asExtend r ≡ aloneDeed v flag key way → asExtend r ≡ extendAt v flag key way
       unfolding extendAt
       extend-alone r e h = rw (← en, eq-eqb _ _ e) h
 

@@ -13,18 +13,22 @@ use Rattle.rules.specs.declared.Path.{Path}
 use Rattle.rules.specs.declared.Way.{Way}
 use Rattle.rules.specs.declared.Taken.{Taken}
 use Rattle.rules.specs.declared.Done.{Done}
+use Rattle.rules.specs.declared.Insert.{Insert}
 use Rattle.rules.specs.declared.Extend.{Extend}
-use Rattle.rules.specs.declared.Extend.the-variants.{Bad, Stop, Room, New, Both}
+use Rattle.rules.specs.declared.Extend.the-variants.{Bad, Stop, Room, New, Both, Before}
 use Rattle.rules.specs.State.{keyIn}
 use Rattle.rules.specs.Lookup.{reached, stopping, landing}
 use Rattle.rules.specs.Told.{gave, told}
 use Rattle.rules.specs.Fits.{WayFits}
+use Rattle.rules.specs.NsertDone.{insertDone}
 use Rattle.rules.specs.Xtend.{extendDeed}
 use Rattle.rules.specs.XtendDone.{reading, extendDone, xtendSteps}
+use Rattle.nsert.specs.Fits.{InsertFits}
 use Rattle.xtend.specs.Answers.{asExtend}
-use Rattle.xtend.specs.Fits.{LastTakes, NewFits, SectionFits, ExtendFits}
-use Rattle.xtend.specs.Steps.{besides, roomDone, starting, newAll, newLeft, sectionAll, sectionLeft}
+use Rattle.xtend.specs.Fits.{LastTakes, NewFits, SectionFits, BeforeFits, ExtendFits}
+use Rattle.xtend.specs.Steps.{besides, led, roomDone, starting, newAll, newLeft, sectionAll, sectionLeft}
 use Rattle.xtend.proofs.Stored.{stop-besides, room-besides}
+use Rattle.xtend.proofs.Led.{before-led}
 
 -- the buffer takes the new block
 landed : (v : Texts) (flag : Bool) (work : List ℕ) (number m b : ℕ) (moves : List Transfer) (f g t : List ℕ) (r : Done)
@@ -61,6 +65,9 @@ module _ (p : Description) (cur : ℕ) (f b : List ℕ) (flag : Bool) (deed : Ex
   pub both-fits : (way : Way) (w : Path) (c : ℕ) (x : Taken) (n : ℕ) → deed ≡ Both way w c x n → ExtendFits v flag deed
       → SectionFits v flag (starting way w (record { block = c; head = x .head; lowest = x .lowest })) (x .block)
   both-fits way w c x n e h = subst (ExtendFits v flag) e h
+
+  pub before-fits : (way : Way) (w : Path) (d : Insert) → deed ≡ Before way w d → ExtendFits v flag deed → InsertFits v flag d
+  before-fits way w d e h = subst (ExtendFits v flag) e h .insert
 
   -- the new block
   pub new-block : (way : Way) (w : Path) (d : Taken) (n : ℕ) → deed ≡ New way w d n → ExtendFits v flag deed → Block p (d .block)
@@ -103,6 +110,13 @@ module _ (p : Description) (cur : ℕ) (f b : List ℕ) (flag : Bool) (deed : Ex
       unfolding extendDone sectionAll sectionLeft
       told-both way w c x n m e er et em eg = rw e (landed v flag work n m c _ _ g t r er et em eg)
 
+      pub told-before : (way : Way) (w : Path) (d : Insert) (x : Done) → deed ≡ Before way w d → r ≡ led way x
+          → gave x g t work ≡ told v flag work (insertDone v flag work d) → ExtendFits v flag deed
+          → gave r g t work ≡ told v flag work (extendDone v flag work deed)
+      told-before way w d x e er h fits =
+          let q : BeforeFits v flag w d = subst (ExtendFits v flag) e fits in
+          rw e (ap (λ (z : Done). gave z g t work) er ∙ before-led v flag work way w d x g t (q .last .index-least) (q .outside) h)
+
 -- a plan that passed is done
 planned : (v : Texts) (flag : Bool) (work : List ℕ) (d : Extend) → extendDone v flag work d ≡ (asExtend d >>= extendDone v flag work)
 unfolding extendDone
@@ -111,6 +125,7 @@ planned v flag work (Stop way x n) = refl
 planned v flag work (Room way x n) = refl
 planned v flag work (New way w d n) = refl
 planned v flag work (Both way w b x n) = refl
+planned v flag work (Before way w d) = refl
 
 -- XTEND by its plan and by what was done
 pub xtend-told : (p : Description) (cur : ℕ) (f b : List ℕ) (flag : Bool) (work : List ℕ) (d : Extend) (r : Done) (g h : List ℕ)

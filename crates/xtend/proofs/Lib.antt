@@ -7,4 +7,6 @@ pub mod Entered
 pub mod Planned
 pub mod Ways
 pub mod Decided
+pub mod Behind
+pub mod Led
 pub mod Ended

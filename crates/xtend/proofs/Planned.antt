@@ -10,7 +10,7 @@ use lib.ListN.{length}
 use Rattle.numbers.specs.Numbers.{badFile}
 use Rattle.numbers.specs.Checked.{passed, require}
 use Rattle.words.specs.Words.{part}
-use Rattle.table.specs.Tables.{count}
+use Rattle.table.specs.Tables.{count, rowAbove}
 use Rattle.drum.specs.declared.Description.{Description}
 use Rattle.drum.specs.Params.{D, FD, FI, goodParams, detailShape, indexShape}
 use Rattle.drum.specs.Blocks.{Texts, Fitting, seen, textOf}
@@ -22,18 +22,23 @@ use Rattle.rules.specs.declared.Way.{Way}
 use Rattle.rules.specs.declared.Way.the-variants.{Here, By}
 use Rattle.rules.specs.declared.Taken.{Taken}
 use Rattle.rules.specs.declared.Pair.{Pair}
+use Rattle.rules.specs.declared.Insert.{Insert}
+use Rattle.rules.specs.declared.Insert.the-variants as insert-is
 use Rattle.rules.specs.declared.Extend.{Extend}
-use Rattle.rules.specs.declared.Extend.the-variants.{Bad, Stop, Room, New, Both}
-use Rattle.rules.specs.Paths.{lastPath}
+use Rattle.rules.specs.declared.Extend.the-variants.{Bad, Stop, Room, New, Both, Before}
+use Rattle.rules.specs.Paths.{pathTo, lastPath}
 use Rattle.rules.specs.Lookup.{textAt}
 use Rattle.rules.specs.Free.{takeOne, takeTwo}
-use Rattle.rules.specs.Xtend.{lastWay, lastOf, lastRoom, aloneDeed, startDeed, sectionDeed, newAt, newDeed, extendAt, extendDeed}
+use Rattle.rules.specs.Nsert.{insertAt}
+use Rattle.rules.specs.Xtend.{lastWay, lastOf, lastRoom, insertBefore, lookDeed, aloneDeed, startDeed, sectionDeed, newAt, newDeed, extendAt, extendDeed}
 use Rattle.rules.specs.Fits.{PathFits, WayFits}
 use Rattle.numbers.proofs.Passed.{Passed, chain, required}
-use Rattle.rules.proofs.Fits.{path-fits, last-passed}
+use Rattle.rules.proofs.Fits.{path-fits, flush-of, last-passed}
 use Rattle.rules.proofs.Takes.{one-new, two-new}
+use Rattle.rules.proofs.Before.{insert-outside}
+use Rattle.nsert.proofs.Fits.{place-fits}
 use Rattle.xtend.specs.Answers.{asExtend}
-use Rattle.xtend.specs.Fits.{AtFits, LastTakes, NewFits, SectionFits, ExtendFits}
+use Rattle.xtend.specs.Fits.{AtFits, LastTakes, NewFits, SectionFits, BeforeFits, ExtendFits}
 use Rattle.xtend.specs.Steps.{starting}
 
 -- the block at the end of a way
@@ -114,20 +119,40 @@ module _ (v : Texts) (good : goodParams (v .desc) ≡ true) (flag : Bool) (key :
   unfolding lastRoom
   room-passed way x r = search (chain, r) depth 12
 
-  alone-passed : (way : Way) → WayFits v flag way → count (detailShape (v .desc)) (textAt v way) ≡ 1 → Passed (ExtendFits v flag) (aloneDeed v key way)
+  -- it looks the key up, and does as NSERT does there
+  module _ (way : Way) (reached : WayFits v flag way) (w : Path) (last : PathFits v w) where
+    turned-fits : (q : Path) (n : ℕ) → pathTo v key ≡ passed q → BeforeFits v flag w (insert-is.Stop (By q) n)
+    turned-fits q n e = record { last = last; insert = (path-fits v _ _ key q e, flush-of v flag way reached); outside = tt }
+
+    before-fits : (q : Path) (d : Insert) → pathTo v key ≡ passed q
+        → insertAt v flag q (rowAbove (detailShape (v .desc)) key (textOf v (q .detail))) ≡ passed d → BeforeFits v flag w d
+    before-fits q d e i = record {
+      last = last;
+      insert = place-fits v flag key q d (path-fits v _ _ key q e) (flush-of v flag way reached) i;
+      outside = insert-outside v flag q _ d i;
+    }
+
+    look-passed : Passed (ExtendFits v flag) (lookDeed v flag key way w)
+    unfolding lookDeed insertBefore
+    look-passed = search (chain, turned-fits, before-fits) depth 16
+
+  alone-passed : (way : Way) → WayFits v flag way → count (detailShape (v .desc)) (textAt v way) ≡ 1 → Passed (ExtendFits v flag) (aloneDeed v flag key way)
   unfolding aloneDeed
   alone-passed way h e =
       let g = caps (v .desc) good in
       let f = g .facts in
       let r : LastTakes v flag way = record { reached = h; room = omega arith } in
       let room : (x : ℕ) → Passed (ExtendFits v flag) (lastRoom v way x) = λ x. room-passed way x r in
-      search (chain, h, room) depth 12
+      let look : (w : Path) → lastOf v way ≡ passed w → Passed (ExtendFits v flag) (lookDeed v flag key way w) =
+      λ w e. look-passed way h w (last-fits v way (way-at v flag way h) w e .path)
+      in
+      search (chain, room, look) depth 12
 
   at-passed : (way : Way) → WayFits v flag way → Passed (ExtendFits v flag) (extendAt v flag key way)
   unfolding extendAt newDeed
   at-passed way h = search (chain, h, alone, room, new) depth 12
     where
-      alone : eqb (count (detailShape (v .desc)) (textAt v way)) 1 ≡ true → Passed (ExtendFits v flag) (aloneDeed v key way)
+      alone : eqb (count (detailShape (v .desc)) (textAt v way)) 1 ≡ true → Passed (ExtendFits v flag) (aloneDeed v flag key way)
       alone e = alone-passed way h (eqb-true (count (detailShape (v .desc)) (textAt v way)) 1 e)
 
       room : ltb (count (detailShape (v .desc)) (textAt v way)) (FD (v .desc)) ≡ true → Passed (ExtendFits v flag) (lastRoom v way 0)
@@ -153,6 +178,7 @@ module _ (v : Texts) (good : goodParams (v .desc) ≡ true) (flag : Bool) (key :
   extend-fits (Room way x n) e = deed-passed .holds (Room way x n) (sym e)
   extend-fits (New way w d n) e = deed-passed .holds (New way w d n) (sym e)
   extend-fits (Both way w b x n) e = deed-passed .holds (Both way w b x n) (sym e)
+  extend-fits (Before way w d) e = deed-passed .holds (Before way w d) (sym e)
 
 -- and of the texts that the code has, with the key in its workspace
 pub plan-fits : (p : Description) (cur : ℕ) (f b : List ℕ) (flag : Bool) (work : List ℕ) (d : Extend)

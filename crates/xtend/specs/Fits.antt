@@ -10,13 +10,16 @@ use Rattle.drum.specs.declared.Description.{Description}
 use Rattle.drum.specs.Params.{D, I, goodParams, detailShape, indexShape}
 use Rattle.drum.specs.Blocks.{Texts, Fitting, textOf, blockAt, sections, Block}
 use Rattle.drum.specs.Inside.{HasBlock}
+use Rattle.rules.specs.declared.Path.{Path}
 use Rattle.rules.specs.declared.Way.{Way}
 use Rattle.rules.specs.declared.Way.the-variants.{Here, By}
+use Rattle.rules.specs.declared.Insert.{Insert}
 use Rattle.rules.specs.declared.Extend.{Extend}
 use Rattle.rules.specs.declared.Extend.the-variants as extend-is
 use Rattle.rules.specs.Lookup.{textAt}
-use Rattle.rules.specs.Fits.{PathFits, BufferFits, WayFits, New}
+use Rattle.rules.specs.Fits.{PathFits, BufferFits, WayFits, New, Outside}
 use Rattle.free.specs.Readied.{ReadyFits}
+use Rattle.nsert.specs.Fits.{InsertFits}
 use Rattle.xtend.specs.declared.deeds.Start.{Start}
 use Rattle.xtend.specs.Steps.{starting}
 
@@ -46,6 +49,12 @@ pub record SectionFits (v : Texts) (flag : Bool) (s : Start) (x : ℕ) : Type 0 
   pub index : Block (v .desc) x
   pub section : sections (v .file) < v .desc .control
 
+-- what a plan to do as NSERT does tells it: w is the path to the last block [E2, E4]
+pub record BeforeFits (v : Texts) (flag : Bool) (w : Path) (d : Insert) : Type 0 where
+  pub last : PathFits v w
+  pub insert : InsertFits v flag d
+  pub outside : Outside d
+
 -- what any plan of XTEND tells it [C23]
 abbrev pub ExtendFits : Texts → Bool → Extend → Type 0
 ExtendFits v flag extend-is.Bad = Unit {0}
@@ -54,6 +63,7 @@ ExtendFits v flag (extend-is.Room way x n) = LastTakes v flag way
 ExtendFits v flag (extend-is.New way w d n) = NewFits v flag (starting way w d)
 ExtendFits v flag (extend-is.Both way w b x n) =
     SectionFits v flag (starting way w (record { block = b; head = x .head; lowest = x .lowest })) (x .block)
+ExtendFits v flag (extend-is.Before way w d) = BeforeFits v flag w d
 
 -- the text of a detail block with n records or more
 pub record RecordsIn (p : Description) (t : List ℕ) (n : ℕ) : Type 0 where

@@ -5,19 +5,26 @@ use mathlib.Core.Bool.{Bool, cond}
 use mathlib.Core.List.{List, [], _∷_, _++_}
 use lib.Dec.{eqb}
 use lib.ListN.{length}
-use Rattle.numbers.specs.Checked.{Checked, passed}
+use Rattle.numbers.specs.Numbers.{badFile}
+use Rattle.numbers.specs.Checked.{Checked, passed, _>>=_, _>>_, require}
 use Rattle.table.specs.Tables.{count, row, inserted, replaced, laid}
 use Rattle.drum.specs.declared.Description.{Description}
 use Rattle.drum.specs.Params.{masterShape, indexShape, detailShape}
 use Rattle.drum.specs.Blocks.{Transfer, Read, Texts, blockAt, putBlock}
 use Rattle.rules.specs.declared.Path.{Path}
 use Rattle.rules.specs.declared.Way.{Way}
+use Rattle.rules.specs.declared.Way.the-variants.{Here, By}
 use Rattle.rules.specs.declared.Taken.{Taken}
 use Rattle.rules.specs.declared.Done.{Done}
+use Rattle.rules.specs.declared.Insert.{Insert}
+use Rattle.rules.specs.declared.Extend.{Extend}
+use Rattle.rules.specs.declared.Extend.the-variants.{Before}
 use Rattle.rules.specs.State.{Effect, recordIn}
 use Rattle.rules.specs.Lookup.{reached, textAt, storing}
+use Rattle.rules.specs.Xtend.{newApart}
 use Rattle.rules.specs.XtendDone.{onesEntry, bounded, extended, newMoves, sectionMoves, newFile, sectionFile}
 use Rattle.free.specs.Readied.{readyFile}
+use Rattle.nsert.specs.Answers.{asInsert}
 use Rattle.xtend.specs.declared.deeds.Start.{Start}
 
 -- "read the index (1), buffer kept": that read counted besides, where x is not 0 [C24]
@@ -29,6 +36,28 @@ besides x d = record {
   flag = d .flag;
   keyed = d .keyed;
 }
+
+-- how many transfers reach the last block and read its index block, a flagged buffer's write apart [C23, C24, E2]
+abbrev pub lead : Way → ℕ
+lead Here = 1
+lead (By w) = 3
+
+-- "the last block is reached as now and a lookup for the key follows": that counted besides [E2]
+unfoldable pub led : Way → Done → Done
+led way d = record {
+  number = d .number;
+  transfers = d .transfers + lead way;
+  current = d .current;
+  flag = d .flag;
+  keyed = d .keyed;
+}
+
+-- NSERT's plan as XTEND's, its new blocks tested [E4, B5]
+unfoldable pub besideLast : Way → Path → Insert → Checked Extend
+besideLast way w d = do
+  x ← asInsert d
+  require (newApart way w x) badFile
+  passed (Before way w x)
 
 -- "insert before the end record, flag on", no index block read besides [C26]
 unfoldable pub roomDone : Texts → Bool → List ℕ → Way → ℕ → Checked Effect

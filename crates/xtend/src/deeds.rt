@@ -2,6 +2,7 @@
 use super::index::extend_in;
 use super::index::start_section;
 use drum::Description;
+use nsert::deeds::do_nsert;
 use numbers::BAD_FILE;
 use rules::Done;
 use rules::Extend;
@@ -18,7 +19,7 @@ ghost use Rattle.rules.specs.Told.{FollowsAt};
 ghost use Rattle.rules.specs.XtendDone.{extendDone};
 ghost use Rattle.acts.specs.Reach.{seenBy};
 ghost use Rattle.xtend.specs.Fits.{EndIn, LastTakes, StartFits, NewFits, SectionFits, ExtendFits};
-ghost use Rattle.xtend.specs.Steps.{besides, roomDone, swapped, startedFile, newAll, newLeft, sectionAll, sectionLeft};
+ghost use Rattle.xtend.specs.Steps.{besides, lead, led, roomDone, swapped, startedFile, newAll, newLeft, sectionAll, sectionLeft};
 ghost use Rattle.words.specs.Slices.{was, became};
 
 // A block that the end record starts: the way to the last block, the path to it, and the new block.
@@ -39,6 +40,30 @@ fn count_read(d: Done, x: usize) -> Done
     Done {
         number: d.number,
         transfers: d.transfers + 1,
+        current: d.current,
+        flag: d.flag,
+        keyed: d.keyed,
+    }
+}
+
+// How many transfers reach the last block and read its index block, besides the write of a flagged buffer, which NSERT counts.
+fn lead_of(way: Way) -> usize
+    ensures { λ r. ⌜ r ≡ lead way ⌝ }
+{
+    match way {
+        Way::Here => 1,
+        Way::By(_) => 3,
+    }
+}
+
+// What NSERT did, with these counted besides.
+fn count_lead(d: Done, way: Way) -> Done
+    requires { ⌜ d .transfers ≤ 8 ⌝ }
+    ensures { λ r. ⌜ r ≡ led way d ⌝ }
+{
+    Done {
+        number: d.number,
+        transfers: d.transfers + lead_of(way),
         current: d.current,
         flag: d.flag,
         keyed: d.keyed,
@@ -198,5 +223,6 @@ pub fn do_xtend(deed: Extend, at: Held, file: &mut [u32], buffer: &mut [u32], wo
             let transfers = write_both(at, file, buffer, work, s, x.block);
             acts::land(p, file, buffer, b, n, transfers)
         }
+        Extend::Before(way, _, d) => count_lead(do_nsert(d, at, file, buffer, work), way),
     }
 }

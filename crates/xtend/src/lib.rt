@@ -1,4 +1,5 @@
 // XTEND: a record put in behind all others, before the end record. What it will do is planned first, from current texts alone; then it is done.
+mod before;
 mod deeds;
 mod index;
 mod last;

@@ -1,4 +1,5 @@
 // What XTEND will do, decided from current texts alone: every number on the way to the last block is checked, and nothing is stored.
+use super::before::look_deed;
 use super::last::Last;
 use super::last::count_at;
 use super::last::is_above;
@@ -69,13 +70,13 @@ fn alone_deed<'a>(at: Held, file: &'a [u32], buffer: &'a [u32], key: &[u32], way
         × (at .desc .k ≤ length (now key))
         × AtFits (seenBy at (now file) (now buffer)) way
         ⌝ }
-    ensures { λ r. ⌜ asExtend r ≡ aloneDeed (seenBy at (was file) (was buffer)) (part 0 (at .desc .k) (was key)) way ⌝ }
+    ensures { λ r. ⌜ asExtend r ≡ aloneDeed (seenBy at (was file) (was buffer)) (at .flag) (part 0 (at .desc .k) (was key)) way ⌝ }
 {
     let Route::To(w) = last_of(at, file, buffer, way) else {
         return Extend::Bad;
     };
     if not_above_before(at, file, buffer, key, w) {
-        return Extend::Stop(way, w.index, OUT_OF_SEQUENCE);
+        return look_deed(at, file, buffer, key, way, w);
     }
     last_room(at, file, buffer, way, w.index)
 }
