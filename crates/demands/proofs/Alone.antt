@@ -1,5 +1,6 @@
 -- "Demand 3 alone would pass the first": a routine that opens files and refuses all else meets demand 3, and demand 2 shuts it out. And demand 3 of `answer`.
 use Prim.Native.Nat.{ℕ, _+_, _-_, _*_}
+use mathlib.Core.Bool.{Bool, true, false, cond}
 use mathlib.Core.Path.{_≡_, refl, sym, ap}
 use mathlib.Core.List.{List, [], _∷_}
 use native.Mathlib.Omega.{arith}
@@ -8,7 +9,8 @@ use Rattle.drum.specs.Params.{FD, FI}
 use Rattle.rules.specs.State.{State, Outcome, desc, lent}
 use Rattle.rules.specs.Open.{create}
 use Rattle.rules.specs.Requests.{Request, opening, closing, seeking, advancing, inserting, deleting, updating, extending, lending, answer, tally}
-use Rattle.demands.specs.Formula.{hD, hI, detailBlocks, indexBlocks, newDetails, newIndexes, ofNsert, ofXtend, M, S, s, X, x, allTransfers, shares}
+use Rattle.demands.specs.Formula.{hD, hI, detailBlocks, indexBlocks, newDetails, newIndexes, startsLast, ofNsert, ofXtend, splitOff, startedNew, M}
+use Rattle.demands.specs.Formula.{S, s, X, x, allTransfers, shares}
 use Rattle.demands.specs.Formula.{Within}
 use Rattle.demands.specs.Routines.{tallyBy, MBy, SBy, sBy, XBy, xBy, transfersBy, sharesBy, WithinBy, Demand3By}
 use Rattle.demands.specs.WrongRoutines.{RefusesEverything, refuser, PassesAlone}
@@ -34,66 +36,55 @@ no-transfers st (deleting w) = refl
 no-transfers st (updating w) = refl
 no-transfers st (extending w) = refl
 
-none-less : (n : ℕ) → n - n ≡ 0
-none-less n = omega arith
+-- it puts no block in use, split off or started: m counts the blocks in use of a kind
+none-either : (t : Bool) (n : ℕ) → n ≡ 0 → (cond t 0 n ≡ 0) × (cond t n 0 ≡ 0)
+none-either true n e = (refl, e)
+none-either false n e = (e, refl)
 
-no-splits : (st : State) (q : Request) → ofNsert (newDetails st (refuser st q)) q ≡ 0
-unfolding refuser ofNsert newDetails detailBlocks lending
-no-splits st (opening marks) = refl
-no-splits st closing = refl
-no-splits st (seeking w) = refl
-no-splits st (advancing w) = refl
-no-splits st (inserting w) = none-less (detailBlocks st)
-no-splits st (deleting w) = refl
-no-splits st (updating w) = refl
-no-splits st (extending w) = refl
+module _ (m : State → ℕ) (same : (w : List ℕ) (st : State) → m (lending w st) ≡ m st) where
+  no-splits : (st : State) (q : Request) → splitOff (m (refuser st q .after) - m st) q st (refuser st q .after) ≡ 0
+  unfolding refuser splitOff ofNsert ofXtend
+  no-splits st (opening marks) = refl
+  no-splits st closing = refl
+  no-splits st (seeking w) = refl
+  no-splits st (advancing w) = refl
+  no-splits st (inserting w) = omega (arith, same w st)
+  no-splits st (deleting w) = refl
+  no-splits st (updating w) = refl
+  no-splits st (extending w) = omega (arith, none-either (startsLast st (lending w st)) (m (lending w st) - m st) (omega (arith, same w st)) .0)
 
-no-index-splits : (st : State) (q : Request) → ofNsert (newIndexes st (refuser st q)) q ≡ 0
-unfolding refuser ofNsert newIndexes indexBlocks lending
-no-index-splits st (opening marks) = refl
-no-index-splits st closing = refl
-no-index-splits st (seeking w) = refl
-no-index-splits st (advancing w) = refl
-no-index-splits st (inserting w) = none-less (indexBlocks st)
-no-index-splits st (deleting w) = refl
-no-index-splits st (updating w) = refl
-no-index-splits st (extending w) = refl
+  no-starts : (st : State) (q : Request) → startedNew (m (refuser st q .after) - m st) q st (refuser st q .after) ≡ 0
+  unfolding refuser startedNew ofXtend
+  no-starts st (opening marks) = refl
+  no-starts st closing = refl
+  no-starts st (seeking w) = refl
+  no-starts st (advancing w) = refl
+  no-starts st (inserting w) = refl
+  no-starts st (deleting w) = refl
+  no-starts st (updating w) = refl
+  no-starts st (extending w) = none-either (startsLast st (lending w st)) (m (lending w st) - m st) (omega (arith, same w st)) .1
 
-no-starts : (st : State) (q : Request) → ofXtend (newDetails st (refuser st q)) q ≡ 0
-unfolding refuser ofXtend newDetails detailBlocks lending
-no-starts st (opening marks) = refl
-no-starts st closing = refl
-no-starts st (seeking w) = refl
-no-starts st (advancing w) = refl
-no-starts st (inserting w) = refl
-no-starts st (deleting w) = refl
-no-starts st (updating w) = refl
-no-starts st (extending w) = none-less (detailBlocks st)
+details-lent : (w : List ℕ) (st : State) → detailBlocks (lending w st) ≡ detailBlocks st
+unfolding detailBlocks lending
+details-lent w st = refl
 
-no-index-starts : (st : State) (q : Request) → ofXtend (newIndexes st (refuser st q)) q ≡ 0
-unfolding refuser ofXtend newIndexes indexBlocks lending
-no-index-starts st (opening marks) = refl
-no-index-starts st closing = refl
-no-index-starts st (seeking w) = refl
-no-index-starts st (advancing w) = refl
-no-index-starts st (inserting w) = refl
-no-index-starts st (deleting w) = refl
-no-index-starts st (updating w) = refl
-no-index-starts st (extending w) = none-less (indexBlocks st)
+indexes-lent : (w : List ℕ) (st : State) → indexBlocks (lending w st) ≡ indexBlocks st
+unfolding indexBlocks lending
+indexes-lent w st = refl
 
 times-none : (n m : ℕ) → m ≡ 0 → n * m ≡ 0
 times-none n m e = rw e (omega arith)
 
 refuser-within : Demand3By refuser
-unfolding MBy SBy sBy XBy xBy transfersBy sharesBy
+unfolding MBy SBy sBy XBy xBy transfersBy sharesBy newDetails newIndexes
 refuser-within session f buffer work marks c o qs = within (refuser (lent session (create (session .desc) f .file) buffer work) (opening marks) .after)
   where
     within : (st : State) → WithinBy refuser st qs
     within st =
-        let S : SBy refuser st qs ≡ 0 = tally-none _ no-splits qs st in
-        let s : sBy refuser st qs ≡ 0 = tally-none _ no-index-splits qs st in
-        let X : XBy refuser st qs ≡ 0 = tally-none _ no-starts qs st in
-        let x : xBy refuser st qs ≡ 0 = tally-none _ no-index-starts qs st in
+        let S : SBy refuser st qs ≡ 0 = tally-none _ (no-splits detailBlocks details-lent) qs st in
+        let s : sBy refuser st qs ≡ 0 = tally-none _ (no-splits indexBlocks indexes-lent) qs st in
+        let X : XBy refuser st qs ≡ 0 = tally-none _ (no-starts detailBlocks details-lent) qs st in
+        let x : xBy refuser st qs ≡ 0 = tally-none _ (no-starts indexBlocks indexes-lent) qs st in
         let t : transfersBy refuser st qs ≡ 0 = tally-none _ no-transfers qs st in
         record {
           splits = omega (arith, times-none (hD (desc st)) (SBy refuser st qs) S);

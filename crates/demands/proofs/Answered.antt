@@ -22,7 +22,7 @@ use Rattle.rules.specs.Requests.{seeking, advancing, inserting, deleting, updat
 use Rattle.demands.specs.History.{withKey}
 use Rattle.demands.specs.Promises.{putBack}
 use Rattle.demands.specs.Contents.{recordsAbove, Contains}
-use Rattle.demands.specs.Answers.{Lent, Keyed, ordinary, recordsFrom, abovePosition, lastBlock, Sought, Met, Inserted, Advanced, Extended, Answered}
+use Rattle.demands.specs.Answers.{Lent, Keyed, ordinary, recordsFrom, abovePosition, Sought, Met, Inserted, Advanced, Extended, Answered}
 use Rattle.demands.specs.Answers.{CallAnswers}
 use Rattle.demands.proofs.Scene.{Scene, scene}
 use Rattle.demands.proofs.Lists.{All, all-right, last-same}
@@ -119,7 +119,7 @@ module _ (st : State) (ss : List Section) (f : Free) (h : Sound st ss f) where
           (in-two (answer st (inserting w) .number) (stored-one p (halfCount (D p) k) (taken (taken f)) (answer st (inserting w) .number) (g .number-is)))
 
   extend-answers : (w : List ℕ) → Keyed st (p .wpr) w
-      → Extended p (lastBlock (leavesIn ss)) (ordinary p (recordsFrom p (keyIn p w) rows)) (answer st (extending w))
+      → Extended (ordinary p (recordsFrom p (keyIn p w) rows)) (answer st (extending w))
   unfolding answer lending
   extend-answers w a = xtend-answers (lending w st) ss f (readied (p .wpr) w a)
 
@@ -165,19 +165,16 @@ module _ (st : State) (ss : List Section) (f : Free) (h : Sound st ss f) where
               let q : (cs ≡ []) × (r ≡ endRecord p) = ends o cs refl in
               rw (o, q .0) (g .number-is ∙ ap (λ (t : Bool). cond t atEnd done) o, z ∙ q .1)
 
-  answered : Answered st rows (lastBlock (leavesIn ss))
+  answered : Answered st rows
   answered = record { seek = seek-answers; adv = adv-answers; nsert = nsert-answers; dlete = dlete-answers; updat = updat-answers; xtend = extend-answers }
 
-pub sound-answers : (st : State) (ss : List Section) (f : Free) → Sound st ss f → (rows : List (List ℕ)) → (c : Contains st rows)
-    → Answered st rows (lastBlock (lay.leavesOf (c .tree)))
+pub sound-answers : (st : State) (ss : List Section) (f : Free) → Sound st ss f → (rows : List (List ℕ)) → Contains st rows → Answered st rows
 sound-answers st ss f h rows c =
     let t : Tree = record { sections = ss; chain = f .chain; lowest = f .lowest } in
     let one : t ≡ c .tree = one-tree (desc st) (putBack st) t (c .tree) (h .kept .good) (flushed-stands st ss f h) (c .held) in
     let is : recordsIn (leavesIn ss) ≡ rows = ap lay.contents one ∙ c .are in
-    let end : lastBlock (leavesIn ss) ≡ lastBlock (lay.leavesOf (c .tree)) = ap lastBlock (ap lay.leavesOf one) in
-    subst (λ (x : List (List ℕ)). Answered st x (lastBlock (lay.leavesOf (c .tree)))) is
-    (subst (Answered st (recordsIn (leavesIn ss))) end (answered st ss f h))
+    subst (Answered st) is (answered st ss f h)
 
 pub call-answers : CallAnswers
 call-answers =
-    after-open (λ (st : State). (rows : List (List ℕ)) → (c : Contains st rows) → Answered st rows (lastBlock (lay.leavesOf (c .tree)))) sound-answers
+    after-open (λ (st : State). (rows : List (List ℕ)) → Contains st rows → Answered st rows) sound-answers

@@ -101,6 +101,20 @@ pub gives-more : (st : State) (ss : List Section) (o : Outcome) (n few most : �
 gives-more st ss o n few most rows brought ss′ f′ g l =
     record { number-is = g .number-is; most-is = omega (arith, g .most-is); desc-is = g .desc-is; sound = g .sound; contents-is = g .contents-is; grows = g .grows }
 
+-- another call that answers the same and leaves the same, with so many transfers more at most
+pub gives-as : (st : State) (ss : List Section) (o o₁ : Outcome) (more : ℕ) → o₁ .number ≡ o .number → o₁ .after ≡ o .after
+    → length (o₁ .transfers) ≤ length (o .transfers) + more
+    → {n most : ℕ} {rows : List (List ℕ)} {brought : Growth} {ss′ : List Section} {f′ : Free}
+    → Gives st ss o n most rows brought ss′ f′ → Gives st ss o₁ n (most + more) rows brought ss′ f′
+gives-as st ss o o₁ more en ea el {n} {most} {rows} {brought} {ss′} {f′} g = record {
+  number-is = en ∙ g .number-is;
+  most-is = omega (arith, g .most-is);
+  desc-is = ap desc ea ∙ g .desc-is;
+  sound = subst (λ (z : State). Sound z ss′ f′) (sym ea) (g .sound);
+  contents-is = g .contents-is;
+  grows = g .grows;
+}
+
 module _ (st : State) (ss : List Section) (f : Free) (h : Sound st ss f) (o : st .session .opened ≡ true) (e : Effect) (ss′ : List Section) (f′ : Free)
     (k : KeptTree (seen (desc st) (e .current) (e .file) (e .buffer)) (e .flag) ss′ f′) (most : ℕ) (cost : length (e .transfers) ≤ most)
     (brought : Growth) (grew : Grows (desc st) ss ss′ brought) where

@@ -126,6 +126,10 @@ insert-bad v flag key look-is.Bad = search refusing
 insert-bad v flag key (look-is.Found way i) = search refusing
 insert-bad v flag key (look-is.Missing w) = search (refusing, one-bad, two-bad, stored-bad) depth 14
 
+insert-at-bad : (v : Texts) (flag : Bool) (w : Path) (i : ℕ) → Refuses IsBad (insertAt v flag w i)
+unfolding insertAt roomDeed splitDeed bothDeed
+insert-at-bad v flag w i = search (refusing, one-bad, two-bad, stored-bad) depth 14
+
 nsert-deed-bad : (v : Texts) (flag : Bool) (key : List ℕ) → Refuses IsBad (insertDeed v flag key)
 unfolding insertDeed
 nsert-deed-bad v flag key = search (refusing, look-bad, insert-bad)
@@ -177,8 +181,8 @@ lastOf-bad v Here = search (refusing, path-bad)
 lastOf-bad v (By w) = search refusing
 
 extend-bad : (v : Texts) (flag : Bool) (key : List ℕ) (way : Way) → Refuses IsBad (x.extendAt v flag key way)
-unfolding x.extendAt x.aloneDeed x.lastRoom x.newDeed x.newAt x.startDeed x.sectionDeed
-extend-bad v flag key way = search (refusing, lastOf-bad, one-bad, two-bad, stored-bad) depth 16
+unfolding x.extendAt x.aloneDeed x.lookDeed x.insertBefore x.lastRoom x.newDeed x.newAt x.startDeed x.sectionDeed
+extend-bad v flag key way = search (refusing, lastOf-bad, path-bad, insert-at-bad, one-bad, two-bad, stored-bad) depth 18
 
 xtend-deed-bad : (v : Texts) (flag : Bool) (key : List ℕ) → Refuses IsBad (x.extendDeed v flag key)
 unfolding x.extendDeed
@@ -191,6 +195,7 @@ extend-done-bad v flag work (extend-is.Stop way i n) = search refusing
 extend-done-bad v flag work (extend-is.Room way i n) = search refusing
 extend-done-bad v flag work (extend-is.New way w d n) = search refusing
 extend-done-bad v flag work (extend-is.Both way w b d n) = search refusing
+extend-done-bad v flag work (extend-is.Before way w d) = search (refusing, insert-done-bad)
 
 pub xtend-bad : (v : Texts) (flag : Bool) (work : List ℕ) → Refuses IsBad (xtendSteps v flag work)
 unfolding xtendSteps

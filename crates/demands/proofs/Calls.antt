@@ -1,5 +1,5 @@
 -- Each call of a session from a sound state, open or closed, refused or not: what it leaves, what it put in or took out, and what it brought.
-use Prim.Native.Nat.{ℕ, suc, _≤_}
+use Prim.Native.Nat.{ℕ, suc, _≤_, _<_}
 use mathlib.Core.Bool.{Bool, true, false, cond, not, _&&_, _||_}
 use mathlib.Core.Logic.{inl, inr}
 use mathlib.Core.Path.{_≡_, refl, sym, ap, _∙_, subst}
@@ -14,7 +14,7 @@ use Rattle.numbers.specs.Checked.{Checked, passed, refused, _>>_, require}
 use Rattle.words.specs.Keys.{val}
 use Rattle.words.proofs.Keys.{clash}
 use Rattle.drum.specs.declared.Description.{Description}
-use Rattle.drum.specs.Params.{D}
+use Rattle.drum.specs.Params.{D, I}
 use Rattle.drum.proofs.Good.{good-facts}
 use Rattle.layout.specs.Inspect.{layoutMarks}
 use Rattle.layout.specs.Tree.{Section, Tree}
@@ -41,10 +41,14 @@ use Rattle.demands.proofs.Answers.{Ready, key-of, work-key, sizes-pass,
 use Rattle.demands.proofs.Stores.{asc-rows}
 use Rattle.demands.proofs.Frees.{freeCount, taken, storedWith}
 use Rattle.demands.proofs.Seek.{close-right, SeekRight, seek-right, UpdatRight, updat-right}
-use Rattle.demands.proofs.NsertRight.{Nserted, duplicate, room, split, both, no-room, nsert-right}
+use Rattle.demands.proofs.NsertRight.{rowsWith, halves, Stores, Nserted, duplicate, room, split, both, no-room, nsert-right}
 use Rattle.demands.proofs.DleteRight.{DleteRight, dlete-right}
 use Rattle.demands.proofs.AdvRight.{adv-right}
-use Rattle.demands.proofs.Last.{Last}
+use Rattle.demands.proofs.Last.{ending, Last}
+use Rattle.demands.proofs.Places.{lo}
+use Rattle.demands.proofs.Steps.{withRows}
+use Rattle.demands.proofs.Between.{leavesBefore}
+use Rattle.demands.proofs.LastBlock.{LastTells, with-last, both-last, record-last, start-last, section-last}
 use Rattle.demands.proofs.XtendRight as x
 use Rattle.demands.proofs.History.{happen, happened, ins-upd}
 use Rattle.demands.proofs.Growth.{Growth, nothing, aRecord, aSplit, bothSplit, aStart, bothStart, Grows, grow-none}
@@ -52,7 +56,7 @@ use Rattle.demands.specs.Filled.{disturbs, Filled}
 use Rattle.demands.specs.Reuse.{some-left, Deletes}
 use Rattle.demands.proofs.Moves.{treeIn, kept, none-taken}
 use Rattle.demands.proofs.Filling.{room-blocks, split-blocks, both-blocks, record-blocks, start-blocks, start-both-blocks, record-filled, start-filled}
-use Rattle.demands.proofs.Filling.{start-both-filled}
+use Rattle.demands.proofs.Filling.{start-both-filled, not-filled}
 use Rattle.demands.proofs.Stepped.{Brought, Moved, most, numbered, KeyOf, Stepped}
 use Rattle.demands.proofs.Step.{Gate, stopped, ready, gate, opened-sound, lent-sound}
 
@@ -104,6 +108,17 @@ moved-none (deleting w) o t = go (eqb (o .number) done)
 moved-none (updating w) o t = kept t
 moved-none (extending w) o t = none-taken t
 
+-- and its last leaf
+tells-none : (q : Request) (ss : List Section) → LastTells q nothing ss ss
+tells-none (opening marks) ss = tt
+tells-none closing ss = tt
+tells-none (seeking w) ss = tt
+tells-none (advancing w) ss = tt
+tells-none (inserting w) ss = tt
+tells-none (deleting w) ss = tt
+tells-none (updating w) ss = tt
+tells-none (extending w) ss = inl (refl, refl, refl)
+
 module _ (st : State) (ss : List Section) (f : Free) (q : Request) where
   open Scene (scene st ss) using (p, K)
 
@@ -114,10 +129,10 @@ module _ (st : State) (ss : List Section) (f : Free) (q : Request) where
   rows = recordsIn (leavesIn ss)
 
   step-by : (ss′ : List Section) (f′ : Free) → Sound (o .after) ss′ f′ → desc (o .after) ≡ p → (es : List history.Event) → eventOf p q o ≡ es
-      → recordsIn (leavesIn ss′) ≡ happened K (map numbered es) rows → All (KeyOf p) es → (g : Growth) → Grows p ss ss′ g → Brought q o g
+      → recordsIn (leavesIn ss′) ≡ happened K (map numbered es) rows → All (KeyOf p) es → (g : Growth) → Grows p ss ss′ g → Brought q o g → LastTells q g ss ss′
       → length (o .transfers) ≤ most q g
       → Moved q o g (treeIn ss f) (treeIn ss′ f′) → (disturbs q o ≡ 0 → Filled p (treeIn ss f) → Filled p (treeIn ss′ f′)) → Stepped st ss f q
-  step-by ss′ f′ s d es e c k g gr b cost mv fl = record {
+  step-by ss′ f′ s d es e c k g gr b lt cost mv fl = record {
     sections = ss′;
     free = f′;
     sound = s;
@@ -127,6 +142,7 @@ module _ (st : State) (ss : List Section) (f : Free) (q : Request) where
     growth = g;
     grows = gr;
     brought = b;
+    last = lt;
     cost = cost;
     moved = mv;
     filled = fl;
@@ -138,22 +154,23 @@ module _ (st : State) (ss : List Section) (f : Free) (q : Request) where
 
   step-calm : Sound (o .after) ss f → desc (o .after) ≡ p → Calm → length (o .transfers) ≤ share q → Stepped st ss f q
   unfolding happened
-  step-calm s d a cost = step-by ss f s d [] (a .0) refl tt nothing (grow-none p ss) (a .1) (omega arith) (moved-none q o (treeIn ss f)) (λ e h. h)
+  step-calm s d a cost = step-by ss f s d [] (a .0) refl tt nothing (grow-none p ss) (a .1) (tells-none q ss) (omega arith) (moved-none q o (treeIn ss f))
+      (λ e h. h)
 
   -- the record w was put in, or the record with the key x taken out
   step-stored : (ss′ : List Section) (f′ : Free) → Sound (o .after) ss′ f′ → desc (o .after) ≡ p → (w : List ℕ) → eventOf p q o ≡ history.stored w ∷ []
       → recordsIn (leavesIn ss′) ≡ upd K w rows
-      → Key p (keyIn p w) → (g : Growth) → Grows p ss ss′ g → Brought q o g → length (o .transfers) ≤ most q g
+      → Key p (keyIn p w) → (g : Growth) → Grows p ss ss′ g → Brought q o g → LastTells q g ss ss′ → length (o .transfers) ≤ most q g
       → Moved q o g (treeIn ss f) (treeIn ss′ f′) → (disturbs q o ≡ 0 → Filled p (treeIn ss f) → Filled p (treeIn ss′ f′)) → Stepped st ss f q
   unfolding happened happen numbered
-  step-stored ss′ f′ s d w e c k g gr b cost mv fl = step-by ss′ f′ s d (history.stored w ∷ []) e c (k, tt) g gr b cost mv fl
+  step-stored ss′ f′ s d w e c k g gr b lt cost mv fl = step-by ss′ f′ s d (history.stored w ∷ []) e c (k, tt) g gr b lt cost mv fl
 
   step-removed : (ss′ : List Section) (f′ : Free) → Sound (o .after) ss′ f′ → desc (o .after) ≡ p → (y : List ℕ) → eventOf p q o ≡ history.removed y ∷ []
       → recordsIn (leavesIn ss′) ≡ del K (val y) rows
-      → Key p y → Grows p ss ss′ nothing → Brought q o nothing → length (o .transfers) ≤ share q
+      → Key p y → Grows p ss ss′ nothing → Brought q o nothing → LastTells q nothing ss ss′ → length (o .transfers) ≤ share q
       → Moved q o nothing (treeIn ss f) (treeIn ss′ f′) → (disturbs q o ≡ 0 → Filled p (treeIn ss f) → Filled p (treeIn ss′ f′)) → Stepped st ss f q
   unfolding happened happen numbered
-  step-removed ss′ f′ s d y e c k gr b cost mv fl = step-by ss′ f′ s d (history.removed y ∷ []) e c (k, tt) nothing gr b (omega arith) mv fl
+  step-removed ss′ f′ s d y e c k gr b lt cost mv fl = step-by ss′ f′ s d (history.removed y ∷ []) e c (k, tt) nothing gr b lt (omega arith) mv fl
 
 -- an NSERT or a DLETE that is accepted does not leave a filled tree alone
 disturbed : {A : Type 0} (o : Outcome) → 1 ≡ acceptedBy o → acceptedBy o ≡ 0 → A
@@ -170,7 +187,7 @@ calm st ss f (inserting w) e = (ap (λ (t : Bool). cond t (history.stored w ∷ 
 calm st ss f (deleting w) e = (ap (λ (t : Bool). cond t (history.removed (keyIn (desc st) w) ∷ []) []) (not-done (answer st (deleting w) .number) e), refl)
 calm st ss f (updating w) e = (ap (λ (t : Bool). cond t (history.stored w ∷ []) []) e, refl)
 calm st ss f (extending w) e =
-    (ap (λ (t : Bool). cond t (history.stored w ∷ []) []) e, (accepts (answer st (extending w)) false e, refl, refl, omega arith, omega arith))
+    (ap (λ (t : Bool). cond t (history.stored w ∷ []) []) e, (accepts (answer st (extending w)) false e, omega arith, omega arith))
 
 -- ---- refusals: the state is as it was given
 
@@ -229,12 +246,12 @@ module _ (st : State) (ss : List Section) (f : Free) where
         → Key (desc st) (keyIn (desc st) w)
         → (n m : ℕ) (b : Growth) {ss′ : List Section} {f′ : Free}
         → Gives (lending w st) ss (answer st q) n m (ins (key (desc st .k)) w (recordsIn (leavesIn ss))) b ss′ f′ → accepted n ≡ true
-        → (1 ≡ acceptedBy (answer st q) → Brought q (answer st q) b) → m ≤ most q b
+        → (1 ≡ acceptedBy (answer st q) → Brought q (answer st q) b) → LastTells q b ss ss′ → m ≤ most q b
         → Moved q (answer st q) b (treeIn ss f) (treeIn ss′ f′)
         → (1 ≡ acceptedBy (answer st q) → disturbs q (answer st q) ≡ 0 → Filled (desc st) (treeIn ss f) → Filled (desc st) (treeIn ss′ f′))
         → Stepped st ss f q
     unfolding lending
-    put-step q w e k n m b {ss′} {f′} g a br l mv fl =
+    put-step q w e k n m b {ss′} {f′} g a br lt l mv fl =
         let K : List ℕ → ℕ = key (desc st .k) in
         let rows : List (List ℕ) = recordsIn (leavesIn ss) in
         let end : ℕ = reach (desc st .k) 0 (leavesIn ss′) in
@@ -246,7 +263,7 @@ module _ (st : State) (ss : List Section) (f : Free) where
         step-stored st ss f q ss′ f′ (g .sound) (g .desc-is) w (e ∙ ap (λ (t : Bool). cond t (history.stored w ∷ []) []) ok)
         (g .contents-is ∙ ins-upd K (K w) _ rows (asc-rows (desc st) _ _ ss f (h .kept .holds))
         (omega (arith, work-key (desc st) w, k .below, h .kept .holds .top)) w refl none)
-        k b (g .grows) (br (accepts (answer st q) true ok)) (omega (arith, g .most-is)) mv (fl (accepts (answer st q) true ok))
+        k b (g .grows) (br (accepts (answer st q) true ok)) lt (omega (arith, g .most-is)) mv (fl (accepts (answer st q) true ok))
 
     updat-step : (w : List ℕ) → Gate (lending w st) ss f (lent-sound w st ss f h) (desc st .wpr) → Stepped st ss f (updating w)
     unfolding answer lending updat share eventOf
@@ -259,7 +276,7 @@ module _ (st : State) (ss : List Section) (f : Free) where
         go (inr (y, e, ss′, f′, g, mv, fl)) =
             step-stored st ss f (updating w) ss′ f′ (g .sound) (g .desc-is) w (ap (λ (m : ℕ). cond (accepted m) (history.stored w ∷ []) []) (g .number-is))
             (g .contents-is)
-            (ready-key w (desc st .wpr) key-fits (omega arith) r) nothing (g .grows) refl (g .most-is) mv (λ e. fl)
+            (ready-key w (desc st .wpr) key-fits (omega arith) r) nothing (g .grows) refl tt (g .most-is) mv (λ e. fl)
 
     dlete-step : (w : List ℕ) → Gate (lending w st) ss f (lent-sound w st ss f h) (desc st .k) → Stepped st ss f (deleting w)
     unfolding answer lending dlete share eventOf disturbs
@@ -272,7 +289,7 @@ module _ (st : State) (ss : List Section) (f : Free) where
         go (inr (y, e, ss′, f′, g, mv)) =
             step-removed st ss f (deleting w) ss′ f′ (g .sound) (g .desc-is) (keyIn (desc st) w)
             (ap (λ (m : ℕ). cond (eqb m done) (history.removed (keyIn (desc st) w) ∷ []) []) (g .number-is)) (g .contents-is)
-            (ready-key w (desc st .k) (omega arith) key-fits r) (g .grows) refl (g .most-is)
+            (ready-key w (desc st .k) (omega arith) key-fits r) (g .grows) refl tt (g .most-is)
             (subst (λ (n : ℕ). Deletes (eqb n done) (treeIn ss f) (treeIn ss′ f′)) (sym (g .number-is)) mv)
             (disturbed _ (accepts (answer st (deleting w)) true (ap accepted (g .number-is))))
 
@@ -289,13 +306,13 @@ module _ (st : State) (ss : List Section) (f : Free) where
         go (duplicate y e g) = none-step (inserting w) w notFound 3 g refl (omega arith)
         go (no-room e a i l m g) = none-step (inserting w) w noRoom 3 g refl (omega arith)
         go (room e a i l g) =
-            put-step (inserting w) w refl kw _ 3 aRecord g (stored-accepted (desc st) _ f) (λ b. (b, refl, refl)) (omega arith)
+            put-step (inserting w) w refl kw _ 3 aRecord g (stored-accepted (desc st) _ f) (λ b. (b, refl, refl)) tt (omega arith)
             (room-blocks (lending w st) ss f a i) (disturbed _)
         go (split e a i l m s k q g) =
-            put-step (inserting w) w refl kw _ 7 aSplit g (stored-accepted (desc st) _ (taken f)) (λ b. (b, refl, refl)) (omega arith)
+            put-step (inserting w) w refl kw _ 7 aSplit g (stored-accepted (desc st) _ (taken f)) (λ b. (b, refl, refl)) tt (omega arith)
             (split-blocks (lending w st) ss f a i) (disturbed _)
         go (both e a i l m s c k q g) =
-            put-step (inserting w) w refl kw _ 8 bothSplit g (stored-accepted (desc st) _ (taken (taken f))) (λ b. (b, refl, refl)) (omega arith)
+            put-step (inserting w) w refl kw _ 8 bothSplit g (stored-accepted (desc st) _ (taken (taken f))) (λ b. (b, refl, refl)) tt (omega arith)
             (both-blocks (lending w st) ss f a i m (good-facts (desc st) (h .kept .good) .two-entries)) (disturbed _)
 
     xtend-step : (w : List ℕ) → Gate (lending w st) ss f (lent-sound w st ss f h) (desc st .wpr) → Stepped st ss f (extending w)
@@ -307,21 +324,44 @@ module _ (st : State) (ss : List Section) (f : Free) where
         kw : Key (desc st) (keyIn (desc st) w)
         kw = ready-key w (desc st .wpr) key-fits (omega arith) r
 
+        -- as NSERT: not into a file that XTEND alone has filled
+        as-nsert : (L : Last (texts (lending w st)) (st .session .flag) ss f) → L .front ≡ []
+            → val (keyIn (desc st) w) < lo (desc st) (ending (L .before) (L .index) (L .low) (L .leaf))
+            → Asc (key (desc st .k)) 0 (recordsIn (leavesBefore (ending (L .before) (L .index) (L .low) (L .leaf)))) (val (keyIn (desc st) w))
+            → Stores (xtend (lending w st)) 3 (lending w st) ss f → Stepped st ss f (extending w)
+        as-nsert L e l s (duplicate y u g) = none-step (extending w) w notFound 6 g refl (omega arith)
+        as-nsert L e l s (no-room u a i v m g) = none-step (extending w) w noRoom 6 g refl (omega arith)
+        as-nsert L e l s (room u a i v g) =
+            put-step (extending w) w refl kw _ 6 aRecord g (stored-accepted (desc st) _ f) (λ b. (b, omega arith, omega arith))
+            (inl (refl, refl, with-last (lending w st) ss f L l a i (withRows (desc st) (a .leaf) (rowsWith (lending w st) a) ∷ []))) (omega arith)
+            (room-blocks (lending w st) ss f a i) (λ c d z. absurd (not-filled (lending w st) ss f L z l s (h .kept .holds .sized)))
+        as-nsert L e l s (split u a i v m o k q g) =
+            put-step (extending w) w refl kw _ 10 aSplit g (stored-accepted (desc st) _ (taken f)) (λ b. (b, omega arith, omega arith))
+            (inl (refl, refl, with-last (lending w st) ss f L l a i (halves (lending w st) f a))) (omega arith)
+            (split-blocks (lending w st) ss f a i) (λ c d z. absurd (not-filled (lending w st) ss f L z l s (h .kept .holds .sized)))
+        as-nsert L e l s (both u a i v m o c k q g) =
+            let two : 2 ≤ I (desc st) = good-facts (desc st) (h .kept .good) .two-entries in
+            put-step (extending w) w refl kw _ 11 bothSplit g (stored-accepted (desc st) _ (taken (taken f))) (λ b. (b, omega arith, omega arith))
+            (inl (refl, refl, both-last (lending w st) ss f L l a i m two)) (omega arith)
+            (both-blocks (lending w st) ss f a i m two) (λ c d z. absurd (not-filled (lending w st) ss f L z l s (h .kept .holds .sized)))
+
         go : (L : Last (texts (lending w st)) (st .session .flag) ss f) → x.Xtended (lending w st) ss f L → Stepped st ss f (extending w)
         go L (x.too-low fr y e l g) = none-step (extending w) w outOfSequence 4 g refl (omega arith)
-        go L (x.too-low-alone e l g) = none-step (extending w) w outOfSequence 4 g refl (omega arith)
-        go L (x.no-room l m g) = none-step (extending w) w noRoom 4 g refl (omega arith)
-        go L (x.room l g) =
-            put-step (extending w) w refl kw _ 4 aRecord g (stored-accepted (desc st) _ f) (λ b. (b, refl, refl, omega arith, omega arith)) (omega arith)
+        go L (x.too-low-alone e l hs g) = none-step (extending w) w outOfSequence 6 g refl (omega arith)
+        go L (x.before e l s n a y) = as-nsert L e l s y
+        go L (x.no-room iq l m g) = none-step (extending w) w noRoom 4 g refl (omega arith)
+        go L (x.room iq l g) =
+            put-step (extending w) w refl kw _ 4 aRecord g (stored-accepted (desc st) _ f) (λ b. (b, omega arith, omega arith))
+            (inl (refl, refl, record-last (lending w st) ss f L)) (omega arith)
             (record-blocks (lending w st) ss f L) (λ e d h. record-filled (lending w st) ss f L h l)
-        go L (x.started l m s g) =
-            put-step (extending w) w refl kw _ 7 aStart g (stored-accepted (desc st) _ (taken f)) (λ b. (b, refl, refl, omega arith, omega arith))
-            (omega arith)
+        go L (x.started iq l m s g) =
+            put-step (extending w) w refl kw _ 7 aStart g (stored-accepted (desc st) _ (taken f)) (λ b. (b, omega arith, omega arith))
+            (inr (refl, refl, start-last (lending w st) ss f L (h .kept .holds) s)) (omega arith)
             (start-blocks (lending w st) ss f L)
             (λ e d z. start-filled (lending w st) ss f L z (h .kept .good) l m)
-        go L (x.both l m s c g) =
-            put-step (extending w) w refl kw _ 8 bothStart g (stored-accepted (desc st) _ (taken (taken f))) (λ b. (b, refl, refl, omega arith, omega arith))
-            (omega arith)
+        go L (x.both iq l m s c g) =
+            put-step (extending w) w refl kw _ 8 bothStart g (stored-accepted (desc st) _ (taken (taken f))) (λ b. (b, omega arith, omega arith))
+            (inr (refl, refl, section-last (lending w st) ss f L (h .kept .holds) (omega arith))) (omega arith)
             (start-both-blocks (lending w st) ss f L)
             (λ e d z. start-both-filled (lending w st) ss f L z (h .kept .good) l m)
 

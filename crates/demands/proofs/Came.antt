@@ -53,6 +53,10 @@ pub data Rested (bar : ℕ → Bool) (st : State) : Outcome → Type 0 where
 abbrev pub SoughtKey : State → Reached → Type 0
 SoughtKey st = LookedUp (texts st) (st .session .flag) (keyIn (desc st) (st .work))
 
+-- what XTEND reaches
+abbrev pub SoughtLast : State → Reached → Type 0
+SoughtLast st = Lasted (texts st) (st .session .flag) (keyIn (desc st) (st .work))
+
 -- by the call
 abbrev pub CallResult : Request → State → Outcome → Type 0
 CallResult (opening marks) st = Rested openRefuses st
@@ -62,7 +66,7 @@ CallResult (advancing w) st = CameTo plainRefuses advances Never st
 CallResult (inserting w) st = CameTo keyedRefuses inserts (SoughtKey st) st
 CallResult (deleting w) st = CameTo keyedRefuses finds (SoughtKey st) st
 CallResult (updating w) st = CameTo keyedRefuses finds (SoughtKey st) st
-CallResult (extending w) st = CameTo keyedRefuses extends (Lasted (texts st) (st .session .flag)) st
+CallResult (extending w) st = CameTo keyedRefuses extends (SoughtLast st) st
 
 module _ (st : State) where
   module _ (ok : ℕ → Bool) (R : Reached → Type 0) where

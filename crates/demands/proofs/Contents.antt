@@ -25,23 +25,18 @@ use Rattle.demands.proofs.Lists.{All}
 use Rattle.demands.proofs.Order.{Asc, asc-wide, below, from, below-above, from-above, upd, del}
 use Rattle.demands.proofs.Trees.{leavesIn, recordsIn, key, reach}
 use Rattle.demands.proofs.Holds.{Free, RowOk}
-use Rattle.demands.proofs.Records.{key-long}
+use Rattle.demands.proofs.Records.{key-long, rows-of, rows-ok, row-under}
 use Rattle.demands.proofs.Sound.{Key, Sound}
 use Rattle.demands.proofs.Stores.{asc-rows}
 use Rattle.demands.proofs.History.{happened, happen}
 use Rattle.demands.proofs.Stepped.{numbered, KeyOf, Stepped}
 use Rattle.demands.proofs.Calls.{stepped}
-use Rattle.demands.proofs.Standing.{rows-of, rows-ok}
 use Rattle.demands.proofs.Opens.{flushed-stands}
 use Rattle.demands.proofs.Promised.{after-open}
 
 module _ (p : Description) (kr : p .k ≤ p .wpr) (w : List ℕ) (kw : Key p w) where
   abbrev K : List ℕ → ℕ
   K = key (p .k)
-
-  pub row-under : (r : List ℕ) → RowOk p r → keyLt (keyIn p r) w ≡ ltb (K r) (val w)
-  unfolding key part
-  row-under r ok = let l = key-long p kr r ok in keyLt-val (keyIn p r) w (l .1) (kw .wide) (l .0 ∙ sym (kw .long))
 
   row-over : (r : List ℕ) → RowOk p r → keyLt w (keyIn p r) ≡ ltb (val w) (K r)
   unfolding key part
@@ -53,9 +48,9 @@ module _ (p : Description) (kr : p .k ≤ p .wpr) (w : List ℕ) (kw : Key p w) 
   below-is lo (r ∷ rows) hi h ok = go (decLt (K r) (val w)) (below-is (suc (K r)) rows hi (h .1) (ok .1))
     where
       go : Dec (K r < val w) → recordsBelow p w rows ≡ below K (val w) rows → recordsBelow p w (r ∷ rows) ≡ below K (val w) (r ∷ rows)
-      go (yes l) e = rw (row-under r (ok .0), lt-ltb (K r) (val w) l) (ap (λ (z : List (List ℕ)). r ∷ z) e)
+      go (yes l) e = rw (row-under p kr w kw r (ok .0), lt-ltb (K r) (val w) l) (ap (λ (z : List (List ℕ)). r ∷ z) e)
       go (no n) e =
-          rw (row-under r (ok .0), le-ltb (K r) (val w) (omega arith))
+          rw (row-under p kr w kw r (ok .0), le-ltb (K r) (val w) (omega arith))
           (e ∙ below-above K (val w) rows hi (asc-wide K (suc (K r)) (val w) rows hi hi (h .1) (omega arith) (omega arith)))
 
   pub above-is : (lo : ℕ) (rows : List (List ℕ)) (hi : ℕ) → Asc K lo rows hi → All (RowOk p) rows → recordsAbove p w rows ≡ from K (suc (val w)) rows

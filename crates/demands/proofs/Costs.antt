@@ -2,8 +2,8 @@
 -- starts, and 1 for each new index block.
 use Prim.Native.Nat.{ℕ, _+_, _*_, _≤_}
 use mathlib.Core.Bool.{Bool, true, false, cond}
-use mathlib.Core.Path.{_≡_, refl, sym, subst}
-use mathlib.Core.List.{List, [], _∷_, _++_}
+use mathlib.Core.Path.{_≡_, refl, sym, ap, subst}
+use mathlib.Core.List.{List, [], _∷_, _++_, append-nil}
 use native.Mathlib.Omega.{arith}
 use lib.Dec.{eqb}
 use lib.ListN.{length, length-append}
@@ -11,7 +11,7 @@ use Rattle.numbers.specs.Checked.{Checked, passed, refused, _>>=_, _>>_}
 use Rattle.drum.specs.Blocks.{Transfer, Read, Texts}
 use Rattle.layout.specs.Inspect.{layoutMarks}
 use Rattle.rules.specs.declared.Way.{Way}
-use Rattle.rules.specs.declared.Way.the-variants.{By}
+use Rattle.rules.specs.declared.Way.the-variants.{Here, By}
 use Rattle.rules.specs.declared.Look.{Look}
 use Rattle.rules.specs.declared.Look.the-variants as look-is
 use Rattle.rules.specs.declared.Step.{Step}
@@ -24,20 +24,20 @@ use Rattle.rules.specs.declared.Extend.{Extend}
 use Rattle.rules.specs.declared.Extend.the-variants as extend-is
 use Rattle.rules.specs.State.{State, Outcome, Effect, desc, texts, keyIn, positionKey, settle, outcome}
 use Rattle.rules.specs.Checks.{sizesOk, workOk, isOpen, keyOk}
-use Rattle.rules.specs.Lookup.{reached, look, stopping, storing, landing}
+use Rattle.rules.specs.Lookup.{flushMoves, bringing, reached, look, stopping, storing, landing}
 use Rattle.rules.specs.Seek.{giving, seekDone, seekSteps, seek, updatDone, updatSteps, updat}
 use Rattle.rules.specs.Adv.{advStep, advGiving, advReads, advDone, advSteps, adv}
 use Rattle.rules.specs.NsertDone.{splitMoves, insertDone, nsert}
 use Rattle.rules.specs.NsertDone as nsert-is
 use Rattle.rules.specs.Dlete.{deleteDeed, emptyMoves, emptyAll, bothAll, emptying, deleteDone, dleteSteps, dlete}
-use Rattle.rules.specs.XtendDone.{reading, newMoves, extendDone, xtend}
+use Rattle.rules.specs.XtendDone.{reading, newMoves, listed, extendDone, xtend}
 use Rattle.rules.specs.XtendDone as xtend-is
 use Rattle.rules.specs.Close.{closeChecks, closeDone, close}
 use Rattle.rules.specs.Open.{openChecks, openLayout, openDone, openFile}
 use Rattle.rules.specs.Requests.{Request, opening, closing, seeking, advancing, inserting, deleting, updating, extending, lending, answer}
 use Rattle.numbers.proofs.Passed.{Passed, by-refused, by-bind, by-then, by-passed}
 use Rattle.demands.specs.Formula.{share}
-use Rattle.demands.specs.Counted.{detailSplits, indexSplits, detailStarts, indexStarts, nsertPlan, xtendPlan, ofPlan, splitsOf, startsOf}
+use Rattle.demands.specs.Counted.{detailSplits, indexSplits, detailStarts, indexStarts, extendSplits, nsertPlan, xtendPlan, ofPlan, splitsOf, startsOf}
 use Rattle.rules.proofs.Sizes.{flush-few, bring-few, way-few, adv-few}
 use Rattle.demands.proofs.Counted.{as-planned}
 
@@ -49,6 +49,20 @@ Most n e = length (e .transfers) ≤ n
 -- transfers behind those of the way to a block
 way-more : (v : Texts) (flag : Bool) (way : Way) (ms : List Transfer) → length (reached v flag way .moves ++ ms) ≤ 3 + length ms
 way-more v flag way ms = rw (length-append (reached v flag way .moves) ms) (omega (arith, way-few v flag way))
+
+-- with the buffer not flagged, one less
+way-calm : (v : Texts) (way : Way) (ms : List Transfer) → length (reached v false way .moves ++ ms) ≤ 2 + length ms
+unfolding reached bringing flushMoves
+way-calm v Here ms = omega arith
+way-calm v (By w) ms = omega arith
+
+insert-calm : (v : Texts) (work : List ℕ) (d : Insert) → Passed (Most (2 + 4 * detailSplits d + indexSplits d)) (insertDone v false work d)
+unfolding insertDone landing stopping storing detailSplits indexSplits splitMoves nsert-is.bothSplitMoves
+insert-calm v work insert-is.Bad = by-refused _
+insert-calm v work (insert-is.Stop way n) = by-passed _ (omega (arith, way-calm v way [], ap length (append-nil (reached v false way .moves))))
+insert-calm v work (insert-is.Room w i n) = by-passed _ (omega (arith, way-calm v (By w) [], ap length (append-nil (reached v false (By w) .moves))))
+insert-calm v work (insert-is.Split w i d n) = by-passed _ (way-calm v (By w) _)
+insert-calm v work (insert-is.Both w i b x n) = by-passed _ (way-calm v (By w) _)
 
 module _ (v : Texts) (flag : Bool) (work : List ℕ) where
   stop-most : (way : Way) (n : ℕ) → Most 3 (stopping n work (reached v flag way))
@@ -101,11 +115,30 @@ module _ (v : Texts) (flag : Bool) (work : List ℕ) where
       go true = omega arith
       go false = omega arith
 
-  extend-most : (d : Extend) → Passed (Most (4 + 4 * detailStarts d + indexStarts d)) (extendDone v flag work d)
-  unfolding extendDone stopping storing landing detailStarts indexStarts newMoves xtend-is.sectionMoves
+  -- after the last block was reached, what NSERT does
+  before-most : (way : Way) (x : ℕ) (d : Insert) (t : Effect) → insertDone v (reached v flag way .flag) work d ≡ passed t
+      → length (reading x (reached v flag way) .moves ++ t .transfers) ≤ 6 + 4 * detailSplits d + indexSplits d
+  unfolding reached bringing
+  before-most Here x d t e = rw (length-append (reading x (reached v flag Here) .moves) (t .transfers)) (omega (arith, here, insert-most d .holds t e))
+    where
+      one : (b : Bool) → length (cond b [] (Read x ∷ [])) ≤ 1
+      one true = omega arith
+      one false = omega arith
+
+      here : length (reading x (reached v flag Here) .moves) ≤ 1
+      here = unfold reading in one (eqb x 0)
+  before-most (By w) x d t e =
+      rw (length-append (reading x (reached v flag (By w)) .moves) (t .transfers)) (omega (arith, read-most x (By w), insert-calm v work d .holds t e))
+
+  extend-most : (d : Extend)
+      → Passed (Most (6 + 4 * (detailStarts d + extendSplits detailSplits d) + (indexStarts d + extendSplits indexSplits d))) (extendDone v flag work d)
+  unfolding extendDone stopping storing landing listed detailStarts indexStarts extendSplits newMoves xtend-is.sectionMoves
   extend-most extend-is.Bad = by-refused _
-  extend-most (extend-is.Stop way x n) = by-passed _ (read-most x way)
-  extend-most (extend-is.Room way x n) = by-passed _ (read-most x way)
+  extend-most (extend-is.Stop way x n) = by-passed _ (omega (arith, read-most x way))
+  extend-most (extend-is.Room way x n) = by-passed _ (omega (arith, read-most x way))
+  extend-most (extend-is.Before way w d) =
+      by-bind (insertDone v flag work d) _ λ e h. by-bind (insertDone v (reached v flag way .flag) work d) _ λ t k. by-passed _ (omega
+      (arith, before-most way (w .index) d t k))
   extend-most (extend-is.New way w d n) = by-passed _ (omega (arith, way-more v flag way (newMoves v way w work (d .block))))
   extend-most (extend-is.Both way w b x n) = by-passed _ (omega (arith, way-more v flag way (xtend-is.sectionMoves v way w work b (x .block))))
 
@@ -134,7 +167,8 @@ abbrev insert-bound : Checked Insert → ℕ
 insert-bound c = 3 + 4 * ofPlan detailSplits c + ofPlan indexSplits c
 
 abbrev extend-bound : Checked Extend → ℕ
-extend-bound c = 4 + 4 * ofPlan detailStarts c + ofPlan indexStarts c
+extend-bound c =
+    6 + 4 * (ofPlan detailStarts c + ofPlan (extendSplits detailSplits) c) + (ofPlan indexStarts c + ofPlan (extendSplits indexSplits) c)
 
 module _ (st : State) where
   abbrev v : Texts
@@ -222,7 +256,7 @@ call-cost st (deleting w) = dlete-cost (lending w st)
 call-cost st (updating w) = updat-cost (lending w st)
 call-cost st (extending w) = omega (arith, xtend-cost (lending w st))
 
--- a plan splits one block of each kind at most, and starts one of each at most
+-- a plan splits or starts one block of each kind at most
 splits-few : (c : Checked Insert) → 4 * ofPlan detailSplits c + ofPlan indexSplits c ≤ 5
 unfolding ofPlan detailSplits indexSplits
 splits-few (refused n) = omega arith
@@ -232,14 +266,16 @@ splits-few (passed (insert-is.Room w i n)) = omega arith
 splits-few (passed (insert-is.Split w i d n)) = omega arith
 splits-few (passed (insert-is.Both w i b x n)) = omega arith
 
-starts-few : (c : Checked Extend) → 4 * ofPlan detailStarts c + ofPlan indexStarts c ≤ 5
-unfolding ofPlan detailStarts indexStarts
+starts-few : (c : Checked Extend)
+    → 4 * (ofPlan detailStarts c + ofPlan (extendSplits detailSplits) c) + (ofPlan indexStarts c + ofPlan (extendSplits indexSplits) c) ≤ 5
+unfolding ofPlan detailStarts indexStarts extendSplits
 starts-few (refused n) = omega arith
 starts-few (passed extend-is.Bad) = omega arith
 starts-few (passed (extend-is.Stop way x n)) = omega arith
 starts-few (passed (extend-is.Room way x n)) = omega arith
 starts-few (passed (extend-is.New way w d n)) = omega arith
 starts-few (passed (extend-is.Both way w b x n)) = omega arith
+starts-few (passed (extend-is.Before way w d)) = unfold ofPlan in omega (arith, splits-few (passed d))
 
 -- so at most 16, whatever the state and the request
 pub few-transfers : (st : State) (q : Request) → length (answer st q .transfers) ≤ 16

@@ -1,6 +1,7 @@
 -- S, s, X and x are what the calls plan.
 use Prim.Native.Nat.{ℕ, suc, _+_, _-_}
-use mathlib.Core.Bool.{Bool}
+use mathlib.Core.Bool.{Bool, true, false, cond}
+use mathlib.Core.Logic.{inl, inr}
 use mathlib.Core.Path.{_≡_, refl, sym, ap, ap₂, _∙_}
 use mathlib.Core.List.{List, [], _∷_}
 use native.Mathlib.Omega.{arith}
@@ -8,7 +9,8 @@ use Rattle.numbers.specs.Checked.{Checked, passed, refused, _>>=_, _>>_}
 use Rattle.rules.specs.declared.Insert.{Insert}
 use Rattle.rules.specs.declared.Extend.{Extend}
 use Rattle.rules.specs.State.{State, Outcome, Effect, desc, texts, keyIn, settle, unchanged}
-use Rattle.rules.specs.Checks.{sizesOk, workOk, isOpen, keyOk}
+use Rattle.rules.specs.Checks.{sizesOk, workOk, isOpen, keyOk, keyedCall}
+use Rattle.drum.proofs.Good.{good-facts}
 use Rattle.rules.specs.Nsert.{insertDeed}
 use Rattle.rules.specs.NsertDone.{nsertSteps, nsert}
 use Rattle.rules.specs.Xtend.{extendDeed}
@@ -16,14 +18,17 @@ use Rattle.rules.specs.XtendDone.{xtendSteps, xtend}
 use Rattle.rules.specs.Open.{openFile}
 use Rattle.rules.specs.Requests.{Request, opening, closing, seeking, advancing, inserting, deleting, updating, extending, lending, answer, tally}
 use Rattle.layout.specs.Tree.{Section}
-use Rattle.demands.specs.Formula.{detailBlocks, indexBlocks, newDetails, newIndexes, ofNsert, ofXtend, S, s, X, x}
+use Rattle.demands.specs.Formula.{detailBlocks, indexBlocks, newDetails, newIndexes, startsLast, ofNsert, ofXtend, splitOff, startedNew, S, s, X, x}
 use Rattle.demands.specs.Growing.{stores}
-use Rattle.demands.specs.Counted.{detailSplits, indexSplits, detailStarts, indexStarts, nsertPlan, xtendPlan, ofPlan, splitsOf, startsOf}
+use Rattle.demands.specs.Counted.{detailSplits, indexSplits, detailStarts, indexStarts, extendSplits, nsertPlan, xtendPlan, ofPlan, splitsOf, startsOf}
 use Rattle.demands.specs.Counted.{AsPlanned, Counts, CallCounts, Summed, RunCounts}
 use Rattle.demands.proofs.Holds.{Free}
 use Rattle.demands.proofs.Sound.{Sound}
 use Rattle.demands.proofs.Answers.{Ready, Gives, sizes-pass, work-pass, open-pass}
 use Rattle.demands.proofs.Growth.{Growth}
+use Rattle.demands.proofs.Steps.{withRows}
+use Rattle.demands.proofs.LastBlock.{LastTells, last-is, with-last, both-last, record-last, start-last, section-last}
+use Rattle.demands.proofs.Within.{Sorted, sorted}
 use Rattle.demands.proofs.NsertRight as n
 use Rattle.demands.proofs.Last.{Last}
 use Rattle.demands.proofs.XtendRight as x
@@ -116,33 +121,58 @@ module _ (st : State) (ss : List Section) (f : Free) (h : Sound st ss f) where
       ways (n.both e a b l m o c k q g) = used w _ g
       ways (n.no-room e a b l m g) = used w _ g
 
+  -- XTEND's plan where it is refused, and where it is ready
+  xtend-refused : (w : List ℕ) (j : ℕ) → ((steps : Checked Effect) → keyedCall (desc st .wpr) (lending w st) steps ≡ unchanged (lending w st) j)
+      → (g : Extend → ℕ) → ofPlan g (xtendPlan (lending w st)) ≡ 0
+  unfolding xtendPlan lending
+  xtend-refused w j e g =
+      none-planned g (lending w st) (desc st .wpr) j (extendDeed (texts (lending w st)) (st .session .flag) (keyIn (desc st) w)) e
+
+  xtend-planned : (w : List ℕ) → Ready (desc st .wpr) (lending w st) ss f → (d : Extend)
+      → extendDeed (texts (lending w st)) (st .session .flag) (keyIn (desc st) w) ≡ passed d
+      → (g : Extend → ℕ) → ofPlan g (xtendPlan (lending w st)) ≡ g d
+  unfolding xtendPlan lending
+  xtend-planned w r d e g = some-planned g (lending w st) ss f r _ d e
+
   xtend-counts : (w : List ℕ) → Gate (lending w st) ss f (lent-sound w st ss f h) (desc st .wpr) → Counts st (extending w)
   unfolding answer xtend xtendPlan splitsOf startsOf lending
   xtend-counts w (stopped j ne ac nf e) =
       let is : answer st (extending w) ≡ unchanged (lending w st) j = e (xtendSteps (texts (lending w st)) (st .session .flag) w) in
-      let none : (g : Extend → ℕ) → ofPlan g (xtendPlan (lending w st)) ≡ 0
-      = λ g. none-planned g (lending w st) (desc st .wpr) j (extendDeed (texts (lending w st)) (st .session .flag) (keyIn (desc st) w)) e in
+      let none = xtend-refused w j e in
       record {
-        details = no-details st w _ j is ∙ omega (arith, none detailStarts);
-        indexes = no-indexes st w _ j is ∙ omega (arith, none indexStarts);
+        details = no-details st w _ j is ∙ omega (arith, none detailStarts, none (extendSplits detailSplits));
+        indexes = no-indexes st w _ j is ∙ omega (arith, none indexStarts, none (extendSplits indexSplits));
       }
   xtend-counts w (ready r) = let z = x.xtend-came (lending w st) ss f r in go (z .0) (z .1)
     where
       ways : (L : Last (texts (lending w st)) (st .session .flag) ss f) (y : x.Xtended (lending w st) ss f L)
-          → (newDetails st (answer st (extending w)) ≡ x.broughtBy y .starts) × (newIndexes st (answer st (extending w)) ≡ x.broughtBy y .index-starts)
+          → (newDetails st (answer st (extending w)) ≡ x.broughtBy y .splits + x.broughtBy y .starts)
+          × (newIndexes st (answer st (extending w)) ≡ x.broughtBy y .index-splits + x.broughtBy y .index-starts)
       ways L (x.too-low fr y e l g) = used w _ g
-      ways L (x.too-low-alone e l g) = used w _ g
-      ways L (x.room l g) = used w _ g
-      ways L (x.started l m o g) = used w _ g
-      ways L (x.both l m o c g) = used w _ g
-      ways L (x.no-room l m g) = used w _ g
+      ways L (x.too-low-alone e l hs g) = used w _ g
+      ways L (x.before e l s h a y) = as-nsert y
+        where
+          as-nsert : (y : n.Stores (answer st (extending w)) 3 (lending w st) ss f)
+              → (newDetails st (answer st (extending w)) ≡ n.broughtBy y .splits + n.broughtBy y .starts)
+              × (newIndexes st (answer st (extending w)) ≡ n.broughtBy y .index-splits + n.broughtBy y .index-starts)
+          as-nsert (n.duplicate y e g) = used w _ g
+          as-nsert (n.room e a b l g) = used w _ g
+          as-nsert (n.split e a b l m o k q g) = used w _ g
+          as-nsert (n.both e a b l m o c k q g) = used w _ g
+          as-nsert (n.no-room e a b l m g) = used w _ g
+      ways L (x.room iq l g) = used w _ g
+      ways L (x.started iq l m o g) = used w _ g
+      ways L (x.both iq l m o c g) = used w _ g
+      ways L (x.no-room iq l m g) = used w _ g
 
       go : (L : Last (texts (lending w st)) (st .session .flag) ss f) → x.XtendCame (lending w st) ss f L → Counts st (extending w)
       go L c =
           let u = ways L (c .way) in
-          let some : (g : Extend → ℕ) → ofPlan g (xtendPlan (lending w st)) ≡ g (c .plan)
-          = λ g. some-planned g (lending w st) ss f r _ (c .plan) (c .plan-is) in
-          record { details = omega (arith, u .0, c .starts, some detailStarts); indexes = omega (arith, u .1, c .index-starts, some indexStarts) }
+          let some : (g : Extend → ℕ) → ofPlan g (xtendPlan (lending w st)) ≡ g (c .plan) = xtend-planned w r (c .plan) (c .plan-is) in
+          record {
+            details = omega (arith, u .0, c .splits, c .starts, some detailStarts, some (extendSplits detailSplits));
+            indexes = omega (arith, u .1, c .index-splits, c .index-starts, some indexStarts, some (extendSplits indexSplits));
+          }
 
   counts : (q : Request) → Counts st q
   unfolding splitsOf startsOf stores
@@ -160,33 +190,101 @@ call-counts = after-open (λ (st : State). (q : Request) → Counts st q) counts
 
 -- ---- a run
 
--- NSERT only splits, and XTEND only starts
-only : (f : Insert → ℕ) (g : Extend → ℕ) (st : State) (q : Request) (n : ℕ) → n ≡ splitsOf f st q + startsOf g st q
-    → (ofNsert n q ≡ splitsOf f st q) × (ofXtend n q ≡ startsOf g st q)
-unfolding splitsOf startsOf ofNsert ofXtend
-only f g st (opening marks) n e = (refl, refl)
-only f g st closing n e = (refl, refl)
-only f g st (seeking w) n e = (refl, refl)
-only f g st (advancing w) n e = (refl, refl)
-only f g st (inserting w) n e = (omega arith, refl)
-only f g st (deleting w) n e = (refl, refl)
-only f g st (updating w) n e = (refl, refl)
-only f g st (extending w) n e = (refl, omega arith)
+-- of a call, what S, s, X and x sum is what it plans
+record Parts (st : State) (q : Request) : Type 0 where
+  S-part : splitOff (newDetails st (answer st q)) q st (answer st q .after) ≡ splitsOf detailSplits st q
+  s-part : splitOff (newIndexes st (answer st q)) q st (answer st q .after) ≡ splitsOf indexSplits st q
+  X-part : startedNew (newDetails st (answer st q)) q st (answer st q .after) ≡ startsOf detailStarts st q
+  x-part : startedNew (newIndexes st (answer st q)) q st (answer st q .after) ≡ startsOf indexStarts st q
+
+none-either : (t : Bool) (n : ℕ) → n ≡ 0 → (cond t 0 n ≡ 0) × (cond t n 0 ≡ 0)
+none-either true n e = (refl, e)
+none-either false n e = (e, refl)
+
+module _ (st : State) (ss : List Section) (f : Free) (h : Sound st ss f) where
+  -- as the last leaf tells
+  sorted-by : (w : List ℕ) (o : Outcome) {n m : ℕ} {rows : List (List ℕ)} {b : Growth} {ss′ : List Section} {f′ : Free}
+      → Gives (lending w st) ss o n m rows b ss′ f′ → LastTells (extending w) b ss ss′ → Sorted st o b
+  sorted-by w o {n} {m} {rows} {b} {ss′} {f′} g lt =
+      let u = used st ss f h w o g in
+      sorted st o b (u .0) (u .1) w ss ss′ (last-is st ss f h) (last-is (o .after) ss′ f′ (g .sound)) lt
+
+  xtend-sorted : (w : List ℕ) (L : Last (texts (lending w st)) (lending w st .session .flag) ss f) (y : x.Xtended (lending w st) ss f L)
+      → Sorted st (answer st (extending w)) (x.broughtBy y)
+  unfolding answer lending
+  xtend-sorted w L (x.too-low fr y e l g) = sorted-by w _ g (inl (refl, refl, refl))
+  xtend-sorted w L (x.too-low-alone e l hs g) = sorted-by w _ g (inl (refl, refl, refl))
+  xtend-sorted w L (x.room iq l g) = sorted-by w _ g (inl (refl, refl, record-last (lending w st) ss f L))
+  xtend-sorted w L (x.started iq l m s g) = sorted-by w _ g (inr (refl, refl, start-last (lending w st) ss f L (h .kept .holds) s))
+  xtend-sorted w L (x.both iq l m s c g) = sorted-by w _ g (inr (refl, refl, section-last (lending w st) ss f L (h .kept .holds) (omega arith)))
+  xtend-sorted w L (x.no-room iq l m g) = sorted-by w _ g (inl (refl, refl, refl))
+  xtend-sorted w L (x.before e u s q a y) = go y
+    where
+      go : (y : n.Stores (answer st (extending w)) 3 (lending w st) ss f) → Sorted st (answer st (extending w)) (n.broughtBy y)
+      go (n.duplicate z e g) = sorted-by w _ g (inl (refl, refl, refl))
+      go (n.room e a b l g) = sorted-by w _ g (inl (
+        refl,
+        refl,
+        with-last (lending w st) ss f L u a b (withRows (desc st) (a .leaf) (n.rowsWith
+            (lending w st) a) ∷ []),
+      ))
+      go (n.split e a b l m o k q g) = sorted-by w _ g (inl (refl, refl, with-last (lending w st) ss f L u a b (n.halves (lending w st) f a)))
+      go (n.both e a b l m o c k q g) =
+          sorted-by w _ g (inl (refl, refl, both-last (lending w st) ss f L u a b m (good-facts (desc st) (h .kept .good) .two-entries)))
+      go (n.no-room e a b l m g) = sorted-by w _ g (inl (refl, refl, refl))
+
+  xtend-parts : (w : List ℕ) → Gate (lending w st) ss f (lent-sound w st ss f h) (desc st .wpr) → Parts st (extending w)
+  unfolding splitOff startedNew ofNsert ofXtend splitsOf startsOf lending
+  xtend-parts w (stopped j ne ac nf e) =
+      let c : Counts st (extending w) = counts st ss f h (extending w) in
+      let none = xtend-refused st ss f h w j e in
+      let t : Bool = startsLast st (answer st (extending w) .after) in
+      let d = none-either t (newDetails st (answer st (extending w))) (c .details ∙ omega (arith, none detailStarts, none (extendSplits detailSplits))) in
+      let i = none-either t (newIndexes st (answer st (extending w))) (c .indexes ∙ omega (arith, none indexStarts, none (extendSplits indexSplits))) in
+      record {
+        S-part = omega (arith, d .0, none (extendSplits detailSplits));
+        s-part = omega (arith, i .0, none (extendSplits indexSplits));
+        X-part = omega (arith, d .1, none detailStarts);
+        x-part = omega (arith, i .1, none indexStarts);
+      }
+  xtend-parts w (ready r) = let z = x.xtend-came (lending w st) ss f r in go (z .0) (z .1)
+    where
+      go : (L : Last (texts (lending w st)) (lending w st .session .flag) ss f) → x.XtendCame (lending w st) ss f L → Parts st (extending w)
+      go L c =
+          let y : Sorted st (answer st (extending w)) (x.broughtBy (c .way)) = xtend-sorted w L (c .way) in
+          let some : (g : Extend → ℕ) → ofPlan g (xtendPlan (lending w st)) ≡ g (c .plan) = xtend-planned st ss f h w r (c .plan) (c .plan-is) in
+          record {
+            S-part = omega (arith, y .splits, c .splits, some (extendSplits detailSplits));
+            s-part = omega (arith, y .index-splits, c .index-splits, some (extendSplits indexSplits));
+            X-part = omega (arith, y .starts, c .starts, some detailStarts);
+            x-part = omega (arith, y .index-starts, c .index-starts, some indexStarts);
+          }
+
+  parts : (q : Request) → Parts st q
+  unfolding splitOff startedNew ofNsert ofXtend splitsOf startsOf
+  parts (opening marks) = record { S-part = refl; s-part = refl; X-part = refl; x-part = refl }
+  parts closing = record { S-part = refl; s-part = refl; X-part = refl; x-part = refl }
+  parts (seeking w) = record { S-part = refl; s-part = refl; X-part = refl; x-part = refl }
+  parts (advancing w) = record { S-part = refl; s-part = refl; X-part = refl; x-part = refl }
+  parts (inserting w) =
+      let c : Counts st (inserting w) = counts st ss f h (inserting w) in
+      record { S-part = omega (arith, c .details); s-part = omega (arith, c .indexes); X-part = refl; x-part = refl }
+  parts (deleting w) = record { S-part = refl; s-part = refl; X-part = refl; x-part = refl }
+  parts (updating w) = record { S-part = refl; s-part = refl; X-part = refl; x-part = refl }
+  parts (extending w) = xtend-parts w (gate (lending w st) ss f (lent-sound w st ss f h) (desc st .wpr))
 
 summed : (qs : List Request) (st : State) (ss : List Section) (f : Free) → Sound st ss f → Summed st qs
 unfolding S s X x tally
 summed [] st ss f h = record { S-is = refl; s-is = refl; X-is = refl; x-is = refl }
 summed (q ∷ qs) st ss f h =
-    let c : Counts st q = counts st ss f h q in
-    let d = only detailSplits detailStarts st q _ (c .details) in
-    let i = only indexSplits indexStarts st q _ (c .indexes) in
+    let c : Parts st q = parts st ss f h q in
     let z = stepped st ss f h q in
     let r : Summed (answer st q .after) qs = summed qs (answer st q .after) (z .sections) (z .free) (z .sound) in
     record {
-      S-is = ap₂ (λ (m n : ℕ). m + n) (d .0) (r .S-is);
-      s-is = ap₂ (λ (m n : ℕ). m + n) (i .0) (r .s-is);
-      X-is = ap₂ (λ (m n : ℕ). m + n) (d .1) (r .X-is);
-      x-is = ap₂ (λ (m n : ℕ). m + n) (i .1) (r .x-is);
+      S-is = ap₂ (λ (m n : ℕ). m + n) (c .S-part) (r .S-is);
+      s-is = ap₂ (λ (m n : ℕ). m + n) (c .s-part) (r .s-is);
+      X-is = ap₂ (λ (m n : ℕ). m + n) (c .X-part) (r .X-is);
+      x-is = ap₂ (λ (m n : ℕ). m + n) (c .x-part) (r .x-is);
     }
 
 pub run-counts : RunCounts

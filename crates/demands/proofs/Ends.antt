@@ -1,15 +1,14 @@
 -- What the steps of each call come to, where they pass: they stop at what a lookup, or the way to the last block, reached; or their number is no
 -- refusal. With it, which numbers they end with, and that they set position where the number is 0 or 070001 and only there.
 use Prim.Native.Nat.{ℕ}
-use mathlib.Core.Path.{_≡_, refl, sym}
+use mathlib.Core.Path.{_≡_, refl, sym, ap, _∙_}
 use mathlib.Core.Bool.{Bool, true, false, cond, not}
-use mathlib.Core.List.{List}
-use lib.Dec.{eqb}
+use mathlib.Core.List.{List, append-nil}
 use Rattle.numbers.specs.Numbers as number-is
 use Rattle.numbers.specs.Numbers.{accepted}
 use Rattle.numbers.specs.Checked.{passed}
 use Rattle.words.specs.Keys.{isOnes}
-use Rattle.table.specs.Tables.{count, keyAt}
+use Rattle.table.specs.Tables.{keyAt}
 use Rattle.drum.specs.declared.Description.{Description}
 use Rattle.drum.specs.Params.{detailShape}
 use Rattle.drum.specs.Blocks.{Transfer, Texts}
@@ -28,7 +27,7 @@ use Rattle.rules.specs.declared.Delete.the-variants as delete-is
 use Rattle.rules.specs.declared.Extend.{Extend}
 use Rattle.rules.specs.declared.Extend.the-variants as extend-is
 use Rattle.rules.specs.State.{Effect, keyIn}
-use Rattle.rules.specs.Lookup.{Reached, look, reached, textAt, stopping, storing, landing}
+use Rattle.rules.specs.Lookup.{Reached, look, reached, stopping, storing, landing}
 use Rattle.rules.specs.Free.{storedNumber}
 use Rattle.rules.specs.Seek.{giving, seekDone, seekSteps, updatDone, updatSteps}
 use Rattle.rules.specs.Adv.{advGiving, advDone, advSteps}
@@ -36,10 +35,11 @@ use Rattle.rules.specs.Nsert.{roomDeed, splitDeed, bothDeed, insertAt, insertAf
 use Rattle.rules.specs.NsertDone.{insertDone, nsertSteps}
 use Rattle.rules.specs.Dlete.{emptyDeed, emptyAt, deleteAfter, deleteDeed, emptying, deleteDone, dleteSteps}
 use Rattle.rules.specs.Xtend as x
-use Rattle.rules.specs.XtendDone.{reading, extendDone, xtendSteps}
-use Rattle.demands.specs.Refusals.{leavesAll, stops, wayOf, besides}
+use Rattle.rules.specs.Paths.{pathTo}
+use Rattle.rules.specs.XtendDone.{reading, listed, extendDone, xtendSteps}
+use Rattle.demands.specs.Refusals.{leavesAll, stops, wayOf, endAlone, lookedFrom, LooksBefore}
 use Rattle.demands.specs.Answering.{finds, advances, inserts, extends}
-use Rattle.numbers.proofs.Passed.{Passed, chain}
+use Rattle.numbers.proofs.Passed.{Passed, chain, by-passed}
 
 -- steps end with a number of which ok holds: they stop, having reached an r of which R holds; or the number is none at which a call stops
 pub data Ends (ok : ℕ → Bool) (R : Reached → Type 0) (work : List ℕ) : Effect → Type 0 where
@@ -88,13 +88,10 @@ pub record LookedUp (v : Texts) (flag : Bool) (key : List ℕ) (r : Reached) : T
   pub looked : look v flag key ≡ passed result
   pub is : r ≡ reached v flag (wayOf result)
 
--- what XTEND reaches: the last block, the index read besides
-pub record Lasted (v : Texts) (flag : Bool) (r : Reached) : Type 0 where
-  pub way : Way
-  pub index : ℕ
-  pub last : x.lastWay v flag ≡ passed way
-  pub alone : besides v way ≡ passed index
-  pub is : r ≡ reading index (reached v flag way)
+-- what XTEND reaches: the last block, or from there what the lookup does
+pub data Lasted (v : Texts) (flag : Bool) (key : List ℕ) (r : Reached) : Type 0 where
+  at-last : (way : Way) → x.lastWay v flag ≡ passed way → endAlone v way ≡ false → r ≡ reached v flag way → Lasted v flag key r
+  at-found : (way : Way) (w q : Path) → LooksBefore v flag key way w q → r ≡ lookedFrom v flag way w q → Lasted v flag key r
 
 -- ADV does not stop
 abbrev pub Never : Reached → Type 0
@@ -115,13 +112,25 @@ data Deletes (v : Texts) (flag : Bool) (key : List ℕ) : Delete → Type 0 wher
   empty : (way : Way) (w : Path) (head : ℕ) → Deletes v flag key (delete-is.Empty way w head)
   both : (way : Way) (w : Path) (head : ℕ) → Deletes v flag key (delete-is.Both way w head)
 
+-- what NSERT's plan is on a path, where it passes
+data InsertsAt (w : Path) : Insert → Type 0 where
+  stop : (n : ℕ) → n ≡ number-is.noRoom → InsertsAt w (insert-is.Stop (By w) n)
+  room : (i n : ℕ) → Stored n → InsertsAt w (insert-is.Room w i n)
+  split : (i : ℕ) (d : Taken) (n : ℕ) → Stored n → InsertsAt w (insert-is.Split w i d n)
+  both : (i b : ℕ) (d : Taken) (n : ℕ) → Stored n → InsertsAt w (insert-is.Both w i b d n)
+
 -- what XTEND's plan is, where it passes
-data Extends (v : Texts) (flag : Bool) : Extend → Type 0 where
-  stop : (way : Way) (i n : ℕ) → extends n ≡ true → leavesAll n ≡ false → accepted n ≡ false → x.lastWay v flag ≡ passed way → besides v way ≡ passed i
-      → Extends v flag (extend-is.Stop way i n)
-  room : (way : Way) (i n : ℕ) → Stored n → Extends v flag (extend-is.Room way i n)
-  new : (way : Way) (w : Path) (d : Taken) (n : ℕ) → Stored n → Extends v flag (extend-is.New way w d n)
-  both : (way : Way) (w : Path) (b : ℕ) (d : Taken) (n : ℕ) → Stored n → Extends v flag (extend-is.Both way w b d n)
+data Extends (v : Texts) (flag : Bool) (key : List ℕ) : Extend → Type 0 where
+  stop : (way : Way) (n : ℕ) → extends n ≡ true → leavesAll n ≡ false → accepted n ≡ false → x.lastWay v flag ≡ passed way → endAlone v way ≡ false
+      → Extends v flag key (extend-is.Stop way 0 n)
+  room : (way : Way) (i n : ℕ) → Stored n → Extends v flag key (extend-is.Room way i n)
+  new : (way : Way) (w : Path) (d : Taken) (n : ℕ) → Stored n → Extends v flag key (extend-is.New way w d n)
+  both : (way : Way) (w : Path) (b : ℕ) (d : Taken) (n : ℕ) → Stored n → Extends v flag key (extend-is.Both way w b d n)
+  turned : (way : Way) (w q : Path) (n : ℕ) → extends n ≡ true → leavesAll n ≡ false → accepted n ≡ false → LooksBefore v flag key way w q
+      → Extends v flag key (extend-is.Before way w (insert-is.Stop (By q) n))
+  put-room : (way : Way) (w q : Path) (i n : ℕ) → Stored n → Extends v flag key (extend-is.Before way w (insert-is.Room q i n))
+  put-split : (way : Way) (w q : Path) (i : ℕ) (d : Taken) (n : ℕ) → Stored n → Extends v flag key (extend-is.Before way w (insert-is.Split q i d n))
+  put-both : (way : Way) (w q : Path) (i b : ℕ) (d : Taken) (n : ℕ) → Stored n → Extends v flag key (extend-is.Before way w (insert-is.Both q i b d n))
 
 module _ (v : Texts) (flag : Bool) (key : List ℕ) where
   by-missing : (w : Path) → look v flag key ≡ passed (look-is.Missing w) → LookedUp v flag key (reached v flag (By w))
@@ -160,22 +169,42 @@ module _ (v : Texts) (flag : Bool) (key : List ℕ) where
   deletes = search (chain, delete-after)
 
 module _ (v : Texts) (flag : Bool) where
-  -- the index read besides, where the last block holds only the end record, and where it does not
-  alone : (way : Way) (w : Path) → eqb (count (detailShape (v .desc)) (textAt v way)) 1 ≡ true → x.lastOf v way ≡ passed w → besides v way ≡ passed (w .index)
-  unfolding besides
-  alone way w e g = simp (e, g)
+  -- no index read besides
+  read-none : (r : Reached) → reading 0 r ≡ r
+  unfolding reading
+  read-none r = λ i. record { file = r .file; current = r .current; flag = r .flag; buffer = r .buffer; moves = append-nil (r .moves) i }
 
-  among : (way : Way) → eqb (count (detailShape (v .desc)) (textAt v way)) 1 ≡ false → besides v way ≡ passed 0
-  unfolding besides
-  among way e = simp e
+  by-last : (key : List ℕ) (way : Way) → x.lastWay v flag ≡ passed way → endAlone v way ≡ false → Lasted v flag key (reading 0 (reached v flag way))
+  by-last key way e g = at-last way e g (read-none (reached v flag way))
 
-  by-last : (way : Way) (i : ℕ) → x.lastWay v flag ≡ passed way → besides v way ≡ passed i → Lasted v flag (reading i (reached v flag way))
-  by-last way i e g = record { way = way; index = i; last = e; alone = g; is = refl }
+  -- NSERT's plan on a path
+  at-plans : (w : Path) (i : ℕ) → Passed (InsertsAt w) (insertAt v flag w i)
+  unfolding insertAt roomDeed splitDeed bothDeed
+  at-plans w i = search (chain, stop, room, split, both, stored) depth 16
 
-  -- XTEND's plan
-  extend-plans : (key : List ℕ) → Passed (Extends v flag) (x.extendDeed v flag key)
-  unfolding x.extendDeed x.extendAt x.aloneDeed x.lastRoom x.newDeed x.newAt x.startDeed x.sectionDeed leavesAll extends
-  extend-plans key = search (chain, stop, room, new, both, alone, among, stored) depth 20
+  module _ (key : List ℕ) where
+    -- the lookup stops, or NSERT's plan follows
+    by-look : (way : Way) (w q : Path) → x.lastWay v flag ≡ passed way → endAlone v way ≡ true → x.lastOf v way ≡ passed w
+        → x.notAboveBefore v key w ≡ true → pathTo v key ≡ passed q → Extends v flag key (extend-is.Before way w (insert-is.Stop
+        (By q) number-is.outOfSequence))
+    unfolding leavesAll extends
+    by-look way w q e g l n k = turned way w q _ refl refl refl (record { last = e; alone = g; path = l; under = n; looked = k })
+
+    by-insert : (way : Way) (w q : Path) (i : ℕ) (d : Insert) → x.lastWay v flag ≡ passed way → endAlone v way ≡ true → x.lastOf v way ≡ passed w
+        → x.notAboveBefore v key w ≡ true → pathTo v key ≡ passed q → insertAt v flag q i ≡ passed d → Extends v flag key (extend-is.Before way w d)
+    unfolding leavesAll extends
+    by-insert way w q i d e g l n k h = go d (at-plans q i .holds d h)
+      where
+        go : (d : Insert) → InsertsAt q d → Extends v flag key (extend-is.Before way w d)
+        go _ (stop m z) = turned way w q m (rw z) (rw z) (rw z) (record { last = e; alone = g; path = l; under = n; looked = k })
+        go _ (room i m s) = put-room way w q i m s
+        go _ (split i t m s) = put-split way w q i t m s
+        go _ (both i b t m s) = put-both way w q i b t m s
+
+    -- XTEND's plan
+    extend-plans : Passed (Extends v flag key) (x.extendDeed v flag key)
+    unfolding x.extendDeed x.extendAt x.aloneDeed x.lookDeed x.insertBefore x.lastRoom x.newDeed x.newAt x.startDeed x.sectionDeed leavesAll extends
+    extend-plans = search (chain, stop, room, new, both, by-look, by-insert, stored) depth 24
 
 module _ (v : Texts) (flag : Bool) (work : List ℕ) where
   seek-done : (l : Look) → look v flag (keyIn (v .desc) work) ≡ passed l
@@ -262,17 +291,25 @@ module _ (v : Texts) (flag : Bool) (work : List ℕ) where
   unfolding dleteSteps
   dlete-ends = search (chain, delete-done, delete-as)
 
-  -- XTEND
-  extend-done : (d : Extend) → Extends v flag d → Passed (Ends extends (Lasted v flag) work) (extendDone v flag work d)
-  unfolding extendDone
-  extend-done _ (stop way i n o q a l b) = search (chain, stopped, by-last)
+  -- XTEND: what it has stored as NSERT does
+  went-with : (n : ℕ) (e : Effect) → Stored n → e .number ≡ n → e .keyed ≡ true → Ends extends (Lasted v flag (keyIn (v .desc) work)) work e
+  went-with n e s q k = went e (rw q (in-extends n s)) (rw q (s .quiet)) (rw q (s .other)) (k ∙ sym (ap accepted q ∙ s .is))
+
+  extend-done : (d : Extend) → Extends v flag (keyIn (v .desc) work) d → Passed (Ends extends (Lasted v flag (keyIn (v .desc) work)) work)
+      (extendDone v flag work d)
+  unfolding extendDone insertDone listed stopping storing landing lookedFrom
+  extend-done _ (stop way n o q a l b) = search (chain, stopped, by-last)
+  extend-done _ (turned way w q n o r a l) = by-passed _ (stopped n (lookedFrom v flag way w q) o r a (at-found way w q l refl))
+  extend-done _ (put-room way w q i n s) = by-passed _ (went-with n _ s refl refl)
+  extend-done _ (put-split way w q i d n s) = by-passed _ (went-with n _ s refl refl)
+  extend-done _ (put-both way w q i b d n s) = by-passed _ (went-with n _ s refl refl)
   extend-done _ (room way i n s) = search (chain, went-stored, in-extends)
   extend-done _ (new way w d n s) = search (chain, went-landed, in-extends)
   extend-done _ (both way w b d n s) = search (chain, went-landed, in-extends)
 
-  extend-as : (d : Extend) → x.extendDeed v flag (keyIn (v .desc) work) ≡ passed d → Extends v flag d
+  extend-as : (d : Extend) → x.extendDeed v flag (keyIn (v .desc) work) ≡ passed d → Extends v flag (keyIn (v .desc) work) d
   extend-as d e = extend-plans v flag (keyIn (v .desc) work) .holds d e
 
-  pub xtend-ends : Passed (Ends extends (Lasted v flag) work) (xtendSteps v flag work)
+  pub xtend-ends : Passed (Ends extends (Lasted v flag (keyIn (v .desc) work)) work) (xtendSteps v flag work)
   unfolding xtendSteps
   xtend-ends = search (chain, extend-done, extend-as)

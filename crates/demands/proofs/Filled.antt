@@ -27,7 +27,7 @@ use Rattle.demands.proofs.Holds.{Free, LeafFits, SectionOk}
 use Rattle.demands.proofs.Sound.{Sound}
 use Rattle.demands.proofs.Stores.{asc-rows}
 use Rattle.demands.proofs.Last.{end-ones}
-use Rattle.demands.proofs.Standing.{rows-of, rows-ok}
+use Rattle.demands.proofs.Records.{rows-of, rows-ok}
 use Rattle.demands.proofs.XtendNumber.{ordinary-front}
 use Rattle.demands.proofs.Opens.{Opens, flushed-stands}
 use Rattle.demands.proofs.Moves.{treeIn}

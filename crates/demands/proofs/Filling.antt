@@ -2,7 +2,8 @@
 use Prim.Native.Nat.{ℕ, suc, _+_, _-_, _≤_, _<_}
 use mathlib.Core.Bool.{true}
 use mathlib.Core.Path.{_≡_, refl, sym, ap, _∙_, subst}
-use mathlib.Core.List.{List, [], _∷_, _++_, append-assoc}
+use mathlib.Core.Logic.{_⊎_, inl, inr}
+use mathlib.Core.List.{List, [], _∷_, _++_, append-assoc, append-nil}
 use native.Mathlib.Omega.{arith}
 use lib.ListN.{length, length-append, take, drop, getD}
 use lib.Seq.{split-at}
@@ -15,11 +16,18 @@ use Rattle.layout.specs.Create.{endRecord}
 use Rattle.layout.specs.Tree.{Leaf, Section, lastIn}
 use Rattle.layout.proofs.Lists.{last-right}
 use Rattle.rules.specs.State.{State, desc, texts, keyIn}
-use Rattle.demands.specs.Filled.{Filled}
+use Rattle.words.specs.Keys.{val}
+use Rattle.demands.specs.Filled.{ButLast, Tight, Any, Filled}
 use Rattle.demands.specs.Reuse.{Takes}
-use Rattle.demands.proofs.Holds.{Free}
+use Rattle.demands.proofs.Lists.{All, all-left, all-right, from-end}
+use Rattle.demands.proofs.Order.{Asc, asc-right}
+use Rattle.demands.proofs.Trees.{leavesIn, recordsIn, records-append, key, bd, reach, reach-append}
+use Rattle.demands.proofs.Holds.{Free, LeafFits, SectionOk}
+use Rattle.demands.proofs.Records.{rows-ok}
+use Rattle.demands.proofs.Answers.{work-key}
+use Rattle.demands.proofs.Between.{leavesBefore, leaves-of, start-of}
 use Rattle.demands.proofs.Steps.{withRows, lower, upper}
-use Rattle.demands.proofs.Places.{Place, treeOf, treeWith, olds}
+use Rattle.demands.proofs.Places.{Place, treeOf, treeWith, olds, lo}
 use Rattle.demands.proofs.Texts.{half}
 use Rattle.demands.proofs.Frees.{next, taken}
 use Rattle.demands.proofs.Last.{ending, Last}
@@ -32,6 +40,21 @@ use Rattle.demands.proofs.Fills.{filled-swap, filled-block, filled-sect
 takes-from : (d x : ℕ) (ss ss₀ ss′ : List Section) (f f′ : Free) → ss ≡ ss₀ → Takes d x (treeIn ss₀ f) (treeIn ss′ f′)
     → Takes d x (treeIn ss f) (treeIn ss′ f′)
 takes-from d x ss ss₀ ss′ f f′ e = subst (λ (z : List Section). Takes d x (treeIn z f) (treeIn ss′ f′)) (sym e)
+
+one-last : (y : List ℕ) → lastIn (y ∷ []) ≡ y
+unfolding lastIn
+one-last y = refl
+
+bound-is : (k : ℕ) (l : Leaf) → bd k l ≡ val (l .bound)
+unfolding bd
+bound-is k l = refl
+
+-- of a list's last but one
+but-last-before : {A : Type 0} (P Q : A → Type 0) (xs : List A) (x y : A) → ButLast P Q ((xs ++ x ∷ []) ++ y ∷ []) → P x
+unfolding ButLast
+but-last-before P Q [] x y h = h .0
+but-last-before P Q (z ∷ []) x y h = h .1 .0
+but-last-before P Q (z ∷ u ∷ xs) x y h = but-last-before P Q (u ∷ xs) x y (h .1)
 
 module _ (st : State) (ss : List Section) (f : Free) where
   abbrev p : Description
@@ -91,6 +114,42 @@ module _ (st : State) (ss : List Section) (f : Free) where
     module _ (h : Filled p (treeIn ss f)) where
       filled-end : Filled p (treeIn (treeOf end) f)
       filled-end = subst (λ (z : List Section). Filled p (treeIn z f)) (L .at .is) h
+
+      -- where every bound but the last is the key of its last record, no key below the last bounds is above all of them
+      pub not-filled : val (keyIn p (st .work)) < lo p end → Asc (key (p .k)) 0 (recordsIn (leavesBefore end)) (val (keyIn p (st .work)))
+          → All (SectionOk p) ss → ⊥
+      not-filled under below ok = go (from-end (leavesBefore end))
+        where
+          flat : leavesIn ss ≡ leavesBefore end ++ (L .leaf ∷ [])
+          flat = ap leavesIn (L .at .is) ∙ leaves-of end
+
+          at : (ls : List Leaf) (m : Leaf) → leavesBefore end ≡ ls ++ m ∷ []
+              → (m .records ≡ []) ⊎ ((fr : List (List ℕ)) × (y : List ℕ) × (m .records ≡ fr ++ y ∷ [])) → ⊥
+          at ls m e (inl n) =
+              omega (
+                arith,
+                all-right (LeafFits p) ls _ (subst (All (LeafFits p)) e (all-left (LeafFits p) (leavesBefore end) _ (subst (All (LeafFits p)) flat
+                    (rows-ok p ss ok)))) .0 .some,
+                ap length n,
+              )
+          at ls m e (inr (fr, y, g)) =
+              let tight : m .bound ≡ keyIn p (lastIn (m .records))
+              = but-last-before (Tight p) Any ls m (L .leaf) (subst (ButLast (Tight p) Any) (flat
+              ∙ ap (λ (z : List Leaf). z ++ (L .leaf ∷ [])) e) (h .bounds)) in
+              let top : lastIn (m .records) ≡ y = ap lastIn g ∙ last-right fr (y ∷ []) (omega arith) ∙ one-last y in
+              let start : lo p end ≡ suc (bd (p .k) m) = sym (start-of p end) ∙ ap (reach (p .k) 0) e ∙ reach-append (p .k) 0 ls (m ∷ []) in
+              let is : bd (p .k) m ≡ key (p .k) y = bound-is (p .k) m ∙ ap val (tight ∙ ap (keyIn p) top) ∙ sym (work-key p y) in
+              let rows : recordsIn (leavesBefore end) ≡ (recordsIn ls ++ fr) ++ (y ∷ [])
+              = ap recordsIn e ∙ records-append ls (m ∷ []) ∙ ap (λ (z : List (List ℕ)). recordsIn ls ++ z) (append-nil (m .records) ∙ g)
+              ∙ sym (append-assoc (recordsIn ls) fr (y ∷ [])) in
+              let s
+              = asc-right (key (p .k)) 0 (recordsIn ls ++ fr) (y ∷ []) (val (keyIn p (st .work)))
+              (subst (λ (z : List (List ℕ)). Asc (key (p .k)) 0 z (val (keyIn p (st .work)))) rows below) in
+              omega (arith, start, is, s .1)
+
+          go : (leavesBefore end ≡ []) ⊎ ((ls : List Leaf) × (m : Leaf) × (leavesBefore end ≡ ls ++ m ∷ [])) → ⊥
+          go (inl e) = omega (arith, start-of p end, ap (reach (p .k) 0) e)
+          go (inr (ls, m, e)) = at ls m e (from-end (m .records))
 
       pub record-filled : length (L .leaf .records) < FD p → Filled p (treeIn (withRecord st ss f L) f)
       record-filled less =

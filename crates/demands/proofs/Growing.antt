@@ -19,8 +19,8 @@ use Rattle.rules.specs.Requests.{Request, opening, closing, seeking, advancing,
 use Rattle.demands.specs.Formula.{newDetails, newIndexes}
 use Rattle.demands.specs.Promises.{putBack}
 use Rattle.demands.specs.Answers.{Keyed, lastBlock}
-use Rattle.demands.specs.Storing.{sectionFor, blockFor, lastSection}
-use Rattle.demands.specs.Growing.{oneIf, stores, Grown, CallGrowth}
+use Rattle.demands.specs.Storing.{sectionFor, blockFor, lastSection, atLast}
+use Rattle.demands.specs.Growing.{oneIf, stores, Fullness, coverFull, lastFull, GrownAs, Grown, CallGrowth}
 use Rattle.demands.proofs.Holds.{Free}
 use Rattle.demands.proofs.Places.{Place, olds}
 use Rattle.demands.proofs.Sound.{Sound}
@@ -29,14 +29,14 @@ use Rattle.demands.proofs.Frees.{freeCount, taken, storedWith}
 use Rattle.demands.proofs.Growth.{Growth, nothing, Grows}
 use Rattle.demands.proofs.InUse.{details-are, indexes-are}
 use Rattle.demands.proofs.Last.{Last}
-use Rattle.demands.proofs.NsertRight.{Belongs, Nserted, duplicate, room, split, both, no-room, nsert-right}
+use Rattle.demands.proofs.NsertRight.{Belongs, Stores, duplicate, room, split, both, no-room, nsert-right}
 use Rattle.demands.proofs.XtendRight as x
 use Rattle.demands.proofs.Opens.{flushed-stands}
 use Rattle.demands.proofs.Stepped.{Stepped}
 use Rattle.demands.proofs.Calls.{stepped}
 use Rattle.demands.proofs.Answered.{readied}
 use Rattle.demands.proofs.NsertNumber.{section-is, block-is}
-use Rattle.demands.proofs.XtendNumber.{rows-are, section-are}
+use Rattle.demands.proofs.XtendNumber.{rows-are, section-are, at-yes, at-no}
 use Rattle.demands.proofs.Moves.{treeIn}
 use Rattle.demands.proofs.Promised.{after-open}
 
@@ -89,13 +89,12 @@ module _ (st : State) (ss : List Section) (f : Free) (h : Sound st ss f) (w : Li
   abbrev leaves : List Leaf
   leaves = sectionFor (keyIn (desc st) w) ss
 
-  nsert-news : News st (answer st (inserting w)) (leb (D p) (length (blockFor (keyIn p w) leaves))) (leb (I p) (length leaves))
-  unfolding answer lending
-  nsert-news = go (nsert-right (lending w st) ss f r)
+  -- what NSERT stores, and XTEND as NSERT does
+  stores-news : (o : Outcome) (more : ℕ) → Stores o more (lending w st) ss f
+      → News st o (leb (D p) (length (blockFor (keyIn p w) leaves))) (leb (I p) (length leaves))
+  unfolding lending
+  stores-news o more y = go y
     where
-      o : Outcome
-      o = answer st (inserting w)
-
       at : (a : Place) → Belongs (lending w st) ss a → News st o (leb (D p) (length (a .leaf .records))) (leb (I p) (length (olds a)))
           → News st o (leb (D p) (length (blockFor (keyIn p w) leaves))) (leb (I p) (length leaves))
       at a B n =
@@ -103,7 +102,7 @@ module _ (st : State) (ss : List Section) (f : Free) (h : Sound st ss f) (w : Li
           subst (λ (z : List Leaf). News st o (leb (D p) (length (blockFor (keyIn p w) z))) (leb (I p) (length z))) (sym s)
           (subst (λ (z : List (List ℕ)). News st o (leb (D p) (length z)) (leb (I p) (length (olds a)))) (sym (block-is st ss f h w ask a B)) n)
 
-      go : Nserted (lending w st) ss f → News st o (leb (D p) (length (blockFor (keyIn p w) leaves))) (leb (I p) (length leaves))
+      go : Stores o more (lending w st) ss f → News st o (leb (D p) (length (blockFor (keyIn p w) leaves))) (leb (I p) (length leaves))
       go (duplicate y e g) = news-by st o _ _ false (g .number-is) refl (details-of o g) (indexes-of o g)
       go (no-room e a B l m g) = news-by st o _ _ false (g .number-is) refl (details-of o g) (indexes-of o g)
       go (room e a B l g) = at a B (rw (lt-leb (D p) (length (a .leaf .records)) l)
@@ -115,7 +114,12 @@ module _ (st : State) (ss : List Section) (f : Free) (h : Sound st ss f) (w : Li
           at a B (rw (le-leb (D p) (length (a .leaf .records)) (omega (arith, l)), le-leb (I p) (length (olds a)) (omega (arith, m)))
           (news-by st o true true true (g .number-is) (stored-yes p _ (taken (taken f))) (details-of o g) (indexes-of o g)))
 
-  xtend-news : News st (answer st (extending w)) (leb (FD p) (length (lastBlock (lay.leavesOf (treeIn ss f))))) (leb (FI p) (length (lastSection ss)))
+  nsert-news : GrownAs st (answer st (inserting w)) (coverFull p (keyIn p w) (treeIn ss f))
+  unfolding answer lending
+  nsert-news = stores-news (answer st (inserting w)) 0 (nsert-right (lending w st) ss f r)
+
+  xtend-news : GrownAs st (answer st (extending w))
+      (cond (atLast p (keyIn p w) (treeIn ss f)) (lastFull p (treeIn ss f)) (coverFull p (keyIn p w) (treeIn ss f)))
   unfolding answer lending
   xtend-news = let z = x.xtend-right (lending w st) ss f r in go (z .0) (z .1)
     where
@@ -133,20 +137,30 @@ module _ (st : State) (ss : List Section) (f : Free) (h : Sound st ss f) (w : Li
           → News st o true (leb (FI p) (length (lastSection ss)))
       top L b e n = subst (News st o true) (sym (ap (λ (z : List Leaf). leb (FI p) (length z)) (section-are (lending w st) ss f r L) ∙ e)) n
 
+      -- none, whatever is full
+      none : (full : Fullness) {n m : ℕ} {rows : List (List ℕ)} → Gives (lending w st) ss o n m rows nothing ss f → accepted n ≡ false → GrownAs st o full
+      none full g a = news-by st o (full .block) (full .index) false (g .number-is) a (details-of o g) (indexes-of o g)
+
+      -- by where the key belongs
+      by : (t : Bool) → atLast p (keyIn p w) (treeIn ss f) ≡ t → GrownAs st o (cond t (lastFull p (treeIn ss f)) (coverFull p (keyIn p w) (treeIn ss f)))
+          → GrownAs st o (cond (atLast p (keyIn p w) (treeIn ss f)) (lastFull p (treeIn ss f)) (coverFull p (keyIn p w) (treeIn ss f)))
+      by t e n = subst (λ (b : Bool). GrownAs st o (cond b (lastFull p (treeIn ss f)) (coverFull p (keyIn p w) (treeIn ss f)))) (sym e) n
+
       go : (L : Last (texts (lending w st)) (st .session .flag) ss f) → x.Xtended (lending w st) ss f L
-          → News st o (leb (FD p) (length (lastBlock (lay.leavesOf (treeIn ss f))))) (leb (FI p) (length (lastSection ss)))
-      go L (x.too-low fr y e l g) = news-by st o _ _ false (g .number-is) refl (details-of o g) (indexes-of o g)
-      go L (x.too-low-alone e l g) = news-by st o _ _ false (g .number-is) refl (details-of o g) (indexes-of o g)
-      go L (x.no-room l m g) = news-by st o _ _ false (g .number-is) refl (details-of o g) (indexes-of o g)
-      go L (x.room l g) =
-          at L false false (lt-leb (FD p) (length (L .leaf .records)) l)
-          (news-by st o false (leb (FI p) (length (lastSection ss))) true (g .number-is) (stored-yes p _ f) (details-of o g) (indexes-of o g))
-      go L (x.started l m s g) =
-          at L true false (le-leb (FD p) (length (L .leaf .records)) l)
-          (top L false (lt-leb (FI p) _ m) (news-by st o true false true (g .number-is) (stored-yes p _ (taken f)) (details-of o g) (indexes-of o g)))
-      go L (x.both l m s c g) =
-          at L true true (le-leb (FD p) (length (L .leaf .records)) l)
-          (top L true (le-leb (FI p) _ m) (news-by st o true true true (g .number-is) (stored-yes p _ (taken (taken f))) (details-of o g) (indexes-of o g)))
+          → GrownAs st o (cond (atLast p (keyIn p w) (treeIn ss f)) (lastFull p (treeIn ss f)) (coverFull p (keyIn p w) (treeIn ss f)))
+      go L (x.too-low fr y e l g) = none _ g refl
+      go L (x.too-low-alone e l hs g) = none _ g refl
+      go L (x.before e l s n a y) = by false (at-no (lending w st) ss f r L e l) (stores-news o 3 y)
+      go L (x.no-room iq l m g) = none _ g refl
+      go L (x.room iq l g) =
+          by true (at-yes (lending w st) ss f r L iq) (at L false false (lt-leb (FD p) (length (L .leaf .records)) l)
+          (news-by st o false (leb (FI p) (length (lastSection ss))) true (g .number-is) (stored-yes p _ f) (details-of o g) (indexes-of o g)))
+      go L (x.started iq l m s g) =
+          by true (at-yes (lending w st) ss f r L iq) (at L true false (le-leb (FD p) (length (L .leaf .records)) l)
+          (top L false (lt-leb (FI p) _ m) (news-by st o true false true (g .number-is) (stored-yes p _ (taken f)) (details-of o g) (indexes-of o g))))
+      go L (x.both iq l m s c g) =
+          by true (at-yes (lending w st) ss f r L iq) (at L true true (le-leb (FD p) (length (L .leaf .records)) l)
+          (top L true (le-leb (FI p) _ m) (news-by st o true true true (g .number-is) (stored-yes p _ (taken (taken f))) (details-of o g) (indexes-of o g))))
 
 -- the other calls
 module _ (st : State) (ss : List Section) (f : Free) (h : Sound st ss f) where

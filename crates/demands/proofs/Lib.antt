@@ -37,8 +37,11 @@ pub mod Adv
 pub mod AdvNext
 pub mod AdvRight
 pub mod Last
+pub mod Between
 pub mod Xtend
 pub mod XtendAlone
+pub mod XtendBefore
+pub mod XtendAs
 pub mod XtendDeed
 pub mod XtendNew
 pub mod XtendRight
@@ -77,6 +80,7 @@ pub mod Placing
 pub mod NsertNumber
 pub mod XtendNumber
 pub mod Storing
+pub mod AsNsert
 pub mod Routines
 pub mod WrongRoutines
 pub mod Alone
@@ -92,6 +96,7 @@ pub mod StuckTrees
 pub mod Stuck
 pub mod Moves
 pub mod Fills
+pub mod LastBlock
 pub mod Filling
 pub mod Filled
 pub mod AllBlocks
@@ -113,6 +118,7 @@ pub mod Lengths
 pub mod New
 pub mod OneResult
 pub mod Printed
+pub mod Struck
 pub mod When
 pub mod Position
 pub mod Answering

@@ -1,7 +1,7 @@
 -- Lists: each element (the words of table's rows), a list cut in two, a list from its end.
 use Prim.Native.Nat.{ℕ}
 use mathlib.Core.Logic.{_⊎_, inl, inr}
-use mathlib.Core.Path.{_≡_, refl, ap}
+use mathlib.Core.Path.{_≡_, refl, ap, ap₂}
 use mathlib.Core.List.{List, [], _∷_, _++_}
 use native.Mathlib.Omega.{arith}
 use lib.ListN.{length}
@@ -35,3 +35,15 @@ last-same [] x (b ∷ (c ∷ ys)) y e = absurd (let z : 1 ≡ length (b ∷ (c �
 last-same (a ∷ []) x [] y e = absurd (let z : _≡_ {A = ℕ} 2 1 = ap length e in omega arith)
 last-same (a ∷ (c ∷ xs)) x [] y e = absurd (let z : length (a ∷ (c ∷ (xs ++ x ∷ []))) ≡ 1 = ap length e in omega arith)
 last-same (a ∷ xs) x (b ∷ ys) y e = last-same xs x ys y (let q : xs ++ x ∷ [] ≡ ys ++ y ∷ [] = cc in q)
+
+-- and one list before it
+pub front-same : {A : Type 0} (xs : List A) (x : A) (ys : List A) (y : A) → xs ++ x ∷ [] ≡ ys ++ y ∷ [] → xs ≡ ys
+front-same [] x [] y e = refl
+front-same [] x (b ∷ []) y e = absurd (let z : _≡_ {A = ℕ} 1 2 = ap length e in omega arith)
+front-same [] x (b ∷ (c ∷ ys)) y e = absurd (let z : 1 ≡ length (b ∷ (c ∷ (ys ++ y ∷ []))) = ap length e in omega arith)
+front-same (a ∷ []) x [] y e = absurd (let z : _≡_ {A = ℕ} 2 1 = ap length e in omega arith)
+front-same (a ∷ (c ∷ xs)) x [] y e = absurd (let z : length (a ∷ (c ∷ (xs ++ x ∷ []))) ≡ 1 = ap length e in omega arith)
+front-same (a ∷ xs) x (b ∷ ys) y e =
+    let q : xs ≡ ys = front-same xs x ys y (let q : xs ++ x ∷ [] ≡ ys ++ y ∷ [] = cc in q) in
+    let z : a ≡ b = cc in
+    ap₂ (λ u us. u ∷ us) z q

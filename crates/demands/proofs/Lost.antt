@@ -29,7 +29,7 @@ use Rattle.rules.specs.Seek.{giving, seekDone, seekSteps, seek, updatDone, upda
 use Rattle.rules.specs.Adv.{advGiving, advDone, advSteps, adv}
 use Rattle.rules.specs.NsertDone.{insertDone, nsertSteps, nsert}
 use Rattle.rules.specs.Dlete.{emptying, deleteDone, dleteSteps, dlete}
-use Rattle.rules.specs.XtendDone.{reading, extendDone, xtendSteps, xtend}
+use Rattle.rules.specs.XtendDone.{reading, listed, extendDone, xtendSteps, xtend}
 use Rattle.rules.specs.Requests.{Request, opening, closing, seeking, advancing, inserting, deleting, updating, extending, lending, answer}
 use Rattle.demands.specs.Promises.{putBack}
 
@@ -114,6 +114,11 @@ module _ (v : Texts) (flag : Bool) (work : List ℕ) where
   extend-done (extend-is.Room way x n) = search (chain, extend-leaves)
   extend-done (extend-is.New way w d n) = search (chain, off)
   extend-done (extend-is.Both way w b x n) = search (chain, off)
+  extend-done (extend-is.Before way w d) = search (chain, as-insert)
+    where
+      as-insert : (e t : Effect) → insertDone v flag work d ≡ passed e → Leaves v flag (listed (reading (w .index)
+          (reached v flag way) .moves ++ t .transfers) e)
+      as-insert e t h = unfold listed in insert-done d .holds e h
 
 -- of the state that a call leaves
 pub data LeftBy (st now : State) : Type 0 where

@@ -1,7 +1,7 @@
 -- The plans' test of a new block is the sentence "a new block equal to any other block in the call's list of transfers": it passes exactly
--- where the list of NSERT, or of XTEND, names the block once.
+-- where the list of NSERT, of XTEND, or of an XTEND that stores as NSERT does, names the block once.
 use Prim.Native.Nat.{ℕ, _+_}
-use mathlib.Core.Path.{_≡_, refl, _∙_, ap, subst}
+use mathlib.Core.Path.{_≡_, refl, sym, _∙_, ap, subst}
 use mathlib.Core.Bool.{Bool, true, false, cond, not, _&&_, _||_}
 use mathlib.Core.List.{List, [], _∷_, _++_, append-assoc, append-nil}
 use lib.Dec.{eqb}
@@ -19,7 +19,7 @@ use Rattle.rules.specs.Lookup.{flushMoves, bringing, reached}
 use Rattle.rules.specs.Free.{isNew}
 use Rattle.demands.specs.Names.{blockOf, names, once}
 use Rattle.rules.specs.NsertDone as n
-use Rattle.rules.specs.Xtend.{lastOf}
+use Rattle.rules.specs.Xtend.{lastOf, apart}
 use Rattle.rules.specs.XtendDone as x
 use Rattle.numbers.proofs.Passed.{Passed, chain, required}
 
@@ -183,4 +183,108 @@ module _ (v : Texts) (w : Path) where
         g .0 ∙ ap (λ (z : Bool). not (eqb b y) && z) (among-xtend way flag b old new e),
         g .1 ∙ ap (λ (z : Bool). not (eqb y b) && z)
             (among-xtend way flag y old new e),
+      )
+
+-- ---- XTEND as NSERT: the transfers to the last block come before NSERT's
+
+names-append : (l r : List Transfer) (b : ℕ) → names (l ++ r) b ≡ (names l b || names r b)
+unfolding names
+names-append [] r b = refl
+names-append (m ∷ l) r b = ap (λ (z : Bool). eqb b (blockOf m) || z) (names-append l r b) ∙ sym (or-assoc (eqb b (blockOf m)) (names l b) (names r b))
+  where
+    or-assoc : (p q t : Bool) → ((p || q) || t) ≡ (p || (q || t))
+    or-assoc true q t = refl
+    or-assoc false q t = refl
+
+of-lead : (c i d : Bool) → not (c || (i || (d || (i || false)))) ≡ ((not i && not d) && not c)
+of-lead true true d = refl
+of-lead true false true = refl
+of-lead true false false = refl
+of-lead false true d = refl
+of-lead false false true = refl
+of-lead false false false = refl
+
+and-move : (a c i d : Bool) → ((a && c) && (i && (d && true))) ≡ (a && (i && (d && c)))
+and-move false c i d = refl
+and-move true true i d = refl
+and-move true false true true = refl
+and-move true false true false = refl
+and-move true false false d = refl
+
+-- a buffer that was written on the way to the last block is not flagged any more: a test of the whole list, by one of the rest
+module _ (v : Texts) (w q : Path) (some : eqb (w .index) 0 ≡ false) where
+  abbrev lead : Way → Bool → List Transfer
+  lead way flag = x.reading (w .index) (reached v flag way) .moves
+
+  lead-here : (flag : Bool) (b : ℕ) → not (names (lead Here flag) b) ≡ apart Here w b
+  unfolding x.reading apart reached names
+  lead-here flag b = rw some (or-none (eqb b (w .index)))
+    where
+      or-none : (t : Bool) → not (t || false) ≡ not t
+      or-none true = refl
+      or-none false = refl
+
+  lead-by : (flag : Bool) (b : ℕ) → not (names (lead (By w) flag) b) ≡ (apart (By w) w b && not (flag && eqb b (v .current)))
+  unfolding x.reading apart reached bringing flushMoves names
+  lead-by true b = rw some (of-lead (eqb b (v .current)) (eqb b (w .index)) (eqb b (w .detail)))
+  lead-by false b = rw some (of-lead false (eqb b (w .index)) (eqb b (w .detail)))
+
+  -- where it was in the buffer, that is as it was; where it was brought, a flagged buffer was written
+  still : (flag : Bool) (b : ℕ)
+      → (not (names (lead Here flag) b) && isNew (v .current) (reached v flag Here .flag) q b) ≡ (apart Here w b && isNew (v .current) flag q b)
+  unfolding reached
+  still flag b = ap (λ (z : Bool). z && isNew (v .current) flag q b) (lead-here flag b)
+
+  written-once : (flag : Bool) (b : ℕ)
+      → (not (names (lead (By w) flag) b) && isNew (v .current) (reached v flag (By w) .flag) q b) ≡ (apart (By w) w b && isNew (v .current) flag q b)
+  unfolding reached bringing
+  written-once flag b =
+      ap (λ (z : Bool). z && isNew (v .current) false q b) (lead-by flag b)
+      ∙ and-move (apart (By w) w b) (not (flag && eqb b (v .current))) (not (eqb b (q .index))) (not (eqb b (q .detail)))
+
+  -- NSERT's transfers behind them
+  abbrev then : Way → Bool → List Transfer
+  then way flag = reached v (reached v flag way .flag) (By q) .moves
+
+  -- the whole list but for the new blocks
+  among-before : (way : Way) (flag : Bool) (b : ℕ) (t u : List ℕ) → lastOf v way ≡ passed w
+      → not (names ((lead way flag ++ then way flag) ++ (Read (q .index) ∷ Write (q .detail) t ∷ Write (q .index) u ∷ [])) b)
+      ≡ (apart way w b && isNew (v .current) flag q b)
+  among-before way flag b t u e =
+      let rest : List Transfer = Read (q .index) ∷ Write (q .detail) t ∷ Write (q .index) u ∷ [] in
+      ap (λ (l : List Transfer). not (names l b)) (append-assoc (lead way flag) (then way flag) rest)
+      ∙ ap not (names-append (lead way flag) (then way flag ++ rest) b) ∙ not-or (names (lead way flag) b) (names (then way flag ++ rest) b)
+      ∙ ap (λ (z : Bool). not (names (lead way flag) b) && z) (among-nsert v q (reached v flag way .flag) b t u) ∙ go way e
+    where
+      go : (way : Way) → lastOf v way ≡ passed w
+          → (not (names (lead way flag) b) && isNew (v .current) (reached v flag way .flag) q b) ≡ (apart way w b && isNew (v .current) flag q b)
+      go Here e = still flag b
+      go (By y) e = subst (λ (z : Path). (not (names (lead (By z) flag) b) && isNew (v .current) (reached v flag (By z) .flag) q b)
+          ≡ (apart (By z) w b && isNew (v .current) flag q b)) (brought v w y e) (written-once flag b)
+
+  -- the new block of a split, and the two where the index block splits too, are named once in the whole list
+  pub new-before : (way : Way) (flag : Bool) (i b : ℕ) (r : List ℕ) → lastOf v way ≡ passed w
+      → once (lead way flag ++ (then way flag ++ n.splitMoves v q i r b)) b ≡ (apart way w b && isNew (v .current) flag q b)
+  unfolding n.splitMoves
+  new-before way flag i b r e =
+      let low = n.detailLow v q i r in
+      let index = n.indexEntered v q i r b in
+      ap (λ (l : List Transfer). once l b) (sym (append-assoc (lead way flag) (then way flag) _))
+      ∙ once-mid (lead way flag ++ then way flag) (Read (q .index) ∷ Write (q .detail) low ∷ []) (Write b (n.detailHigh v q i r)) (Write (q .index) index ∷ [])
+      ∙ among-before way flag b low index e
+
+  pub new-before-both : (way : Way) (flag : Bool) (i b y : ℕ) (r : List ℕ) → lastOf v way ≡ passed w
+      → (once (lead way flag ++ (then way flag ++ n.bothSplitMoves v q i r b y)) b ≡ (not (eqb b y) && (apart way w b && isNew (v .current) flag q b)))
+      × (once (lead way flag ++ (then way flag ++ n.bothSplitMoves v q i r b y)) y ≡ (not (eqb y b) && (apart way w y && isNew (v .current) flag q y)))
+  unfolding n.bothSplitMoves
+  new-before-both way flag i b y r e =
+      let low = n.detailLow v q i r in
+      let index = n.indexLow v q i r b in
+      let g =
+      two-in (lead way flag ++ then way flag) (Read (q .index) ∷ Write (q .detail) low ∷ []) (Write (q .index) index ∷ []) (Write b (n.detailHigh v q i r))
+      (Write y (n.indexHigh v q i r b)) in (
+        ap (λ (l : List Transfer). once l b) (sym (append-assoc (lead way flag) (then way flag) _)) ∙ g .0
+            ∙ ap (λ (z : Bool). not (eqb b y) && z) (among-before way flag b low index e),
+        ap (λ (l : List Transfer). once l y) (sym (append-assoc (lead way flag) (then way flag) _)) ∙ g .1
+            ∙ ap (λ (z : Bool). not (eqb y b) && z) (among-before way flag y low index e),
       )

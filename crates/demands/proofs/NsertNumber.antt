@@ -36,7 +36,8 @@ use Rattle.demands.proofs.Reach.{some-leaves}
 use Rattle.demands.proofs.Stores.{asc-rows}
 use Rattle.demands.proofs.Frees.{freeCount, taken, storedWith, taken-count}
 use Rattle.demands.proofs.NsertRight.{Belongs, before, Nserted, duplicate, room, split, both, no-room, nsert-right}
-use Rattle.demands.proofs.Standing.{with-hit, rows-of, rows-ok}
+use Rattle.demands.proofs.Records.{rows-of, rows-ok}
+use Rattle.demands.proofs.Standing.{with-hit}
 use Rattle.demands.proofs.Contents.{below-is}
 use Rattle.demands.proofs.Answered.{readied}
 use Rattle.demands.proofs.Moves.{treeIn}

@@ -165,7 +165,7 @@ module _ (st : State) (ss : List Section) (f : Free) (h : Sound st ss f) where
   adds (updating w) z o = keeping (updating w) z (z .moved) (z .brought) (updated w z)
   adds (extending w) z o =
       let e : accepted (answer st (extending w) .number) ≡ false = not-accepted (answer st (extending w)) o in
-      taking (extending w) z (z .moved) (omega (arith, z .brought .3, o)) (omega (arith, z .brought .4, o))
+      taking (extending w) z (z .moved) (omega (arith, z .brought .1, o)) (omega (arith, z .brought .2, o))
       (omega (arith, same-records (extending w) z (ap (λ (t : Bool). cond t (stored w ∷ []) []) e), z .brought .0, o))
 
 -- ---- a run

@@ -16,7 +16,7 @@ use Rattle.demands.proofs.Order.{Asc, asc-le}
 use Rattle.demands.proofs.Trees.{key}
 use Rattle.demands.proofs.Holds.{RowOk}
 use Rattle.demands.proofs.Sound.{Key}
-use Rattle.demands.proofs.Contents.{row-under}
+use Rattle.demands.proofs.Records.{row-under}
 
 no-cons : (x : List ℕ) (xs : List (List ℕ)) → x ∷ xs ≡ [] → ⊥
 no-cons x xs e = let z : suc (length xs) ≡ 0 = ap length e in omega arith

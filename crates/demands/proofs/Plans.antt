@@ -26,7 +26,7 @@ shares-are : (st : State) (qs : List Request)
     ≡ 3 * (countOf (λ c. c .seeks) qs + countOf (λ c. c .updats) qs + countOf (λ c. c .nserts) qs)
     + 5 * countOf (λ c. c .advs) qs
     + 6 * countOf (λ c. c .dletes) qs
-    + 4 * countOf (λ c. c .xtends) qs
+    + 6 * countOf (λ c. c .xtends) qs
     + countOf (λ c. c .closes) qs
 unfolding shares tally countOf share oneCall planShares
 shares-are st [] = refl

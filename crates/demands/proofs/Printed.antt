@@ -31,7 +31,7 @@ calls =
     ∷ call.Xtend 17 ∷ call.Xtend 20
     ∷ call.Seek 23 ∷ call.Adv ∷ call.Adv ∷ call.Close ∷ []
 
-abbrev line : ℕ → ℕ → List ℕ → Line
+abbrev pub line : ℕ → ℕ → List ℕ → Line
 line n c w = record { number = n; count = c; shown = w }
 
 abbrev lines : List Line

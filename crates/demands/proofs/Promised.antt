@@ -40,7 +40,7 @@ use Rattle.demands.proofs.Answers.{sizes-pass}
 use Rattle.demands.proofs.Seek.{SeekRight, seek-right}
 use Rattle.demands.proofs.Adv.{AdvRight, mark}
 use Rattle.demands.proofs.AdvRight.{adv-right}
-use Rattle.demands.proofs.Standing.{rows-of, rows-ok}
+use Rattle.demands.proofs.Records.{rows-of, rows-ok}
 use Rattle.demands.proofs.Step.{Gate, stopped, ready, gate, lent-sound, sound-run}
 use Rattle.demands.proofs.Opens.{Opens, flushed-stands, file-alone, never-070003}
 use Rattle.demands.proofs.Demands.{opens}

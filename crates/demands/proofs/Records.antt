@@ -9,22 +9,25 @@ use lib.Dec.{ltb, eqb}
 use lib.ListN.{length, take, length-append, length-replicate}
 use lib.Seq.{take-at, length-take-le}
 use borrow.Author.Tests.{lt-ltb, le-ltb, eqb-true, eqb-false}
-use Rattle.words.specs.Words.{allWords, zeros, topWord}
-use Rattle.words.specs.Keys.{ones, val}
+use Rattle.words.specs.Words.{part, allWords, zeros, topWord}
+use Rattle.words.specs.Keys.{ones, keyLt, val}
+use Rattle.words.proofs.Values.{keyLt-val}
 use Rattle.words.proofs.All.{allWords-take}
 use Rattle.table.specs.Tables.{rowWith, rowAbove, row, keyAt, inserted, removed, replaced}
 use Rattle.drum.specs.declared.Description.{Description}
 use Rattle.drum.specs.Params.{detailShape}
 use Rattle.layout.specs.Create.{endRecord}
+use Rattle.layout.specs.Tree.{Leaf, Section}
+use Rattle.rules.specs.State.{keyIn}
 use Rattle.demands.proofs.Lists.{All, all-left, all-right, all-append}
 use Rattle.demands.proofs.Rows.{firstIn, None, Found, nowhere, at, found}
 use Rattle.demands.proofs.Order.{Asc, after, asc-wide, asc-left, asc-right, asc-append, below, from, below-from, below-at, from-at, below-above, ins}
 use Rattle.demands.proofs.Order.{upd, del, hit, ins-local, upd-local, del-local}
-use Rattle.demands.proofs.Trees.{key, table}
-use Rattle.demands.proofs.Holds.{RowOk}
+use Rattle.demands.proofs.Trees.{leavesIn, recordsIn, key, table}
+use Rattle.demands.proofs.Holds.{LeafFits, SectionOk, RowOk}
 use Rattle.demands.proofs.Texts.{table-row, table-key, table-insert, table-remove, table-replace}
 use Rattle.demands.proofs.Find.{KeyRow, table-with-is, table-above-is}
-use Rattle.demands.proofs.Sound.{Ended, rows-long}
+use Rattle.demands.proofs.Sound.{Key, Ended, rows-long}
 
 -- ---- an ascending list, cut at an element
 
@@ -224,3 +227,17 @@ module _ (p : Description) (kr : p .k ≤ p .wpr) where
     pub ended-del : (x : ℕ) → x < val (ones (p .k)) → Ended p (del (key (p .k)) x rows)
     ended-del x e =
         record { front = del (key (p .k)) x (z .front); is = ap (del (key (p .k)) x) (z .is) ∙ del-local (key (p .k)) [] (z .front) (endRecord p ∷ []) 0 (val (ones (p .k))) top (omega arith) front-asc back-asc x (omega arith) e }
+
+-- the records of a tree
+pub rows-of : (p : Description) (ls : List Leaf) → All (LeafFits p) ls → All (RowOk p) (recordsIn ls)
+rows-of p [] h = tt
+rows-of p (l ∷ ls) h = all-append (RowOk p) (l .records) (recordsIn ls) (h .0 .rows) (rows-of p ls (h .1))
+
+pub rows-ok : (p : Description) (ss : List Section) → All (SectionOk p) ss → All (LeafFits p) (leavesIn ss)
+rows-ok p [] h = tt
+rows-ok p (s ∷ ss) h = all-append (LeafFits p) (s .leaves) (leavesIn ss) (h .0 .leaves) (rows-ok p ss (h .1))
+
+-- a record's key against a call's, by their numbers
+pub row-under : (p : Description) → p .k ≤ p .wpr → (w : List ℕ) → Key p w → (r : List ℕ) → RowOk p r → keyLt (keyIn p r) w ≡ ltb (key (p .k) r) (val w)
+unfolding key part
+row-under p kr w kw r ok = let l = key-long p kr r ok in keyLt-val (keyIn p r) w (l .1) (kw .wide) (l .0 ∙ sym (kw .long))

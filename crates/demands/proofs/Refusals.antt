@@ -3,6 +3,7 @@ use Prim.Native.Nat.{ℕ}
 use mathlib.Core.Path.{_≡_, refl, sym, _∙_, subst}
 use mathlib.Core.Bool.{Bool, true, false, cond, _&&_}
 use mathlib.Core.List.{List}
+use mathlib.Core.Logic.{_⊎_, inl, inr}
 use lib.Dec.{eqb}
 use lib.ListN.{length}
 use borrow.Author.Tests.{eq-eqb}
@@ -12,16 +13,16 @@ use Rattle.numbers.specs.Checked.{Checked, passed, refused}
 use Rattle.drum.specs.declared.Description.{Description}
 use Rattle.drum.specs.Params.{goodParams, fileSize}
 use Rattle.layout.specs.Inspect.{layoutMarks}
-use Rattle.rules.specs.State.{State, Outcome, desc, texts, lent, holding, outcome, unchanged}
+use Rattle.rules.specs.State.{State, Outcome, desc, lent, holding, outcome, unchanged}
 use Rattle.rules.specs.Checks.{sizesOk}
 use Rattle.rules.specs.Lookup.{Reached, stopping}
 use Rattle.rules.specs.Open.{Created, create, openChecks, openLayout, openDone, openFile}
 use Rattle.rules.specs.Requests.{Request, opening, closing, seeking, advancing, inserting, deleting, updating, extending, answer, given}
-use Rattle.demands.specs.Refusals.{leavesAll, stops, AllUnchanged, JustReached, LookupDone, LastReached, Stopped, Leaves, LeavesMarks}
+use Rattle.demands.specs.Refusals.{leavesAll, stops, AllUnchanged, JustReached, LookupDone, LastReached, LookedBefore, Stopped, Leaves, LeavesMarks}
 use Rattle.demands.proofs.Refused.{impossible, Refuses, refusing}
 use Rattle.demands.proofs.BadFile.{IsBad, walk-bad}
-use Rattle.demands.proofs.Ends.{stopped, went, Lasted}
-use Rattle.demands.proofs.Came.{CameTo, Rested, SoughtKey, came, barred, ended, rested}
+use Rattle.demands.proofs.Ends.{stopped, went, at-last, at-found}
+use Rattle.demands.proofs.Came.{CameTo, Rested, SoughtKey, SoughtLast, came, barred, ended, rested}
 
 all-same : (st : State) (n : ℕ) → AllUnchanged st (unchanged st n)
 all-same st n = record { session = refl; file = refl; buffer = refl; work = refl; transfers = refl }
@@ -52,14 +53,10 @@ rest-leaves q st bar o (rested _ d p k) = record { refusal = λ e. impossible (s
 looked-left : (st : State) (o : Outcome) (r : Reached) → SoughtKey st r → JustReached st r o → LookupDone st o
 looked-left st o r l j = record { result = l .result; looked = l .looked; leaves = subst (λ (z : Reached). JustReached st z o) (l .is) j }
 
-last-left : (st : State) (o : Outcome) (r : Reached) → Lasted (texts st) (st .session .flag) r → JustReached st r o → LastReached st o
-last-left st o r l j = record {
-  way = l .way;
-  index = l .index;
-  last = l .last;
-  alone = l .alone;
-  leaves = subst (λ (z : Reached). JustReached st z o) (l .is) j;
-}
+last-left : (st : State) (o : Outcome) (r : Reached) → SoughtLast st r → JustReached st r o → LastReached st o ⊎ LookedBefore st o
+last-left st o r (at-last way e g is) j = inl (record { way = way; last = e; alone = g; leaves = subst (λ (z : Reached). JustReached st z o) is j })
+last-left st o r (at-found way w q l is) j =
+    inr (record { way = way; last = w; found = q; looks = l; leaves = subst (λ (z : Reached). JustReached st z o) is j })
 
 -- every call, on every state: what its number says that it leaves
 pub refusals : (st : State) (q : Request) → Leaves q (given st q) (answer st q)

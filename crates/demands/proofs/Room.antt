@@ -41,9 +41,9 @@ use Rattle.demands.proofs.Answers.{Ready, key-of}
 use Rattle.demands.proofs.Stores.{asc-rows}
 use Rattle.demands.proofs.Frees.{freeCount, taken}
 use Rattle.demands.proofs.Last.{ending, Last}
-use Rattle.demands.proofs.XtendRight.{Xtended, too-low, too-low-alone, room, started, both, no-room, xtend-right}
-use Rattle.demands.proofs.Standing.{rows-of, rows-ok}
-use Rattle.demands.proofs.Contents.{row-under}
+use Rattle.demands.proofs.XtendRight.{Xtended, too-low, too-low-alone, before, room, started, both, no-room, xtend-right}
+use Rattle.demands.proofs.Records.{rows-of, rows-ok}
+use Rattle.demands.proofs.Records.{row-under}
 use Rattle.demands.proofs.Ordinary.{some-from}
 use Rattle.demands.proofs.Opens.{flushed-stands}
 use Rattle.demands.proofs.Answered.{readied}
@@ -259,21 +259,22 @@ module _ (st : State) (ss : List Section) (f : Free) (r : Ready (desc st .wpr) s
 
   room-by : Xtended st ss f L → StoredIf (hasRoom p total) (xtend st .number)
   room-by (too-low fr y e l g) = absurd (in-row fr y e l)
-  room-by (too-low-alone e l g) = absurd (alone e l)
-  room-by (room l g) = when-room _ l (ap accepted (g .number-is) ∙ stored-yes p _ f)
-  room-by (started l m s g) = when-block _ l m (λ a. ap accepted (g .number-is) ∙ stored-yes p _ (taken f)) (λ z. absurd (omega arith))
-  room-by (both l m s c g) = when-section _ l m (λ a b. ap accepted (g .number-is) ∙ stored-yes p _ (taken (taken f))) (λ z. absurd (enough z))
+  room-by (too-low-alone e l hs g) = absurd (alone e l)
+  room-by (before e l s n a y) = absurd (alone e l)
+  room-by (room iq l g) = when-room _ l (ap accepted (g .number-is) ∙ stored-yes p _ f)
+  room-by (started iq l m s g) = when-block _ l m (λ a. ap accepted (g .number-is) ∙ stored-yes p _ (taken f)) (λ z. absurd (omega arith))
+  room-by (both iq l m s c g) = when-section _ l m (λ a b. ap accepted (g .number-is) ∙ stored-yes p _ (taken (taken f))) (λ z. absurd (enough z))
     where
       enough : (freeCount f ≤ 1) ⊎ (p .control ≤ length ss) → ⊥
       enough (inl a) = omega arith
       enough (inr a) = omega arith
-  room-by (no-room l (inl z) g) = go (decLe (FI p) under)
+  room-by (no-room iq l (inl z) g) = go (decLe (FI p) under)
     where
       go : Dec (FI p ≤ under) → StoredIf (hasRoom p total) (xtend st .number)
       go (yes m) = when-section _ l m (λ a b. absurd (omega arith)) (λ z. g .number-is)
       go (no m) = when-block _ l (omega arith) (λ a. absurd (omega arith)) (λ z. g .number-is)
-  room-by (no-room l (inr (m, inl z)) g) = when-section _ l m (λ a b. absurd (omega arith)) (λ z. g .number-is)
-  room-by (no-room l (inr (m, inr z)) g) = when-section _ l m (λ a b. absurd (omega arith)) (λ z. g .number-is)
+  room-by (no-room iq l (inr (m, inl z)) g) = when-section _ l m (λ a b. absurd (omega arith)) (λ z. g .number-is)
+  room-by (no-room iq l (inr (m, inr z)) g) = when-section _ l m (λ a b. absurd (omega arith)) (λ z. g .number-is)
 
 room-of : (st : State) (ss : List Section) (f : Free) → Sound st ss f → Filled (desc st) (treeIn ss f) → RoomIn st (treeIn ss f)
 unfolding answer lending

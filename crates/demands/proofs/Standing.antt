@@ -15,7 +15,7 @@ use Rattle.words.proofs.Keys.{clash, Tri, tri, lt, eq, gt}
 use Rattle.words.proofs.Values.{sameKey-val}
 use Rattle.drum.specs.declared.Description.{Description}
 use Rattle.drum.proofs.Good.{good-facts}
-use Rattle.layout.specs.Tree.{Leaf, Section}
+use Rattle.layout.specs.Tree.{Section}
 use Rattle.rules.specs.State.{State, Outcome, desc, texts, keyIn}
 use Rattle.rules.specs.Seek.{seek, seekSteps}
 use Rattle.rules.specs.Requests.{Request, seeking, lending, answer, left}
@@ -24,8 +24,9 @@ use Rattle.demands.specs.History as history
 use Rattle.demands.proofs.Lists.{All, all-append, map-append}
 use Rattle.demands.proofs.Order.{Asc, asc-wide, below, from, from-above, below-above, hit}
 use Rattle.demands.proofs.Trees.{leavesIn, recordsIn, key, reach}
-use Rattle.demands.proofs.Holds.{Free, RowOk, LeafFits, SectionOk}
+use Rattle.demands.proofs.Holds.{Free, RowOk}
 use Rattle.demands.proofs.Records.{key-long}
+use Rattle.demands.proofs.Records.{rows-of, rows-ok}
 use Rattle.demands.proofs.Sound.{Key, Sound}
 use Rattle.demands.proofs.Answers.{key-of, work-key}
 use Rattle.demands.proofs.Stores.{asc-rows}
@@ -136,14 +137,6 @@ tells p (q ∷ qs) st ss f h e =
     told-more p st ss f q qs e z (tells p qs (answer st q .after) (z .sections) (z .free) (z .sound) (z .desc-is ∙ e))
 
 -- ---- SEEK
-
-pub rows-of : (p : Description) (ls : List Leaf) → All (LeafFits p) ls → All (RowOk p) (recordsIn ls)
-rows-of p [] h = tt
-rows-of p (l ∷ ls) h = all-append (RowOk p) (l .records) (recordsIn ls) (h .0 .rows) (rows-of p ls (h .1))
-
-pub rows-ok : (p : Description) (ss : List Section) → All (SectionOk p) ss → All (LeafFits p) (leavesIn ss)
-rows-ok p [] h = tt
-rows-ok p (s ∷ ss) h = all-append (LeafFits p) (s .leaves) (leavesIn ss) (h .0 .leaves) (rows-ok p ss (h .1))
 
 -- the records of a sound state: they ascend and are as long as they must be, and a key is no longer than a record
 pub record Ordered (st : State) (ss : List Section) : Type 0 where

@@ -34,7 +34,7 @@ use Rattle.demands.proofs.Sound.{Sound, no-true-false, text-other}
 use Rattle.demands.proofs.Answers.{Ready, sizes-pass, Gives}
 use Rattle.demands.proofs.Frees.{freeCount, taken, storedWith}
 use Rattle.demands.proofs.Seek.{close-right, seek-right, updat-right}
-use Rattle.demands.proofs.NsertRight.{Nserted, duplicate, room, split, both, no-room, nsert-right}
+use Rattle.demands.proofs.NsertRight.{Stores, duplicate, room, split, both, no-room, nsert-right}
 use Rattle.demands.proofs.DleteRight.{dlete-right}
 use Rattle.demands.proofs.AdvRight.{adv-right}
 use Rattle.demands.proofs.Last.{Last}
@@ -120,17 +120,18 @@ module _ (st : State) (ss : List Section) (f : Free) (h : Sound st ss f) where
       either (dlete-right st ss f r) (λ q. fine st ss (dlete st) notFound 3 _ _ (q .1) (λ z. omega arith))
       (λ q. fine st ss (dlete st) done 6 _ _ (q .4) (λ z. omega arith))
 
+  -- what NSERT stores, and XTEND as NSERT does
+  stores-fine : (o : Outcome) (more : ℕ) → Stores o more st ss f → FineStep (desc st) o
+  stores-fine o more (duplicate y e g) = fine st ss o notFound _ _ _ g (λ z. omega arith)
+  stores-fine o more (room e a i l g) = fine st ss o _ _ _ _ g (stored-with (desc st) (length (a .leaf .records) + 1) f)
+  stores-fine o more (split e a i l m s k q g) = fine st ss o _ _ _ _ g (stored-with (desc st) (halfCount (D (desc st)) k) (taken f))
+  stores-fine o more (both e a i l m s c k q g) = fine st ss o _ _ _ _ g (stored-with (desc st) (halfCount (D (desc st)) k) (taken (taken f)))
+  stores-fine o more (no-room e a i l w g) = fine st ss o noRoom _ _ _ g (λ z. omega arith)
+
   nsert-step : Gate (desc st .wpr) → FineStep (desc st) (nsert st)
   unfolding nsert
   nsert-step (stopped n ne ac nf e) = stays (nsert st) n ne (e (nsertSteps (texts st) (st .session .flag) (st .work)))
-  nsert-step (ready r) = go (nsert-right st ss f r)
-    where
-      go : Nserted st ss f → FineStep (desc st) (nsert st)
-      go (duplicate y e g) = fine st ss (nsert st) notFound 3 _ _ g (λ z. omega arith)
-      go (room e a i l g) = fine st ss (nsert st) _ 3 _ _ g (stored-with (desc st) (length (a .leaf .records) + 1) f)
-      go (split e a i l m s k q g) = fine st ss (nsert st) _ 7 _ _ g (stored-with (desc st) (halfCount (D (desc st)) k) (taken f))
-      go (both e a i l m s c k q g) = fine st ss (nsert st) _ 8 _ _ g (stored-with (desc st) (halfCount (D (desc st)) k) (taken (taken f)))
-      go (no-room e a i l w g) = fine st ss (nsert st) noRoom 3 _ _ g (λ z. omega arith)
+  nsert-step (ready r) = stores-fine (nsert st) 0 (nsert-right st ss f r)
 
   xtend-step : Gate (desc st .wpr) → FineStep (desc st) (xtend st)
   unfolding xtend
@@ -139,11 +140,12 @@ module _ (st : State) (ss : List Section) (f : Free) (h : Sound st ss f) where
     where
       go : (L : Last (texts st) (st .session .flag) ss f) → x.Xtended st ss f L → FineStep (desc st) (xtend st)
       go L (x.too-low fr y e l g) = fine st ss (xtend st) outOfSequence 4 _ _ g (λ z. omega arith)
-      go L (x.too-low-alone e l g) = fine st ss (xtend st) outOfSequence 4 _ _ g (λ z. omega arith)
-      go L (x.room l g) = fine st ss (xtend st) _ 4 _ _ g (stored-with (desc st) (length (L .leaf .records) + 1) f)
-      go L (x.started l m s g) = fine st ss (xtend st) _ 7 _ _ g (stored-with (desc st) (length (L .leaf .records)) (taken f))
-      go L (x.both l m s c g) = fine st ss (xtend st) _ 8 _ _ g (stored-with (desc st) (length (L .leaf .records)) (taken (taken f)))
-      go L (x.no-room l w g) = fine st ss (xtend st) noRoom 4 _ _ g (λ z. omega arith)
+      go L (x.too-low-alone e l hs g) = fine st ss (xtend st) outOfSequence 6 _ _ g (λ z. omega arith)
+      go L (x.before e l s n a y) = stores-fine (xtend st) 3 y
+      go L (x.room iq l g) = fine st ss (xtend st) _ 4 _ _ g (stored-with (desc st) (length (L .leaf .records) + 1) f)
+      go L (x.started iq l m s g) = fine st ss (xtend st) _ 7 _ _ g (stored-with (desc st) (length (L .leaf .records)) (taken f))
+      go L (x.both iq l m s c g) = fine st ss (xtend st) _ 8 _ _ g (stored-with (desc st) (length (L .leaf .records)) (taken (taken f)))
+      go L (x.no-room iq l w g) = fine st ss (xtend st) noRoom 4 _ _ g (λ z. omega arith)
 
   adv-step : Dec (length (st .work) ≡ desc st .wpr) → (u : Bool) → st .session .opened ≡ u → FineStep (desc st) (adv st)
   unfolding adv workOk isOpen settle

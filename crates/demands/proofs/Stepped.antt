@@ -21,9 +21,10 @@ use Rattle.demands.proofs.Holds.{Free}
 use Rattle.demands.proofs.Sound.{Key, Sound}
 use Rattle.demands.proofs.History.{Change, puts, drops, happened}
 use Rattle.demands.proofs.Moves.{treeIn}
+use Rattle.demands.proofs.LastBlock.{LastTells}
 use Rattle.demands.proofs.Growth.{Growth, nothing, Grows}
 
--- what a call may bring: NSERT splits and XTEND starts, with a record where it is accepted; XTEND that is not, and the others, bring nothing
+-- what a call may bring: NSERT splits and XTEND starts or splits, with a record where it is accepted; XTEND that is not, and the others, bring nothing
 abbrev pub Brought : Request → Outcome → Growth → Type 0
 Brought (opening marks) o g = g ≡ nothing
 Brought closing o g = g ≡ nothing
@@ -33,7 +34,7 @@ Brought (inserting w) o g = (g .records ≡ acceptedBy o) × (g .starts ≡ 0) �
 Brought (deleting w) o g = g ≡ nothing
 Brought (updating w) o g = g ≡ nothing
 Brought (extending w) o g =
-    (g .records ≡ acceptedBy o) × (g .splits ≡ 0) × (g .index-splits ≡ 0) × (g .starts ≤ acceptedBy o) × (g .index-starts ≤ acceptedBy o)
+    (g .records ≡ acceptedBy o) × (g .splits + g .starts ≤ acceptedBy o) × (g .index-splits + g .index-starts ≤ acceptedBy o)
 
 -- the transfers that a call may make which brings g
 abbrev pub most : Request → Growth → ℕ
@@ -60,7 +61,8 @@ Moved (updating w) o g t t′ = KeepsBlocks t t′
 Moved (extending w) o g t t′ = Takes (g .splits + g .starts) (g .index-splits + g .index-starts) t t′
 
 -- a call from a sound state with the tree ss: a sound state again, of the same file; the contents with what the call put in or took out; and
--- what the call brought, at what cost; the blocks then; and a tree filled by XTEND stays one where the call is no NSERT and no DLETE accepted
+-- what the call brought, at what cost, and what the last leaf tells of it; the blocks then; and a tree filled by XTEND stays one where the call is no
+-- NSERT and no DLETE accepted
 pub record Stepped (st : State) (ss : List Section) (f : Free) (q : Request) : Type 0 where
   pub sections : List Section
   pub free : Free
@@ -71,6 +73,7 @@ pub record Stepped (st : State) (ss : List Section) (f : Free) (q : Request) : T
   pub growth : Growth
   pub grows : Grows (desc st) ss sections growth
   pub brought : Brought q (answer st q) growth
+  pub last : LastTells q growth ss sections
   pub cost : length (answer st q .transfers) ≤ most q growth
   pub moved : Moved q (answer st q) growth (treeIn ss f) (treeIn sections free)
   pub filled : disturbs q (answer st q) ≡ 0 → Filled (desc st) (treeIn ss f) → Filled (desc st) (treeIn sections free)

@@ -24,7 +24,11 @@ pub sound-numbers : (st : State) (ss : List Section) (f : Free) → Sound st ss 
 unfolding answer lending
 sound-numbers st ss f h t ht =
     let is : treeIn ss f ≡ t = one-tree (desc st) (putBack st) (treeIn ss f) t (h .kept .good) (flushed-stands st ss f h) ht in
-    subst (Stored st) is (record { nsert = nsert-number st ss f h; xtend = λ w a. xtend-number (lending w st) ss f (readied st ss f h (desc st .wpr) w a) })
+    subst (Stored st) is (record {
+      nsert = nsert-number st ss f h;
+      xtend = λ w a. xtend-number (lending w st) ss f (readied st ss f h (desc st .wpr) w a)
+          (nsert-number st ss f h w a);
+    })
 
 pub call-numbers : CallNumbers
 call-numbers = after-open (λ (st : State). (t : Tree) → laid.Holds (desc st) (putBack st) t → Stored st t) sound-numbers

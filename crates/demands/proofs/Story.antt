@@ -27,6 +27,7 @@ use Rattle.demands.proofs.Lists.{All}
 use Rattle.demands.proofs.Order.{Asc, ins, hit}
 use Rattle.demands.proofs.Trees.{leavesIn, recordsIn, key, reach}
 use Rattle.demands.proofs.Holds.{Free, RowOk}
+use Rattle.demands.proofs.Records.{rows-of, rows-ok}
 use Rattle.demands.proofs.Sound.{Key, Sound}
 use Rattle.demands.proofs.Answers.{work-key, Gives}
 use Rattle.demands.proofs.Stores.{asc-rows}
@@ -40,7 +41,7 @@ use Rattle.demands.proofs.History.{found-exactly}
 use Rattle.demands.proofs.History as his
 use Rattle.demands.proofs.Stepped.{numbered, KeyOf, Stepped}
 use Rattle.demands.proofs.Calls.{ins-fresh, stepped}
-use Rattle.demands.proofs.Standing.{tells, with-hit, standing-same, events-keyed, rows-of, rows-ok, Ordered, ordered, seek-hands}
+use Rattle.demands.proofs.Standing.{tells, with-hit, standing-same, events-keyed, Ordered, ordered, seek-hands}
 use Rattle.demands.proofs.Opens.{Opens}
 use Rattle.demands.proofs.Demands.{opens, opened-desc, found-after-open}
 use Rattle.demands.proofs.Sought.{found-or-not}
@@ -96,11 +97,12 @@ module _ (st : State) (ss : List Section) (f : Free) (h : Sound st ss f) where
     where
       by : (L : Last (texts (lending w st)) (st .session .flag) ss f) → x.Xtended (lending w st) ss f L → hit K (val (keyIn p w)) rows ≡ []
       by L (x.too-low fr y e l g) = impossible (sym a ∙ ap accepted (g .number-is))
-      by L (x.too-low-alone e l g) = impossible (sym a ∙ ap accepted (g .number-is))
-      by L (x.no-room l m g) = impossible (sym a ∙ ap accepted (g .number-is))
-      by L (x.room l g) = fresh-by w (answer st (extending w)) g
-      by L (x.started l m s g) = fresh-by w (answer st (extending w)) g
-      by L (x.both l m s c g) = fresh-by w (answer st (extending w)) g
+      by L (x.too-low-alone e l hs g) = impossible (sym a ∙ ap accepted (g .number-is))
+      by L (x.no-room iq l m g) = impossible (sym a ∙ ap accepted (g .number-is))
+      by L (x.before e l s n i y) = n
+      by L (x.room iq l g) = fresh-by w (answer st (extending w)) g
+      by L (x.started iq l m s g) = fresh-by w (answer st (extending w)) g
+      by L (x.both iq l m s c g) = fresh-by w (answer st (extending w)) g
 
       go : Gate (lending w st) ss f (lent-sound w st ss f h) (p .wpr) → hit K (val (keyIn p w)) rows ≡ []
       go (stopped n ne ac nf e) =

@@ -20,7 +20,8 @@ use Rattle.rules.specs.declared.Way.the-variants.{Here, By}
 use Rattle.rules.specs.declared.Look.{Look}
 use Rattle.rules.specs.declared.Look.the-variants as look-is
 use Rattle.rules.specs.State.{desc, keyIn}
-use Rattle.rules.specs.Lookup.{onBuffer}
+use Rattle.rules.specs.Lookup.{onBuffer, bringing, reached}
+use Rattle.rules.specs.Paths.{pathTo}
 use Rattle.rules.specs.declared.Taken.{Taken}
 use Rattle.rules.specs.declared.Insert.{Insert}
 use Rattle.rules.specs.declared.Insert.the-variants as insert-is
@@ -35,7 +36,7 @@ use Rattle.rules.specs.NsertDone as nd
 use Rattle.rules.specs.Xtend as x
 use Rattle.rules.specs.XtendDone as xd
 use Rattle.rules.specs.Fits.{PathFits, FlushFits, WayFits, LookFits}
-use Rattle.rules.proofs.Fits.{path-fits, last-passed, lastOf-fits}
+use Rattle.rules.proofs.Fits.{path-fits, flush-of, last-passed, lastOf-fits}
 use Rattle.demands.proofs.SameChecks.{SameChecks, same-refl, same-bind, same-test}
 use Rattle.demands.proofs.UnusedLooks.{text-same, unused-index, unused-detail, path-same, reached-same, way-same, by-plan}
 
@@ -166,6 +167,11 @@ module _ (p : Description) (f a b : List ℕ) where
         let g : FlushFits v false = h .1 in
         (search (chain, insert-no-room, insert-room, insert-split, insert-both) depth 16, insert-missing w q g key)
 
+    insert-planned : (key : List ℕ) (w : Path) → PathFits v w → FlushFits v false → (d : Insert)
+        → n.insertAt v false w (rowAbove (detailShape p) key (textOf v (w .detail))) ≡ passed d → Inserted d
+    unfolding n.insertAfter
+    insert-planned key w q g d e = insert-after key (look-is.Missing w) (q, g) .0 .holds d e
+
     pub nsert-same : SameChecks (nd.nsertSteps v false work) (nd.nsertSteps u false work)
     unfolding nd.nsertSteps n.insertDeed
     nsert-same = by-plan p f a b Inserted (keyIn p work) _ _ _ _ (insert-after (keyIn p work)) (λ e q. q .done)
@@ -178,6 +184,22 @@ module _ (p : Description) (f a b : List ℕ) where
   module _ (work : List ℕ) where
     record Extended (e : Extend) : Type 0 where
       done : SameChecks (xd.extendDone v false work e) (xd.extendDone u false work e)
+
+    -- what NSERT does, under XTEND's list
+    -- the buffer is not flagged any more
+    again : (y : Path) (d : Insert) → SameChecks (nd.insertDone v false work d) (nd.insertDone u false work d)
+        → SameChecks (nd.insertDone v (reached u false (By y) .flag) work d) (nd.insertDone u (reached u false (By y) .flag) work d)
+    unfolding reached bringing
+    again y d s = s
+
+    extend-as : (way : Way) → WayFits v false way → (w : Path) (d : Insert) → SameChecks (nd.insertDone v false work d) (nd.insertDone u false work d)
+        → Extended (extend-is.Before way w d)
+    unfolding xd.extendDone
+    extend-as Here h w d s = absurd (omega (arith, h .current-least))
+    extend-as (By y) h w d s = record {
+      done = rw (reached-same p f a b (By y) h)
+          (same-bind _ _ _ _ s (λ e i. same-bind _ _ _ _ (again y d s) (λ t k. same-refl _)));
+    }
 
     module _ (way : Way) (h : WayFits v false way) where
       extend-stop : (i k : ℕ) → Extended (extend-is.Stop way i k)
@@ -198,6 +220,14 @@ module _ (p : Description) (f a b : List ℕ) where
       extend-both w k c t e =
           record { done = rw (reached-same p f a b way h, way-same p f a b way h, unused-index p f a b w (lastOf-fits v false way w h e)) (same-refl _) }
 
+      -- as NSERT, after a lookup
+      extend-turned : (key : List ℕ) (w c : Path) (k : ℕ) → pathTo v key ≡ passed c → Extended (extend-is.Before way w (insert-is.Stop (By c) k))
+      extend-turned key w c k e = extend-as way h w _ (insert-stop work (By c) k (path-fits v _ _ key c e, flush-of v false way h) .done)
+
+      extend-before : (key : List ℕ) (w c : Path) (d : Insert) → pathTo v key ≡ passed c
+          → n.insertAt v false c (rowAbove (detailShape p) key (textOf v (c .detail))) ≡ passed d → Extended (extend-is.Before way w d)
+      extend-before key w c d e i = extend-as way h w d (insert-planned work key c (path-fits v _ _ key c e) (flush-of v false way h) d i .done)
+
     module _ (w : Path) (q : PathFits v w) (g : FlushFits v false) where
       extend-room-same : (i : ℕ) → SameChecks (x.lastRoom v (By w) i) (x.lastRoom u (By w) i)
       unfolding x.lastRoom
@@ -207,9 +237,26 @@ module _ (p : Description) (f a b : List ℕ) where
       unfolding x.notAboveBefore
       before-same key = rw (unused-index p f a b w q)
 
-      alone-same : (key : List ℕ) → SameChecks (x.aloneDeed v key (By w)) (x.aloneDeed u key (By w))
+      behind-same : (key : List ℕ) (c : Path) → PathFits v c → x.notBehind v key w c ≡ x.notBehind u key w c
+      unfolding x.notBehind x.justBefore
+      behind-same key c h = rw (unused-detail p f a b c h, unused-index p f a b c h)
+
+      insert-before-same : (key : List ℕ) (c : Path) → PathFits v c
+          → SameChecks (x.insertBefore v false key (By w) w c) (x.insertBefore u false key (By w) w c)
+      unfolding x.insertBefore
+      insert-before-same key c h =
+          rw (unused-detail p f a b c h)
+          (same-bind _ _ _ _ (insert-at-same work c h g (rowAbove (detailShape p) key (textOf u (c .detail)))) (λ d e. same-refl _))
+
+      look-same : (key : List ℕ) → SameChecks (x.lookDeed v false key (By w) w) (x.lookDeed u false key (By w) w)
+      unfolding x.lookDeed
+      look-same key =
+          same-bind _ _ _ _ (path-same p f a b _ _ key) (λ c e. let h = path-fits v _ _ key c e in
+          same-test _ _ _ _ _ _ (behind-same key c h) (λ z. same-refl _) (λ z. insert-before-same key c h))
+
+      alone-same : (key : List ℕ) → SameChecks (x.aloneDeed v false key (By w)) (x.aloneDeed u false key (By w))
       unfolding x.aloneDeed x.lastOf
-      alone-same key = same-test _ _ _ _ _ _ (before-same key) (λ e. same-refl _) (λ e. extend-room-same (w .index))
+      alone-same key = same-test _ _ _ _ _ _ (before-same key) (λ e. look-same key) (λ e. extend-room-same (w .index))
 
       new-same : SameChecks (x.newDeed v false (By w)) (x.newDeed u false (By w))
       unfolding x.newDeed x.lastOf x.newAt x.startDeed x.sectionDeed
@@ -237,8 +284,8 @@ module _ (p : Description) (f a b : List ℕ) where
     last-fits way e = last-passed v false .holds way e
 
     extend-done : (key : List ℕ) → Passed Extended (x.extendDeed v false key)
-    unfolding x.extendDeed x.extendAt x.aloneDeed x.lastRoom x.newDeed x.newAt x.startDeed x.sectionDeed
-    extend-done key = search (chain, last-fits, extend-stop, extend-room, extend-new, extend-both) depth 20
+    unfolding x.extendDeed x.extendAt x.aloneDeed x.lookDeed x.insertBefore x.lastRoom x.newDeed x.newAt x.startDeed x.sectionDeed
+    extend-done key = search (chain, last-fits, extend-stop, extend-room, extend-turned, extend-before, extend-new, extend-both) depth 24
 
     extend-same : (key : List ℕ) → SameChecks (x.extendDeed v false key) (x.extendDeed u false key)
     unfolding x.extendDeed

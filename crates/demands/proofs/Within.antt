@@ -1,7 +1,9 @@
 -- The session formula of a whole run, from what is known of each call; and the bound of one call.
 use Prim.Native.Nat.{ℕ, _+_, _*_, _/_, _≤_}
-use mathlib.Core.Bool.{true}
-use mathlib.Core.Path.{_≡_, refl, sym, _∙_, subst}
+use mathlib.Core.Bool.{Bool, true, false, cond, not}
+use mathlib.Core.Logic.{inl, inr}
+use borrow.Author.Tests.{eq-eqb, ne-eqb}
+use mathlib.Core.Path.{_≡_, refl, sym, ap, _∙_, subst}
 use mathlib.Core.List.{List, [], _∷_}
 use native.Mathlib.Omega.{arith}
 use Rattle.numbers.specs.Numbers.{done}
@@ -11,7 +13,7 @@ use Rattle.drum.proofs.Good.{good-facts}
 use Rattle.rules.specs.State.{Session, State, Outcome, desc, lent}
 use Rattle.rules.specs.Open.{create, openFile}
 use Rattle.rules.specs.Requests.{Request, opening, closing, seeking, advancing, inserting, deleting, updating, extending, answer, left, tally}
-use Rattle.demands.specs.Formula.{hD, hI, newDetails, newIndexes, acceptedBy, ofNsert, ofXtend}
+use Rattle.demands.specs.Formula.{hD, hI, newDetails, newIndexes, lastDetail, startsLast, acceptedBy, ofNsert, ofXtend, splitOff, startedNew}
 use Rattle.demands.specs.Formula.{M, S, s, X, x, allTransfers, shares, Within, AfterCreate, CallWithin}
 use Rattle.demands.specs.Nearest.{Nearest}
 use Rattle.demands.proofs.Lists.{All, all-append}
@@ -22,6 +24,7 @@ use Rattle.demands.proofs.Sound.{Sound}
 use Rattle.demands.proofs.Potential.{lastOr, paid-same, paid-halves, paid-first, paid-fills}
 use Rattle.demands.proofs.Growth.{counts, sizes, Growth, grown, plus, nothing, Tally, Grows, tally-made}
 use Rattle.demands.proofs.InUse.{details-are, indexes-are}
+use Rattle.demands.proofs.LastBlock.{lastNumber, last-is, LastTells}
 use Rattle.demands.proofs.Stepped.{Brought, Stepped}
 
 -- ---- one call
@@ -29,31 +32,67 @@ use Rattle.demands.proofs.Stepped.{Brought, Stepped}
 -- what it brought can be seen from the call, its answer and the file's words
 pub record Seen (st : State) (q : Request) (o : Outcome) (g : Growth) : Type 0 where
   pub records : ofNsert (acceptedBy o) q + ofXtend (acceptedBy o) q ≡ g .records
-  pub splits : ofNsert (newDetails st o) q ≡ g .splits
-  pub index-splits : ofNsert (newIndexes st o) q ≡ g .index-splits
-  pub starts : ofXtend (newDetails st o) q ≡ g .starts
-  pub index-starts : ofXtend (newIndexes st o) q ≡ g .index-starts
+  pub splits : splitOff (newDetails st o) q st (o .after) ≡ g .splits
+  pub index-splits : splitOff (newIndexes st o) q st (o .after) ≡ g .index-splits
+  pub starts : startedNew (newDetails st o) q st (o .after) ≡ g .starts
+  pub index-starts : startedNew (newIndexes st o) q st (o .after) ≡ g .index-starts
+
+-- what XTEND has split off and started, as the last leaf tells
+pub record Sorted (st : State) (o : Outcome) (g : Growth) : Type 0 where
+  pub splits : cond (startsLast st (o .after)) 0 (newDetails st o) ≡ g .splits
+  pub index-splits : cond (startsLast st (o .after)) 0 (newIndexes st o) ≡ g .index-splits
+  pub starts : cond (startsLast st (o .after)) (newDetails st o) 0 ≡ g .starts
+  pub index-starts : cond (startsLast st (o .after)) (newIndexes st o) 0 ≡ g .index-starts
+
+pub sorted : (st : State) (o : Outcome) (g : Growth) → newDetails st o ≡ g .splits + g .starts → newIndexes st o ≡ g .index-splits + g .index-starts
+    → (w : List ℕ) (ss ss′ : List Section) → lastDetail st ≡ lastNumber (leavesIn ss) → lastDetail (o .after) ≡ lastNumber (leavesIn ss′)
+    → LastTells (extending w) g ss ss′ → Sorted st o g
+unfolding startsLast
+sorted st o g d i w ss ss′ e e′ (inl (u, v, n)) =
+    let t : startsLast st (o .after) ≡ false = ap not (eq-eqb (lastDetail (o .after)) (lastDetail st) (e′ ∙ n ∙ sym e)) in
+    record {
+      splits = ap (λ (b : Bool). cond b 0 (newDetails st o)) t ∙ omega arith;
+      index-splits = ap (λ (b : Bool). cond b 0 (newIndexes st o)) t ∙ omega arith;
+      starts = ap (λ (b : Bool). cond b (newDetails st o) 0) t ∙ omega arith;
+      index-starts = ap (λ (b : Bool). cond b (newIndexes st o) 0) t ∙ omega arith;
+    }
+sorted st o g d i w ss ss′ e e′ (inr (u, v, n)) =
+    let t : startsLast st (o .after) ≡ true = ap not (ne-eqb (lastDetail (o .after)) (lastDetail st) (λ q. n (sym e′ ∙ q ∙ e))) in
+    record {
+      splits = ap (λ (b : Bool). cond b 0 (newDetails st o)) t ∙ omega arith;
+      index-splits = ap (λ (b : Bool). cond b 0 (newIndexes st o)) t ∙ omega arith;
+      starts = ap (λ (b : Bool). cond b (newDetails st o) 0) t ∙ omega arith;
+      index-starts = ap (λ (b : Bool). cond b (newIndexes st o) 0) t ∙ omega arith;
+    }
 
 sees : (st : State) (q : Request) (o : Outcome) (g : Growth) → Brought q o g → newDetails st o ≡ g .splits + g .starts
     → newIndexes st o ≡ g .index-splits + g .index-starts
+    → (ss ss′ : List Section) → lastDetail st ≡ lastNumber (leavesIn ss) → lastDetail (o .after) ≡ lastNumber (leavesIn ss′) → LastTells q g ss ss′
     → Seen st q o g
-unfolding ofNsert ofXtend
-sees st (opening marks) o g b d i =
+unfolding ofNsert ofXtend splitOff startedNew
+sees st (opening marks) o g b d i ss ss′ e e′ lt =
     subst (Seen st (opening marks) o) (sym b) (record { records = refl; splits = refl; index-splits = refl; starts = refl; index-starts = refl })
-sees st closing o g b d i =
+sees st closing o g b d i ss ss′ e e′ lt =
     subst (Seen st closing o) (sym b) (record { records = refl; splits = refl; index-splits = refl; starts = refl; index-starts = refl })
-sees st (seeking w) o g b d i =
+sees st (seeking w) o g b d i ss ss′ e e′ lt =
     subst (Seen st (seeking w) o) (sym b) (record { records = refl; splits = refl; index-splits = refl; starts = refl; index-starts = refl })
-sees st (advancing w) o g b d i =
+sees st (advancing w) o g b d i ss ss′ e e′ lt =
     subst (Seen st (advancing w) o) (sym b) (record { records = refl; splits = refl; index-splits = refl; starts = refl; index-starts = refl })
-sees st (inserting w) o g b d i =
+sees st (inserting w) o g b d i ss ss′ e e′ lt =
     record { records = omega arith; splits = omega arith; index-splits = omega arith; starts = omega arith; index-starts = omega arith }
-sees st (deleting w) o g b d i =
+sees st (deleting w) o g b d i ss ss′ e e′ lt =
     subst (Seen st (deleting w) o) (sym b) (record { records = refl; splits = refl; index-splits = refl; starts = refl; index-starts = refl })
-sees st (updating w) o g b d i =
+sees st (updating w) o g b d i ss ss′ e e′ lt =
     subst (Seen st (updating w) o) (sym b) (record { records = refl; splits = refl; index-splits = refl; starts = refl; index-starts = refl })
-sees st (extending w) o g b d i =
-    record { records = omega arith; splits = omega arith; index-splits = omega arith; starts = omega arith; index-starts = omega arith }
+sees st (extending w) o g b d i ss ss′ e e′ lt =
+    let z : Sorted st o g = sorted st o g d i w ss ss′ e e′ lt in
+    record {
+      records = omega arith;
+      splits = omega (arith, z .splits);
+      index-splits = omega (arith, z .index-splits);
+      starts = omega (arith, z .starts);
+      index-starts = omega (arith, z .index-starts);
+    }
 
 module _ (st : State) (ss : List Section) (f : Free) (h : Sound st ss f) (q : Request) (z : Stepped st ss f q) where
   new-details : newDetails st (answer st q) ≡ z .growth .splits + z .growth .starts
@@ -69,7 +108,9 @@ module _ (st : State) (ss : List Section) (f : Free) (h : Sound st ss f) (q : Re
   call-within = rw (new-details, new-indexes) (z .cost)
 
   pub seen : Seen st q (answer st q) (z .growth)
-  seen = sees st q (answer st q) (z .growth) (z .brought) new-details new-indexes
+  seen =
+      sees st q (answer st q) (z .growth) (z .brought) new-details new-indexes ss (z .sections) (last-is st ss f h)
+      (last-is (answer st q .after) (z .sections) (z .free) (z .sound)) (z .last)
 
 -- ---- a run of calls
 

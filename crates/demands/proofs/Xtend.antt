@@ -253,10 +253,10 @@ module _ (st : State) (ss : List Section) (f : Free) (r : Ready (desc st .wpr) s
         (cond (ltb size (FD p)) (lastRoom v (L .way) 0) (newDeed v flag (L .way)))
     unfolding extendAt
     ordinary =
-        ap (λ (m : ℕ). cond (eqb m 1) (aloneDeed v w (L .way))
+        ap (λ (m : ℕ). cond (eqb m 1) (aloneDeed v flag w (L .way))
         (cond (not (keyLt (keyAt (detailShape p) (textAt v (L .way)) (m - 2)) w)) (passed (Stop (L .way) 0 outOfSequence))
         (cond (ltb m (FD p)) (lastRoom v (L .way) 0) (newDeed v flag (L .way))))) counted
-        ∙ ap₂ (λ (t u : Bool). cond t (aloneDeed v w (L .way))
+        ∙ ap₂ (λ (t u : Bool). cond t (aloneDeed v flag w (L .way))
         (cond (not u) (passed (Stop (L .way) 0 outOfSequence)) (cond (ltb size (FD p)) (lastRoom v (L .way) 0) (newDeed v flag (L .way)))))
         (ne-eqb size 1 (λ q. omega (arith, q, more))) high-key
 

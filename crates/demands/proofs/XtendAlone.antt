@@ -22,7 +22,7 @@ use Rattle.rules.specs.declared.Path.{Path}
 use Rattle.rules.specs.declared.Extend.the-variants.{Stop, Room}
 use Rattle.rules.specs.State.{State, desc, texts, keyIn}
 use Rattle.rules.specs.Lookup.{textAt}
-use Rattle.rules.specs.Xtend.{lastRoom, notAboveBefore, aloneDeed, newDeed, extendAt}
+use Rattle.rules.specs.Xtend.{lastRoom, notAboveBefore, lookDeed, aloneDeed, newDeed, extendAt}
 use Rattle.rules.specs.XtendDone.{xtend}
 use Rattle.layout.specs.Create.{endRecord}
 use Rattle.demands.proofs.Scene.{Scene, scene}
@@ -42,8 +42,8 @@ use Rattle.demands.proofs.Sound.{Key}
 use Rattle.demands.proofs.Answers.{Ready, Gives}
 use Rattle.demands.proofs.Frees.{storedWith}
 use Rattle.demands.proofs.Last.{Last}
-use Rattle.demands.proofs.Xtend.{EndScene, endScene, size-is, good, counted, path-of, stop-xtend, room-at, room-gives}
-use Rattle.demands.proofs.Growth.{nothing, aRecord}
+use Rattle.demands.proofs.Xtend.{EndScene, endScene, size-is, good, counted, path-of, room-at, room-gives}
+use Rattle.demands.proofs.Growth.{aRecord}
 
 module _ (st : State) (ss : List Section) (f : Free) (r : Ready (desc st .wpr) st ss f) (kw : Key (desc st) (keyIn (desc st) (st .work)))
     (L : Last (texts st) (st .session .flag) ss f) where
@@ -117,22 +117,20 @@ module _ (st : State) (ss : List Section) (f : Free) (r : Ready (desc st .wpr) s
             simp (eq-eqb (length (L .low)) 0 (ap length e), eq-eqb (length (L .before)) 0 (ap length g))
             (sym (ap (ltb (val w)) l ∙ le-ltb (val w) 0 (omega arith)))
 
-    to-alone : extendAt v flag w (L .way) ≡ cond (ltb (val w) (lo p a)) (passed (Stop (L .way) (L .index) outOfSequence)) (lastRoom v (L .way) (L .index))
+    to-alone : extendAt v flag w (L .way) ≡ cond (ltb (val w) (lo p a)) (lookDeed v flag w (L .way) (pathOf a)) (lastRoom v (L .way) (L .index))
     unfolding extendAt aloneDeed
     to-alone =
-        ap (λ (m : ℕ). cond (eqb m 1) (aloneDeed v w (L .way))
+        ap (λ (m : ℕ). cond (eqb m 1) (aloneDeed v flag w (L .way))
         (cond (not (keyLt (keyAt (detailShape p) (textAt v (L .way)) (m - 2)) w)) (passed (Stop (L .way) 0 outOfSequence))
         (cond (ltb m (FD p)) (lastRoom v (L .way) 0) (newDeed v flag (L .way))))) (counted st ss f r kw L ∙ one)
         ∙ ap
-        (λ (m : Checked Path). m >>= (λ x. cond (notAboveBefore v w x) (passed (Stop (L .way) (x .index) outOfSequence)) (lastRoom v (L .way) (x .index))))
+        (λ (m : Checked Path). m >>= (λ x. cond (notAboveBefore v w x) (lookDeed v flag w (L .way) x) (lastRoom v (L .way) (x .index))))
         (path-of st ss f r kw L)
-        ∙ ap (λ (t : Bool). cond t (passed (Stop (L .way) (L .index) outOfSequence)) (lastRoom v (L .way) (L .index))) before-test
+        ∙ ap (λ (t : Bool). cond t (lookDeed v flag w (L .way) (pathOf a)) (lastRoom v (L .way) (L .index))) before-test
 
-    pub five-deed : val w < lo p a → extendAt v flag w (L .way) ≡ passed (Stop (L .way) (L .index) outOfSequence)
-    five-deed h = to-alone ∙ simp (lt-ltb (val w) (lo p a) h)
-
-    pub alone-five : val w < lo p a → Gives st ss (xtend st) outOfSequence 4 rows nothing ss f
-    alone-five h = stop-xtend st ss f r kw L (L .index) outOfSequence (five-deed h)
+    -- "a lookup for the key follows"
+    pub to-look : val w < lo p a → extendAt v flag w (L .way) ≡ lookDeed v flag w (L .way) (pathOf a)
+    to-look h = to-alone ∙ simp (lt-ltb (val w) (lo p a) h)
 
     pub few : size < FD p
     few = omega (arith, one, caps p (good st ss f r kw L) .fd-least)

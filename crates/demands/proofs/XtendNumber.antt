@@ -5,10 +5,9 @@ use mathlib.Core.Logic.{_⊎_, inl, inr}
 use mathlib.Core.Path.{_≡_, refl, sym, ap, ap₂, _∙_, subst}
 use mathlib.Core.List.{List, [], _∷_, _++_, append-nil, append-assoc}
 use native.Mathlib.Omega.{arith}
-use native.Mathlib.Decide.{decLt}
 use lib.Dec.{leb, ltb}
 use lib.ListN.{length}
-use borrow.Author.Tests.{lt-ltb, le-ltb, le-leb, lt-leb}
+use borrow.Author.Tests.{lt-ltb, le-leb, lt-leb}
 use Rattle.numbers.specs.Numbers.{outOfSequence}
 use Rattle.words.specs.Words.{part}
 use Rattle.words.specs.Keys.{ones, keyLt, isOnes, val}
@@ -20,11 +19,12 @@ use Rattle.layout.specs.Create.{endRecord}
 use Rattle.layout.specs.Tree.{Leaf, Section, lastIn}
 use Rattle.layout.specs.Tree as lay
 use Rattle.rules.specs.State.{State, desc, texts, keyIn}
+use Rattle.rules.specs.NsertDone.{nsert}
 use Rattle.rules.specs.XtendDone.{xtend}
 use Rattle.demands.specs.Answers.{ordinary, lastBlock}
-use Rattle.demands.specs.Storing.{freeBlocks, placing, lastSection, boundBefore, limits, isAbove, xtendNumber}
+use Rattle.demands.specs.Storing.{freeBlocks, placing, ifNone, nsertNumber, lastSection, boundBefore, limits, isAbove, atLast, xtendNumber}
 use Rattle.demands.proofs.Lists.{All, all-left, all-right, from-end}
-use Rattle.demands.proofs.Order.{Asc}
+use Rattle.demands.proofs.Order.{Asc, asc-right}
 use Rattle.demands.proofs.Trees.{leavesIn, leavesIn-append, key, bd, reach, reach-append}
 use Rattle.demands.proofs.Holds.{Free, LeafFits, RowOk}
 use Rattle.demands.proofs.Steps.{sec}
@@ -32,16 +32,16 @@ use Rattle.demands.proofs.Places.{lo, hi}
 use Rattle.demands.proofs.Sound.{Key}
 use Rattle.demands.proofs.Answers.{Ready, key-of}
 use Rattle.demands.proofs.Frees.{freeCount, taken, taken-count}
-use Rattle.demands.proofs.NsertRight.{before, room, both, no-room}
 use Rattle.demands.proofs.Last.{ending, Last, end-ones}
-use Rattle.demands.proofs.Xtend.{oks, asc, top-is, xtend-five}
-use Rattle.demands.proofs.XtendAlone.{alone-five}
-use Rattle.demands.proofs.XtendRight.{Xtended, too-low, too-low-alone, started, xtend-right}
+use Rattle.demands.proofs.Xtend.{oks, asc, top-is}
+use Rattle.demands.proofs.XtendBefore.{notBelow}
+use Rattle.demands.proofs.XtendRight.{InSequence, Xtended, too-low, too-low-alone, started, xtend-right}
+use Rattle.demands.proofs.Extends.{Sequence, sequence, not-below}
 use Rattle.demands.proofs.XtendRight as x
 use Rattle.demands.proofs.Ordinary.{last-leaf}
 use Rattle.demands.proofs.Records.{key-long}
-use Rattle.demands.proofs.Standing.{rows-ok}
-use Rattle.demands.proofs.Contents.{row-under}
+use Rattle.demands.proofs.Records.{rows-ok}
+use Rattle.demands.proofs.Records.{row-under}
 use Rattle.demands.proofs.Moves.{treeIn}
 use Rattle.demands.proofs.Placing.{place-room, place-one, place-two, place-none, stored-as, over, bound-under}
 
@@ -171,55 +171,79 @@ module _ (st : State) (ss : List Section) (f : Free) (r : Ready (desc st .wpr) s
     free-x : freeBlocks q (treeIn ss f) ≡ freeCount f
     free-x = omega (arith, r .sound .kept .holds .numbers)
 
-    number-is : xtendNumber q w (treeIn ss f) ≡ cond (asks (L .front)) (placing q (FD q) (FI q) size size under-it (treeIn ss f)) outOfSequence
+    -- whether the key belongs in the last block
+    at-is : atLast q w (treeIn ss f) ≡ asks (L .front)
+    unfolding atLast
+    at-is = ap asks front-is
+
+    pub at-yes : InSequence st ss f L → atLast q w (treeIn ss f) ≡ true
+    at-yes iq = at-is ∙ go (from-end (L .front))
+      where
+        go : (L .front ≡ []) ⊎ ((fr : List (List ℕ)) × (y : List ℕ) × (L .front ≡ fr ++ y ∷ [])) → asks (L .front) ≡ true
+        go (inl e) = asks-bound e ∙ le-leb start (val w) (subst (λ (z : List (List ℕ)). Asc (key (q .k)) start z (val w)) e iq)
+        go (inr (fr, y, e)) =
+            asks-key fr y e ∙ lt-ltb (key (q .k) y) (val w)
+            (asc-right (key (q .k)) start fr (y ∷ []) (val w) (subst (λ (z : List (List ℕ)). Asc (key (q .k)) start z (val w)) e iq) .1)
+
+    pub at-no : L .front ≡ [] → val w < start → atLast q w (treeIn ss f) ≡ false
+    at-no e l = at-is ∙ asks-bound e ∙ lt-leb start (val w) l
+
+    -- the number, where no ordinary record is not below the key, and where one is
+    abbrev number : Bool → ℕ
+    number t = cond t (placing (desc st) (FD (desc st)) (FI (desc st)) size size under-it (treeIn ss f)) (nsertNumber (desc st) (keyIn (desc st) (st .work))
+        (treeIn ss f))
+
+    number-is : xtendNumber q w (treeIn ss f) ≡ ifNone (notBelow st ss) (number (atLast q w (treeIn ss f))) outOfSequence
     unfolding xtendNumber
     number-is =
-        ap₂ (λ (fr : List (List ℕ)) (n : ℕ). cond (asks fr) (placing q (FD q) (FI q) n n (length (lastSection ss)) (treeIn ss f)) outOfSequence) front-is
-        (ap length rows-are)
-        ∙ ap (λ (n : ℕ). cond (asks (L .front)) (placing q (FD q) (FI q) size size n (treeIn ss f)) outOfSequence) (ap length section-are)
+        ap₂ (λ (n m : ℕ). ifNone (notBelow st ss) (cond (atLast q w (treeIn ss f)) (placing q (FD q) (FI q) n n m (treeIn ss f)) (nsertNumber q w
+        (treeIn ss f)))
+        outOfSequence) (ap length rows-are) (ap length section-are)
 
-    low-number : asks (L .front) ≡ false → xtend st .number ≡ outOfSequence → xtend st .number ≡ xtendNumber q w (treeIn ss f)
-    low-number e g = g ∙ sym (number-is ∙ ap (λ (t : Bool). cond t (placing q (FD q) (FI q) size size under-it (treeIn ss f)) outOfSequence) e)
+    low-number : (notBelow st ss ≡ [] → ⊥) → xtend st .number ≡ outOfSequence → xtend st .number ≡ xtendNumber q w (treeIn ss f)
+    unfolding ifNone
+    low-number some g = g ∙ sym (number-is ∙ go (notBelow st ss) refl)
+      where
+        go : (xs : List (List ℕ)) → notBelow st ss ≡ xs → ifNone xs (number (atLast q w (treeIn ss f))) outOfSequence ≡ outOfSequence
+        go [] e = absurd (some e)
+        go (y ∷ ys) e = refl
 
-    placed-number : asks (L .front) ≡ true → (n : ℕ) → xtend st .number ≡ n → placing q (FD q) (FI q) size size under-it (treeIn ss f) ≡ n
+    stored-number : notBelow st ss ≡ [] → (t : Bool) → atLast q w (treeIn ss f) ≡ t → (n : ℕ) → xtend st .number ≡ n → number t ≡ n
         → xtend st .number ≡ xtendNumber q w (treeIn ss f)
-    placed-number e n g z = g ∙ sym (number-is ∙ ap (λ (t : Bool). cond t (placing q (FD q) (FI q) size size under-it (treeIn ss f)) outOfSequence) e ∙ z)
+    unfolding ifNone
+    stored-number none t e n g z =
+        g ∙ sym (number-is ∙ ap₂ (λ (xs : List (List ℕ)) (b : Bool). ifNone xs (number b) outOfSequence) none e ∙ z)
 
-    in-sequence : asks (L .front) ≡ true → Xtended st ss f L → xtend st .number ≡ xtendNumber q w (treeIn ss f)
-    in-sequence e (too-low fr y g l z) = low-number (asks-key fr y g ∙ le-ltb (key (q .k) y) (val w) l) (z .number-is)
-    in-sequence e (too-low-alone g l z) = low-number (asks-bound g ∙ lt-leb start (val w) l) (z .number-is)
-    in-sequence e (x.room l g) = placed-number e _ (g .number-is) (place-room q (FD q) (FI q) _ _ _ (treeIn ss f) l ∙ stored-as q _ _ f free-x)
-    in-sequence e (started l m s g) =
-        placed-number e _ (g .number-is)
-        (place-one q (FD q) (FI q) _ _ _ (treeIn ss f) l m (omega (arith, free-x)) ∙ stored-as q _ _ (taken f) (omega (arith, free-x, taken-count f s)))
-    in-sequence e (x.both l m s c g) =
-        let one : 1 ≤ freeCount f = omega arith in
-        let two : 1 ≤ freeCount (taken f) = omega (arith, taken-count f one) in
-        placed-number e _ (g .number-is) (place-two q (FD q) (FI q) _ _ _ (treeIn ss f) l m (omega (arith, free-x)) c ∙ stored-as q _ _ (taken (taken f))
-        (omega (arith, free-x, taken-count f one, taken-count (taken f) two)))
-    in-sequence e (x.no-room l m g) = placed-number e _ (g .number-is) (place-none q (FD q) (FI q) _ _ _ (treeIn ss f) l (why m))
-      where
-        why : (freeCount f ≡ 0) ⊎ ((FI q ≤ under-it) × ((freeCount f ≡ 1) ⊎ (q .control ≤ length ss)))
-            → (freeBlocks q (treeIn ss f) ≡ 0) ⊎ ((FI q ≤ under-it) × ((freeBlocks q (treeIn ss f) ≡ 1) ⊎ (q .control ≤ length ss)))
-        why (inl z) = inl (free-x ∙ z)
-        why (inr (i, inl o)) = inr (i, inl (free-x ∙ o))
-        why (inr (i, inr c)) = inr (i, inr c)
+    module _ (nserts : nsert st .number ≡ nsertNumber (desc st) (keyIn (desc st) (st .work)) (treeIn ss f)) where
+      in-last : notBelow st ss ≡ [] → Xtended st ss f L → xtend st .number ≡ xtendNumber q w (treeIn ss f)
+      in-last h (too-low fr y g l z) = absurd (not-below st ss f r L fr y g l h)
+      in-last h (too-low-alone g l hs z) = absurd (hs h)
+      in-last h (x.before e l s n a y) = stored-number h false (at-no e l) _ (a .number-is ∙ nserts) refl
+      in-last h (x.room iq l g) = stored-number h true (at-yes iq) _ (g .number-is) (place-room q (FD q) (FI q) _ _ _ (treeIn ss f) l
+          ∙ stored-as q _ _ f free-x)
+      in-last h (started iq l m s g) =
+          stored-number h true (at-yes iq) _ (g .number-is)
+          (place-one q (FD q) (FI q) _ _ _ (treeIn ss f) l m (omega (arith, free-x)) ∙ stored-as q _ _ (taken f) (omega (arith, free-x, taken-count f s)))
+      in-last h (x.both iq l m s c g) =
+          let one : 1 ≤ freeCount f = omega arith in
+          let two : 1 ≤ freeCount (taken f) = omega (arith, taken-count f one) in
+          stored-number h true (at-yes iq) _ (g .number-is)
+          (place-two q (FD q) (FI q) _ _ _ (treeIn ss f) l m (omega (arith, free-x)) c ∙ stored-as q _ _ (taken (taken f))
+          (omega (arith, free-x, taken-count f one, taken-count (taken f) two)))
+      in-last h (x.no-room iq l m g) = stored-number h true (at-yes iq) _ (g .number-is) (place-none q (FD q) (FI q) _ _ _ (treeIn ss f) l (why m))
+        where
+          why : (freeCount f ≡ 0) ⊎ ((FI q ≤ under-it) × ((freeCount f ≡ 1) ⊎ (q .control ≤ length ss)))
+              → (freeBlocks q (treeIn ss f) ≡ 0) ⊎ ((FI q ≤ under-it) × ((freeBlocks q (treeIn ss f) ≡ 1) ⊎ (q .control ≤ length ss)))
+          why (inl z) = inl (free-x ∙ z)
+          why (inr (i, inl o)) = inr (i, inl (free-x ∙ o))
+          why (inr (i, inr c)) = inr (i, inr c)
 
-    xtend-as : Xtended st ss f L → (L .front ≡ []) ⊎ ((fr : List (List ℕ)) × (y : List ℕ) × (L .front ≡ fr ++ y ∷ []))
-        → xtend st .number ≡ xtendNumber q w (treeIn ss f)
-    xtend-as x (inl e) = go (decLt (val w) start)
-      where
-        go : Dec (val w < start) → xtend st .number ≡ xtendNumber q w (treeIn ss f)
-        go (yes l) = low-number (asks-bound e ∙ lt-leb start (val w) l) (alone-five st ss f r qw L e l .number-is)
-        go (no n) = in-sequence (asks-bound e ∙ le-leb start (val w) (omega arith)) x
-    xtend-as x (inr (fr, y, e)) = go (decLt (key (q .k) y) (val w))
-      where
-        go : Dec (key (q .k) y < val w) → xtend st .number ≡ xtendNumber q w (treeIn ss f)
-        go (no n) = let l : val w ≤ key (q .k) y = omega arith in low-number (asks-key fr y e ∙ le-ltb (key (q .k) y) (val w) l)
-            (xtend-five st ss f r qw L fr y e l .number-is)
-        go (yes l) = in-sequence (asks-key fr y e ∙ lt-ltb (key (q .k) y) (val w) l) x
+      xtend-as : Xtended st ss f L → xtend st .number ≡ xtendNumber q w (treeIn ss f)
+      xtend-as y = go (sequence st ss f r L y)
+        where
+          go : Sequence st ss f r L → xtend st .number ≡ xtendNumber q w (treeIn ss f)
+          go (inl (e, some)) = low-number some e
+          go (inr none) = in-last none y
 
-  pub xtend-number : xtend st .number ≡ xtendNumber q w (treeIn ss f)
-  xtend-number = let z = xtend-right st ss f r in xtend-as (z .0) (z .1) (from-end (z .0 .front))
-
--- ---- after each call of a run
+  pub xtend-number : nsert st .number ≡ nsertNumber q w (treeIn ss f) → xtend st .number ≡ xtendNumber q w (treeIn ss f)
+  xtend-number nserts = let z = xtend-right st ss f r in xtend-as (z .0) nserts (z .1)

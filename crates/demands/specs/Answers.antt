@@ -10,7 +10,7 @@ use Rattle.words.specs.Words.{part, allWords}
 use Rattle.words.specs.Keys.{isOnes, keyLt}
 use Rattle.drum.specs.declared.Description.{Description}
 use Rattle.layout.specs.Create.{endRecord}
-use Rattle.layout.specs.Tree.{Leaf, leavesOf}
+use Rattle.layout.specs.Tree.{Leaf}
 use Rattle.rules.specs.State.{Session, State, Outcome, desc, keyIn, positionKey}
 use Rattle.rules.specs.Requests.{seeking, advancing, inserting, deleting, updating, extending, answer}
 use Rattle.demands.specs.History.{withKey}
@@ -65,22 +65,22 @@ lastBlock [] = []
 lastBlock (l ∷ []) = l .records
 lastBlock (l ∷ m ∷ ls) = lastBlock (m ∷ ls)
 
--- XTEND, of the records of the last block and of the ordinary records not below the key: where there is one, 5; where there is none, it is
--- stored, or there is no room, or 5 all the same, but only where the last block has no ordinary record: the bound before it may outlive its record
-abbrev pub Extended : Description → List (List ℕ) → List (List ℕ) → Outcome → Type 0
-Extended p last [] o = (o .number ≡ done) ⊎ ((o .number ≡ noneFree) ⊎ ((o .number ≡ noRoom) ⊎ ((o .number ≡ outOfSequence) × (ordinary p last ≡ []))))
-Extended p last (r ∷ rs) o = o .number ≡ outOfSequence
+-- XTEND, of the ordinary records not below the key: "5 is now given, on a file that opens, exactly when some ordinary key there is not below the
+-- key"; where there is none, it is stored, 0 or 070001, or there is no room, 070002 [E1]
+abbrev pub Extended : List (List ℕ) → Outcome → Type 0
+Extended [] o = (o .number ≡ done) ⊎ ((o .number ≡ noneFree) ⊎ (o .number ≡ noRoom))
+Extended (r ∷ rs) o = o .number ≡ outOfSequence
 
--- what each call answers where these are the records, and `last` those of the last block
-pub record Answered (st : State) (rows last : List (List ℕ)) : Type 0 where
+-- what each call answers where these are the records
+pub record Answered (st : State) (rows : List (List ℕ)) : Type 0 where
   pub seek : (work : List ℕ) → Keyed st (desc st .k) work → Sought work (withKey (desc st) (keyIn (desc st) work) rows) (answer st (seeking work))
   pub adv : (work : List ℕ) → Lent st work → Advanced (desc st) (ordinary (desc st) (abovePosition (st .session) rows)) (answer st (advancing work))
   pub nsert : (work : List ℕ) → Keyed st (desc st .wpr) work → Inserted (withKey (desc st) (keyIn (desc st) work) rows) (answer st (inserting work))
   pub dlete : (work : List ℕ) → Keyed st (desc st .k) work → Met (withKey (desc st) (keyIn (desc st) work) rows) (answer st (deleting work))
   pub updat : (work : List ℕ) → Keyed st (desc st .wpr) work → Met (withKey (desc st) (keyIn (desc st) work) rows) (answer st (updating work))
   pub xtend : (work : List ℕ) → Keyed st (desc st .wpr) work
-      → Extended (desc st) last (ordinary (desc st) (recordsFrom (desc st) (keyIn (desc st) work) rows)) (answer st (extending work))
+      → Extended (ordinary (desc st) (recordsFrom (desc st) (keyIn (desc st) work) rows)) (answer st (extending work))
 
 -- after each call of any run from an OPEN that answers 0
 abbrev pub CallAnswers : Type 0
-CallAnswers = AfterOpen λ st. (rows : List (List ℕ)) → (c : Contains st rows) → Answered st rows (lastBlock (leavesOf (c .tree)))
+CallAnswers = AfterOpen λ st. (rows : List (List ℕ)) → Contains st rows → Answered st rows

@@ -1,5 +1,5 @@
--- S, s, X and x of the session formula are what the calls plan: a detail or index block is put in use by an NSERT whose plan is to split, or by an
--- XTEND whose plan is to start one, and by no other call. Nothing is proved here.
+-- S, s, X and x of the session formula are what the calls plan: a detail or index block is put in use by an NSERT whose plan is to split, by an
+-- XTEND whose plan is to split as NSERT does, or by an XTEND whose plan is to start one, and by no other call. Nothing is proved here.
 use Prim.Native.Nat.{ℕ, _+_}
 use mathlib.Core.Path.{_≡_}
 use mathlib.Core.List.{List}
@@ -43,6 +43,7 @@ detailStarts (extend-is.Stop way x n) = 0
 detailStarts (extend-is.Room way x n) = 0
 detailStarts (extend-is.New way w d n) = 1
 detailStarts (extend-is.Both way w b x n) = 1
+detailStarts (extend-is.Before way w d) = 0
 
 -- "the entry starts a new index block and section" [C29, F2]
 unfoldable pub indexStarts : Extend → ℕ
@@ -51,6 +52,16 @@ indexStarts (extend-is.Stop way x n) = 0
 indexStarts (extend-is.Room way x n) = 0
 indexStarts (extend-is.New way w d n) = 0
 indexStarts (extend-is.Both way w b x n) = 1
+indexStarts (extend-is.Before way w d) = 0
+
+-- "otherwise the record is stored as NSERT stores it", and "Such splits count in S and s": what XTEND splits, by NSERT's measure f [E5]
+unfoldable pub extendSplits : (Insert → ℕ) → Extend → ℕ
+extendSplits f extend-is.Bad = 0
+extendSplits f (extend-is.Stop way x n) = 0
+extendSplits f (extend-is.Room way x n) = 0
+extendSplits f (extend-is.New way w d n) = 0
+extendSplits f (extend-is.Both way w b x n) = 0
+extendSplits f (extend-is.Before way w d) = f d
 
 -- what NSERT and XTEND plan, where no number of the table before that refuses the call
 unfoldable pub nsertPlan : State → Checked Insert
@@ -84,7 +95,7 @@ splitsOf f st (advancing work) = 0
 splitsOf f st (inserting work) = ofPlan f (nsertPlan (lending work st))
 splitsOf f st (deleting work) = 0
 splitsOf f st (updating work) = 0
-splitsOf f st (extending work) = 0
+splitsOf f st (extending work) = ofPlan (extendSplits f) (xtendPlan (lending work st))
 
 -- what a call starts [F2]
 unfoldable pub startsOf : (Extend → ℕ) → State → Request → ℕ
@@ -111,7 +122,8 @@ pub record Counts (st : State) (q : Request) : Type 0 where
 abbrev pub CallCounts : Type 0
 CallCounts = AfterOpen λ st. (q : Request) → Counts st q
 
--- "S, s detail and index splits by NSERT; X, x detail and index blocks started by XTEND", of any run from an OPEN that answers 0
+-- "S, s detail and index splits by NSERT; X, x detail and index blocks started by XTEND", and "Such splits count in S and s", of any run from an
+-- OPEN that answers 0 [F2, E5]
 pub record Summed (st : State) (qs : List Request) : Type 0 where
   pub S-is : S st qs ≡ tally (λ before q o. splitsOf detailSplits before q) st qs
   pub s-is : s st qs ≡ tally (λ before q o. splitsOf indexSplits before q) st qs

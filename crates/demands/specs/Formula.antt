@@ -2,7 +2,8 @@
 -- counted from the run itself: by the calls, their answers, their lists of transfers and the words of the file.
 use Prim.Native.Nat.{ℕ, zero, suc, _+_, _*_, _-_, _/_, _≤_}
 use mathlib.Core.Path.{_≡_}
-use mathlib.Core.Bool.{cond}
+use mathlib.Core.Bool.{Bool, cond, not}
+use lib.Dec.{eqb}
 use mathlib.Core.List.{List}
 use lib.ListN.{length}
 use Rattle.numbers.specs.Numbers.{done, accepted}
@@ -43,6 +44,17 @@ newDetails before o = detailBlocks (o .after) - detailBlocks before
 unfoldable pub newIndexes : State → Outcome → ℕ
 newIndexes before o = indexBlocks (o .after) - indexBlocks before
 
+-- the file's last detail block: that of the last entry under the last section
+unfoldable pub lastDetail : State → ℕ
+lastDetail st =
+    let p = desc st in
+    let t = blockAt p (st .file) (blockIn (masterShape p) (st .file) (sections (st .file) - 1)) in
+    blockIn (indexShape p) t (count (indexShape p) t - 1)
+
+-- a call has started a block where the file's last detail block is another one after it: "the end record starts a new block" [C27, E5]
+unfoldable pub startsLast : State → State → Bool
+startsLast before after = not (eqb (lastDetail after) (lastDetail before))
+
 -- 1 where the call answers 0 or 070001: "stored"
 unfoldable pub acceptedBy : Outcome → ℕ
 acceptedBy o = cond (accepted (o .number)) 1 0
@@ -69,7 +81,16 @@ ofXtend n (deleting work) = 0
 ofXtend n (updating work) = 0
 ofXtend n (extending work) = n
 
--- "3·(SEEK+UPDAT+NSERT) + 5·ADV + 6·DLETE + 4·XTEND + CLOSE": a call's share of that sum [F4]
+-- of n new blocks of a call those that were split off: all of an NSERT's, and an XTEND's where it has started none: "Such splits count in S and s"
+-- [F2, E5]
+unfoldable pub splitOff : ℕ → Request → State → State → ℕ
+splitOff n q before after = ofNsert n q + ofXtend (cond (startsLast before after) 0 n) q
+
+-- and those that an XTEND has started [F2]
+unfoldable pub startedNew : ℕ → Request → State → State → ℕ
+startedNew n q before after = ofXtend (cond (startsLast before after) n 0) q
+
+-- "3·(SEEK+UPDAT+NSERT) + 5·ADV + 6·DLETE + 4·XTEND + CLOSE", and "In the formula XTEND's 4 becomes 6": a call's share of that sum [F4, E6]
 unfoldable pub share : Request → ℕ
 share (opening marks) = 0
 share closing = 1
@@ -78,7 +99,7 @@ share (advancing work) = 5
 share (inserting work) = 3
 share (deleting work) = 6
 share (updating work) = 3
-share (extending work) = 4
+share (extending work) = 6
 
 -- ---- of a run of calls, from the state st on
 
@@ -87,21 +108,22 @@ module _ (st : State) (qs : List Request) where
   unfoldable pub M : ℕ
   M = tally (λ before q o. ofNsert (acceptedBy o) q + ofXtend (acceptedBy o) q) st qs
 
-  -- "S, s detail and index splits by NSERT": each puts one more block in use [F2]
+  -- "S, s detail and index splits by NSERT": each puts one more block in use; and of an XTEND that stores as NSERT does "Such splits count in S and
+  -- s" [F2, E5]
   unfoldable pub S : ℕ
-  S = tally (λ before q o. ofNsert (newDetails before o) q) st qs
+  S = tally (λ before q o. splitOff (newDetails before o) q before (o .after)) st qs
 
-  -- index splits by NSERT [F2]
+  -- index splits by NSERT, and by such an XTEND [F2, E5]
   unfoldable pub s : ℕ
-  s = tally (λ before q o. ofNsert (newIndexes before o) q) st qs
+  s = tally (λ before q o. splitOff (newIndexes before o) q before (o .after)) st qs
 
   -- "X, x detail and index blocks started by XTEND" [F2]
   unfoldable pub X : ℕ
-  X = tally (λ before q o. ofXtend (newDetails before o) q) st qs
+  X = tally (λ before q o. startedNew (newDetails before o) q before (o .after)) st qs
 
   -- index blocks started by XTEND [F2]
   unfoldable pub x : ℕ
-  x = tally (λ before q o. ofXtend (newIndexes before o) q) st qs
+  x = tally (λ before q o. startedNew (newIndexes before o) q before (o .after)) st qs
 
   -- "the sum of transfers", and "calls counted whether refused or not" [F4, T3]
   unfoldable pub allTransfers : ℕ
@@ -112,7 +134,7 @@ module _ (st : State) (qs : List Request) where
   shares = tally (λ before q o. share q) st qs
 
 -- "hD·S ≤ M, FD·X ≤ M, hI·s ≤ S+X, FI·x ≤ S+X, and the sum of transfers is at most 3·(SEEK+UPDAT+NSERT) + 5·ADV + 6·DLETE + 4·XTEND +
--- CLOSE + 4·(S+X) + s + x, calls counted whether refused or not." [F3, F4]
+-- CLOSE + 4·(S+X) + s + x, calls counted whether refused or not.", with 6 for XTEND's 4 [F3, F4, E6]
 pub record Within (st : State) (qs : List Request) : Type 0 where
   pub splits : hD (desc st) * S st qs ≤ M st qs
   pub starts : FD (desc st) * X st qs ≤ M st qs

@@ -9,6 +9,7 @@ pub mod Views
 pub mod Whole
 pub mod Mission
 pub mod Storing
+pub mod AsNsert
 pub mod Routines
 pub mod WrongRoutines
 pub mod Made

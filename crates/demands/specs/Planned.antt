@@ -8,9 +8,9 @@ use Rattle.rules.specs.Requests.{Request, opening, closing, seeking, advancing,
 use Rattle.demands.specs.declared.Plan.{Plan}
 use Rattle.demands.specs.Formula.{hD, hI, M, allTransfers, AfterCreate}
 
--- "3·(SEEK+UPDAT+NSERT) + 5·ADV + 6·DLETE + 4·XTEND + CLOSE"
+-- "3·(SEEK+UPDAT+NSERT) + 5·ADV + 6·DLETE + 4·XTEND + CLOSE", with "XTEND's 4 becomes 6" [F4, E6]
 unfoldable pub planShares : Plan → ℕ
-planShares plan = 3 * (plan .seeks + plan .updats + plan .nserts) + 5 * plan .advs + 6 * plan .dletes + 4 * plan .xtends + plan .closes
+planShares plan = 3 * (plan .seeks + plan .updats + plan .nserts) + 5 * plan .advs + 6 * plan .dletes + 6 * plan .xtends + plan .closes
 
 -- "hD·S ≤ M, FD·X ≤ M": the most that S+X can be
 unfoldable pub planDetails : Description → Plan → ℕ

@@ -8,7 +8,7 @@ use Rattle.numbers.specs.Numbers.{accepted}
 use Rattle.drum.specs.Params.{FD, FI}
 use Rattle.rules.specs.State.{State, Outcome, desc}
 use Rattle.rules.specs.Requests.{Request, answer}
-use Rattle.demands.specs.Formula.{hD, hI, detailBlocks, indexBlocks, ofNsert, ofXtend, share}
+use Rattle.demands.specs.Formula.{hD, hI, detailBlocks, indexBlocks, ofNsert, ofXtend, splitOff, startedNew, share}
 
 -- one call of a run
 pub record Turn : Type 0 where
@@ -53,21 +53,21 @@ module _ (st : State) (ts : List Turn) where
   unfoldable pub M : ℕ
   M = sum (λ before t. ofNsert (stored t) (t .request) + ofXtend (stored t) (t .request)) st ts
 
-  -- "S, s detail and index splits by NSERT"
+  -- "S, s detail and index splits by NSERT", and of an XTEND that stores as NSERT does "Such splits count in S and s" [F2, E5]
   unfoldable pub S : ℕ
-  S = sum (λ before t. ofNsert (moreDetails before t) (t .request)) st ts
+  S = sum (λ before t. splitOff (moreDetails before t) (t .request) before (t .after)) st ts
 
-  -- index splits by NSERT [F2]
+  -- index splits by NSERT, and by such an XTEND [F2, E5]
   unfoldable pub s : ℕ
-  s = sum (λ before t. ofNsert (moreIndexes before t) (t .request)) st ts
+  s = sum (λ before t. splitOff (moreIndexes before t) (t .request) before (t .after)) st ts
 
   -- "X, x detail and index blocks started by XTEND"
   unfoldable pub X : ℕ
-  X = sum (λ before t. ofXtend (moreDetails before t) (t .request)) st ts
+  X = sum (λ before t. startedNew (moreDetails before t) (t .request) before (t .after)) st ts
 
   -- index blocks started by XTEND [F2]
   unfoldable pub x : ℕ
-  x = sum (λ before t. ofXtend (moreIndexes before t) (t .request)) st ts
+  x = sum (λ before t. startedNew (moreIndexes before t) (t .request) before (t .after)) st ts
 
   -- "the sum of transfers", and "calls counted whether refused or not"
   unfoldable pub counts : ℕ

@@ -62,7 +62,7 @@ pub fifteen-lines : output input ≡ fifteen
 unfolding printing
 fifteen-lines = refl
 
--- that input is one of those of which Formula.antt speaks; its 34 transfers stand against 49 for the calls, and 5 records were accepted
+-- that input is one of those of which Formula.antt speaks; its 34 transfers stand against 53 for the calls, and 5 records were accepted
 pub a-session : SessionInput input (record { wpb = 8; wpr = 3; k = 1; space = 0; control = 2; n = 4; form = 1 })
     (bytes "NSERT 10 1 2" ∷ bytes "NSERT 20 3 4" ∷ bytes "NSERT 5 7 7" ∷ bytes "NSERT 15 6 6" ∷ bytes "NSERT 12 0 0"
     ∷ bytes "DLETE 5" ∷ bytes "DLETE 10" ∷ bytes "XTEND 30 8 9" ∷ bytes "XTEND 25 0 0"
@@ -77,6 +77,6 @@ a-session = record {
   others = tt;
 }
 
-pub its-sums : (counts (rows fifteen) ≡ 34) × (shares (rows fifteen) ≡ 49) × (M (rows fifteen) ≡ 5)
+pub its-sums : (counts (rows fifteen) ≡ 34) × (shares (rows fifteen) ≡ 53) × (M (rows fifteen) ≡ 5)
 unfolding printing octalFrom rowIn rowsIn rows sum ofNamed counts shares M asks share ofNsert ofXtend
 its-sums = (refl, refl, refl)

@@ -124,7 +124,7 @@ ofNamed value (some c) = value (asks [] [] c)
 unfoldable pub counts : List Row → ℕ
 counts = sum λ r. r .count
 
--- "3·(SEEK+UPDAT+NSERT) + 5·ADV + 6·DLETE + 4·XTEND + CLOSE", "calls counted whether refused or not"
+-- "3·(SEEK+UPDAT+NSERT) + 5·ADV + 6·DLETE + 4·XTEND + CLOSE", with 6 for XTEND's 4, "calls counted whether refused or not" [F4, E6]
 unfoldable pub shares : List Row → ℕ
 shares = sum λ r. ofNamed share (named (r .name))
 

@@ -14,9 +14,8 @@ use Rattle.rules.specs.Adv.{adv}
 use Rattle.rules.specs.Requests.{seeking, advancing, lending, answer, left}
 use Rattle.demands.specs.History.{withKey}
 use Rattle.demands.specs.Contents.{Contains}
-use Rattle.demands.specs.Answers.{Keyed, Sought, Advanced, Answered, ordinary, abovePosition, lastBlock}
+use Rattle.demands.specs.Answers.{Keyed, Sought, Advanced, Answered, ordinary, abovePosition}
 use Rattle.demands.proofs.Mission.{second}
-use Rattle.layout.specs.Tree.{leavesOf}
 use Rattle.register.specs.Register.{hasState, checked, next}
 use Rattle.registered.specs.Deeds.{Deed, listing, did, leftBy, requests}
 use Rattle.registered.specs.Listed.{NoNameTwice, ListsNext}
@@ -34,9 +33,9 @@ module _ (st : State) (ds : List Deed) where
   is = same-run st ds (leftBy st ds .work)
 
 -- what is promised of a state holds of it with another workspace
-answered-lent : (u : State) (w : List ℕ) (rows last : List (List ℕ)) → Answered u rows last → Answered (lending w u) rows last
+answered-lent : (u : State) (w : List ℕ) (rows : List (List ℕ)) → Answered u rows → Answered (lending w u) rows
 unfolding lending answer
-answered-lent u w rows last a = record { seek = a .seek; adv = a .adv; nsert = a .nsert; dlete = a .dlete; updat = a .updat; xtend = a .xtend }
+answered-lent u w rows a = record { seek = a .seek; adv = a .adv; nsert = a .nsert; dlete = a .dlete; updat = a .updat; xtend = a .xtend }
 
 pub contains-lent : (u : State) (w : List ℕ) (rows : List (List ℕ)) → Contains (lending w u) rows → Contains u rows
 unfolding lending
@@ -44,20 +43,18 @@ contains-lent u w rows c = record { tree = c .tree; held = c .held; are = c .are
 
 answers : (st : State) (marks : List ℕ) → openFile st marks .outcome .number ≡ 0 → (ds : List Deed) (rows : List (List ℕ))
     → Contains (leftBy (openFile st marks .outcome .after) ds) rows
-    → (last : List (List ℕ)) × Answered (leftBy (openFile st marks .outcome .after) ds) rows last
+    → Answered (leftBy (openFile st marks .outcome .after) ds) rows
 answers st marks o ds rows c =
     let s = openFile st marks .outcome .after in
     let u = left s (requests s ds) in
     let w = leftBy s ds .work in
-    let d = contains-lent u w rows (subst (λ (x : State). Contains x rows) (is s ds) c) in (
-      lastBlock (leavesOf (d .tree)),
-      subst (λ (x : State). Answered x rows (lastBlock (leavesOf (d .tree)))) (sym (is s ds)) (answered-lent u w rows _ (second .answers st marks o (requests s ds) rows d)),
-    )
+    let d = contains-lent u w rows (subst (λ (x : State). Contains x rows) (is s ds) c) in
+    subst (λ (x : State). Answered x rows) (sym (is s ds)) (answered-lent u w rows (second .answers st marks o (requests s ds) rows d))
 
 pub no-name-twice : NoNameTwice
 no-name-twice st marks o ds rows c work k =
     let now = leftBy (openFile st marks .outcome .after) ds in
-    one-only work (withKey (desc now) (keyIn (desc now) work) rows) (answer now (seeking work)) (answers st marks o ds rows c .1 .seek work k)
+    one-only work (withKey (desc now) (keyIn (desc now) work) rows) (answer now (seeking work)) (answers st marks o ds rows c .seek work k)
 
 pub next-is : (now : State) (work : List ℕ) → desc now .k < desc now .wpr → answer now (advancing work) ≡ did now (listing work)
 unfolding did next checked hasState answer lending
@@ -66,4 +63,4 @@ next-is now work h = ap (λ (t : Bool). checked (lending work now) (require t wr
 pub lists-next : ListsNext
 lists-next st marks o ds rows c work l h =
     let now = leftBy (openFile st marks .outcome .after) ds in
-    subst (Advanced (desc now) (ordinary (desc now) (abovePosition (now .session) rows))) (next-is now work h) (answers st marks o ds rows c .1 .adv work l)
+    subst (Advanced (desc now) (ordinary (desc now) (abovePosition (now .session) rows))) (next-is now work h) (answers st marks o ds rows c .adv work l)

@@ -27,7 +27,7 @@ use Rattle.demands.proofs.Came.{same-parameters, settled-stays}
 use Rattle.demands.proofs.Trees.{leavesIn, recordsIn}
 use Rattle.demands.proofs.Moves.{treeIn}
 use Rattle.demands.proofs.Stores.{asc-rows}
-use Rattle.demands.proofs.Standing.{rows-of, rows-ok}
+use Rattle.demands.proofs.Records.{rows-of, rows-ok}
 use Rattle.demands.proofs.Step.{sound-run}
 use Rattle.demands.proofs.Opens.{flushed-stands}
 use Rattle.demands.proofs.Demands.{opens}
