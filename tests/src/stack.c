@@ -143,17 +143,19 @@ static void ones(uint32_t *key) {
   for (uint32_t i = 0; i < session[NASTURAKH_K]; i++) key[i] = 262143;
 }
 
-/* A file with one index block of so many entries: the first detail block is full, the others have a record each. */
-static void lay(uint32_t entries) {
+/* A new session on a file with one index block of so many entries: detail block `full` of them is full, the others have a record each. Its bound
+ * is above its keys. */
+static void lay(uint32_t entries, uint32_t full) {
   uint32_t wpr = session[NASTURAKH_WPR], k = session[NASTURAKH_K], d = (session[NASTURAKH_WPB] - 1) / wpr;
+  session[NASTURAKH_OPEN] = session[NASTURAKH_CURRENT] = session[NASTURAKH_FLAG] = session[NASTURAKH_PLACED] = 0;
   must(CREATE, NASTURAKH_DONE);
   file[2] = entries + 2;
   block(1)[0] = entries;
   for (uint32_t e = 0; e < entries; e++) {
     memset(block(e + 2), 0, session[NASTURAKH_WPB] * sizeof(uint32_t));
-    uint32_t *entry = block(1) + 1 + e * (k + 1), *rows = block(e + 2), bound = 2 * d + 100 * (e + 1);
-    rows[0] = e == 0 ? d : 1;
-    for (uint32_t i = 0; i < rows[0]; i++) rows[1 + i * wpr] = e == 0 ? 2 * (i + 1) : bound;
+    uint32_t *entry = block(1) + 1 + e * (k + 1), *rows = block(e + 2), bound = e < full ? e + 1 : 2 * d + 100 + e;
+    rows[0] = e == full ? d : 1;
+    for (uint32_t i = 0; i < rows[0]; i++) rows[1 + i * wpr] = e == full ? full + 2 * (i + 1) : bound;
     entry[0] = bound;
     entry[k] = e + 2;
     if (e + 1 == entries) {
@@ -168,8 +170,7 @@ static void split(uint32_t entries) {
   uint32_t d = (session[NASTURAKH_WPB] - 1) / session[NASTURAKH_WPR];
   const uint32_t places[] = {0, d / 2, d / 2 + 1, d};
   for (size_t i = 0; i < sizeof places / sizeof *places; i++) {
-    session[NASTURAKH_OPEN] = session[NASTURAKH_CURRENT] = session[NASTURAKH_FLAG] = session[NASTURAKH_PLACED] = 0;
-    lay(entries);
+    lay(entries, 0);
     must(OPEN, NASTURAKH_DONE);
     record(2 * places[i] + 1);
     must(NSERT, NASTURAKH_DONE);
@@ -182,6 +183,28 @@ static void splits(void) {
   begin(0, most_entries + 4);
   split(most_entries - 1);
   split(most_entries);
+  end();
+}
+
+/* XTEND above all that is left, and not above the bound before the last block: the block before that is full, and then has room. */
+static void behind(uint32_t entries) {
+  uint32_t highest = entries - 2 + 2 * ((session[NASTURAKH_WPB] - 1) / session[NASTURAKH_WPR]);
+  for (int taken = 0; taken <= 1; taken++) {
+    lay(entries, entries - 2);
+    must(OPEN, NASTURAKH_DONE);
+    record(highest);
+    if (taken) must(DLETE, NASTURAKH_DONE);
+    record(highest + 1);
+    must(XTEND, NASTURAKH_DONE);
+    must(CLOSE, NASTURAKH_DONE);
+  }
+}
+
+static void struck(void) {
+  uint32_t most_entries = (sets[set][0] - 1) / (sets[set][2] + 1);
+  begin(0, most_entries + 4);
+  behind(most_entries - 1);
+  behind(most_entries);
   end();
 }
 
@@ -262,6 +285,7 @@ int main(void) {
   for (set = 0; set < SETS; set++) {
     splits();
     calls();
+    struck();
     lists();
     kind = NOTHING;
     most[NOTHING][set] = used();

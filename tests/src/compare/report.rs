@@ -46,7 +46,7 @@ const NAMES: [(&str, u32); 10] = [
     ("Free", 0),
 ];
 
-const EVENTS: [Event; 9] = [
+const EVENTS: [Event; 11] = [
     Event::DetailSplit,
     Event::IndexSplit,
     Event::BlockStarted,
@@ -56,6 +56,8 @@ const EVENTS: [Event; 9] = [
     Event::NextBlock,
     Event::NextSection,
     Event::ChainTaken,
+    Event::StoredBehind,
+    Event::SplitBehind,
 ];
 
 fn of_number(tally: &Tally, number: u32) -> Vec<(Kind, u64)> {

@@ -33,6 +33,8 @@ pub enum Event {
     NextBlock,
     NextSection,
     ChainTaken,
+    StoredBehind,
+    SplitBehind,
 }
 
 /// What a call answers: its number, and its list of transfers, whose length is the count.

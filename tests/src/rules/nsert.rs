@@ -12,12 +12,17 @@ pub fn nsert(t: &Texts) -> Planned<Plan> {
         return plan.ends(NOT_FOUND);
     }
     let way = looked.way.ok_or(Bad)?;
-    let place = t.records().first(&plan.buffer, looked.count, |key| key > t.wanted()).unwrap_or(looked.count);
-    if looked.count == t.p().d() {
+    store(t, plan, way, looked.count)
+}
+
+/// Stores the record in the block that a lookup brought, which holds so many.
+pub fn store(t: &Texts, mut plan: Plan, way: Way, count: usize) -> Planned<Plan> {
+    let place = t.records().first(&plan.buffer, count, |key| key > t.wanted()).unwrap_or(count);
+    if count == t.p().d() {
         return split(t, plan, way, place);
     }
-    plan.number = stored_number(t, None, looked.count + 1)?;
-    t.records().insert(&mut plan.buffer, looked.count, place, &t.l.workspace);
+    plan.number = stored_number(t, None, count + 1)?;
+    t.records().insert(&mut plan.buffer, count, place, &t.l.workspace);
     plan.buffer[0] += 1;
     plan.session.flag = true;
     plan.session.set_position(t.wanted());

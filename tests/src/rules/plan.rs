@@ -27,7 +27,7 @@ impl Plan {
         // "hD·S ≤ M, FD·X ≤ M, hI·s ≤ S+X, FI·x ≤ S+X"
         let details = paid(m, hd) + paid(m, p.fd());
         let indexes = paid(details, hi) + paid(details, p.fi());
-        3 * (seek + updat + nsert) + 5 * adv + 6 * dlete + 4 * xtend + close + 4 * details + indexes
+        3 * (seek + updat + nsert) + 5 * adv + 6 * dlete + 6 * xtend + close + 4 * details + indexes
     }
 
     /// Counts a call that was made, and the record that it stored.

@@ -9,15 +9,16 @@ pub fn xtend(t: &Texts) -> Planned<Plan> {
     let mut plan = Plan::begin(t);
     let count = reach_last(t, &mut plan)?;
     let records = t.records();
-    let in_sequence = if count > 1 {
-        t.wanted() > records.key(&plan.buffer, count - 2)
+    if count > 1 {
+        if t.wanted() <= records.key(&plan.buffer, count - 2) {
+            return plan.ends(OUT_OF_SEQUENCE);
+        }
     } else {
         let way = last_way(t, &plan)?;
         plan.moves.push(Move::Read(way.index));
-        bound_before(t, way)?.is_none_or(|bound| t.wanted() > bound)
-    };
-    if !in_sequence {
-        return plan.ends(OUT_OF_SEQUENCE);
+        if bound_before(t, way)?.is_some_and(|bound| t.wanted() <= bound) {
+            return store_before(t, plan, way);
+        }
     }
     if count >= t.p().fd() {
         let way = last_way(t, &plan)?;
@@ -66,6 +67,30 @@ fn bound_before<'a>(t: &Texts<'a>, way: Way) -> Planned<Option<&'a [u32]>> {
     } else {
         None
     })
+}
+
+/// Whether the entry that follows that of `way` is the last one.
+fn is_next_to_last(t: &Texts, way: Way, last: Way) -> Planned<bool> {
+    let (_, count) = t.index(way.index)?;
+    let next = if way.entry + 1 < count { (way.section, way.entry + 1) } else { (way.section + 1, 0) };
+    Ok(next == (last.section, last.entry))
+}
+
+/// The bound before the last block may outlive its record: the key is looked up, and stored there if all that is left is below it.
+fn store_before(t: &Texts, mut plan: Plan, last: Way) -> Planned<Plan> {
+    let way = t.way_for(t.wanted())?;
+    plan.reach(t, way)?;
+    let (text, count) = t.detail(way.detail)?;
+    let found = t.records().first(text, count, |key| key == t.wanted()).is_some();
+    let behind = is_next_to_last(t, way, last)? && t.records().key(text, count - 1) < t.wanted();
+    if found || !behind {
+        return plan.ends(OUT_OF_SEQUENCE);
+    }
+    let mut plan = nsert::store(t, plan, way, count)?;
+    if plan.number != NO_ROOM {
+        plan.events.push(if count == t.p().d() { Event::SplitBehind } else { Event::StoredBehind });
+    }
+    Ok(plan)
 }
 
 fn start_block(t: &Texts, mut plan: Plan, way: Way, count: usize) -> Planned<Plan> {
