@@ -59,8 +59,7 @@ enum {
 /* The numbers returned, by the names that docs/NUMBERS.md gives them. */
 #define NASTURAKH_DONE 000000u            /* done */
 #define NASTURAKH_NOT_FOUND 000001u       /* no record has the key; NSERT: one has it already */
-#define NASTURAKH_OUT_OF_SEQUENCE 000005u /* XTEND: the key is not above the highest key of the last block; where only the end record is
-                                           * there, not above the bound before that block, which can be a key since taken out */
+#define NASTURAKH_OUT_OF_SEQUENCE 000005u /* XTEND: the file has an ordinary record whose key is not below the key */
 #define NASTURAKH_WRONG_SIZE 020007u      /* a parameter or a slice's length is wrong, or session word 6, 8 or 9 is above 1; all unchanged */
 #define NASTURAKH_WRONG_LENGTH 020012u    /* PUT, GET: the record is of length 0, or larger than the data area; all unchanged */
 #define NASTURAKH_ALREADY_OPEN 020006u    /* OPEN, COPY or TURN of an open session; all unchanged */

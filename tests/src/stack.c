@@ -1,6 +1,6 @@
 /* How much stack each call uses: every function of the archive on a painted stack, at six sets of parameters. Prints the most bytes below the
- * caller, by call and set, and fails if a call needs more in one set than in another, if one that splits or starts a block needs more than one
- * that does neither, or if one needs more than LIMIT.
+ * caller, by call and set, and fails if a call needs more in one set than in another, if one that splits or starts a block needs MORE bytes above
+ * one that does neither (the frames of the functions that split; no record is built there), or if one needs more than LIMIT.
  *
  * The archive is for x86-64, so the stack is changed by hand. A word that is reserved and never written keeps the paint and is not seen. */
 #include "nasturakh.h"
@@ -9,7 +9,7 @@
 #include <stdlib.h>
 #include <string.h>
 
-enum { LIMIT = 4096, PAINTED = 65536, SETS = 6 };
+enum { LIMIT = 4096, MORE = 640, PAINTED = 65536, SETS = 6 };
 
 enum row {
   CREATE, OPEN, CLOSE, SEEK, ADV, NSERT, NSERT_DETAIL, NSERT_INDEX, DLETE, UPDAT, XTEND, XTEND_DETAIL, XTEND_INDEX, VIEW, MOST, COPY, PUT, GET, NOTHING, ROWS
@@ -273,7 +273,7 @@ static int passes(enum row k) {
   for (int i = 0; i < SETS; i++) {
     size_t bytes = most[k][i] - most[NOTHING][i];
     printf(" %zu |", bytes);
-    good = good && most[k][i] != 0 && most[k][i] == most[k][0] && bytes <= LIMIT && most[k][i] <= most[plain][i];
+    good = good && most[k][i] != 0 && most[k][i] == most[k][0] && bytes <= LIMIT && most[k][i] < most[plain][i] + MORE;
   }
   puts(good ? "" : " FAILED");
   return good;
@@ -282,6 +282,13 @@ static int passes(enum row k) {
 int main(void) {
   int good = 1;
   for (size_t i = 0; i < PAINTED / 8; i++) paint[i] = colour;
+  /* once before, not measured: at its first call a function of the C library may be looked up, on the same stack */
+  set = 0;
+  splits();
+  calls();
+  struck();
+  lists();
+  memset(most, 0, sizeof most);
   for (set = 0; set < SETS; set++) {
     splits();
     calls();

@@ -7,8 +7,7 @@
 pub const DONE: u32 = 0;
 /// No record has the key; NSERT: one has it already.
 pub const NOT_FOUND: u32 = 1;
-/// XTEND: the key is not above the highest key of the last block; where only the end record is there, not above the bound before that
-/// block, which can be a key since taken out.
+/// XTEND: the file has an ordinary record whose key is not below the key.
 pub const OUT_OF_SEQUENCE: u32 = 5;
 /// A parameter or a slice's length is wrong.
 pub const WRONG_SIZE: u32 = 0o020007;

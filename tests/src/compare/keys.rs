@@ -34,9 +34,14 @@ impl Keys {
         (0..self.k).map(|_| r.between(0, self.base)).collect()
     }
 
+    /// The highest key stored.
+    pub fn highest(&self) -> Vec<u32> {
+        self.stored.iter().max().cloned().unwrap_or(vec![0; self.k])
+    }
+
     /// A key about the highest stored, as XTEND wants them.
     pub fn high(&self, r: &mut Random) -> Vec<u32> {
-        let mut key = self.stored.iter().max().cloned().unwrap_or(vec![0; self.k]);
+        let mut key = self.highest();
         let j = r.below(self.k);
         key[j] = (key[j] + r.between(0, 3)).min(ONES);
         key

@@ -59,9 +59,13 @@ fn pick(mood: Mood, open: bool, r: &mut Random) -> Kind {
     }
 }
 
-/// Puts a key and data into the workspace, now and then what no key or record may be.
+/// Puts a key and data into the workspace, now and then what no key or record may be. The highest name is struck off often, so that bounds outlive it.
 pub fn fill(kind: Kind, keys: &Keys, state: &mut State, r: &mut Random) {
-    let key = if kind == Kind::Xtend && !r.once_in(8) { keys.high(r) } else { keys.any(r) };
+    let key = match kind {
+        Kind::Xtend if !r.once_in(8) => keys.high(r),
+        Kind::Dlete if r.once_in(3) => keys.highest(),
+        _ => keys.any(r),
+    };
     for word in state.lent.workspace.iter_mut() {
         *word = r.one_of(&[0, 1, 7, 262142, ONES]);
     }
