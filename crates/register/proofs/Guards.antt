@@ -18,8 +18,9 @@ use Rattle.rules.specs.NsertDone.{nsert}
 use Rattle.rules.specs.Requests.{lending}
 use Rattle.searchfile.specs.declared.Session as code
 use Rattle.searchfile.specs.declared.Answer.{Answer}
-use Rattle.searchfile.specs.Promise.{Counted, given, counted, answered, refusing}
-use Rattle.searchfile.proofs.Refusing.{refusing-some, refusing-none}
+use Rattle.searchfile.specs.Promise.{Counted, given, counted, answered}
+use Rattle.face.specs.Checks.{refusing}
+use Rattle.face.proofs.Refusing.{refusing-some, refusing-none}
 use Rattle.register.specs.Names.{raw}
 use Rattle.register.specs.Register.{hasState, nameOk, spelledOk, checked, rawName, enter, ask, next, move, spelled, romanise, turned, turn}
 use Rattle.register.proofs.Refusing.{nameTests, spelledTests, name-chain, spelled-chain, name-fits}

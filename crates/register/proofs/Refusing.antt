@@ -19,9 +19,8 @@ use Rattle.drum.specs.Params.{sized}
 use Rattle.drum.proofs.Good.{caps}
 use Rattle.rules.specs.State.{State, desc, keyIn}
 use Rattle.rules.specs.Checks.{sizesOk, workOk, isOpen, keyOk}
-use Rattle.searchfile.specs.Promise.{refusing}
-use Rattle.searchfile.specs.Checks.{plainChecks, keyedChecks}
-use Rattle.searchfile.proofs.Refusing.{refusing-some, refusing-none, keyed-lent}
+use Rattle.face.specs.Checks.{refusing, plainChecks, keyedChecks}
+use Rattle.face.proofs.Refusing.{refusing-some, refusing-none, keyed-lent}
 use Rattle.register.specs.Names.{spellingSize}
 use Rattle.register.specs.Register.{hasState, nameOk, spelledOk}
 use Rattle.register.specs.Checks.{nameChecks, spelledChecks, StateFits, SpellingFits}

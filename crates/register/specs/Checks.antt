@@ -12,7 +12,7 @@ use Rattle.drum.specs.declared.Description.{Description}
 use Rattle.rules.specs.State.{Outcome}
 use Rattle.searchfile.specs.declared.Answer.{Answer}
 use Rattle.searchfile.specs.Promise.{Counted}
-use Rattle.searchfile.specs.Checks.{keyedChecks}
+use Rattle.face.specs.Checks.{keyedChecks}
 use Rattle.register.specs.Names.{spellingSize}
 
 -- 020007, 020005, 030001: of a call on a name [G10, G12]

@@ -1,12 +1,12 @@
 // What the register refuses before it calls the routine.
 use drum::Description;
+use face::refused_key;
 use numbers::WRONG_KEY;
 use numbers::WRONG_SIZE;
 use searchfile::Answer;
 use searchfile::Session;
-use searchfile::refused_key;
 ghost use mathlib.Core.Path.{_≡_};
-ghost use Rattle.searchfile.specs.Promise.{refusing};
+ghost use Rattle.face.specs.Checks.{refusing};
 ghost use Rattle.register.specs.Checks.{nameChecks, spelledChecks};
 ghost use Rattle.words.specs.Slices.{was};
 

@@ -10,36 +10,14 @@ use Rattle.numbers.specs.Checked.{between}
 use Rattle.drum.specs.declared.Description.{Description}
 use Rattle.drum.specs.Params.{sized}
 use Rattle.drum.specs.Blocks.{seen, written}
-use Rattle.rules.specs.State.{State, Outcome, desc, lent, texts, atRest, unchanged}
-use Rattle.rules.specs.Checks.{sizesOk, isOpen}
+use Rattle.rules.specs.State.{lent, atRest, unchanged}
 use Rattle.rules.specs.Lookup.{flushOk, flushMoves}
-use Rattle.rules.specs.Close.{close, closeChecks, closeDone}
+use Rattle.rules.specs.Close.{close}
 use Rattle.rules.proofs.Fits.{flush-fits}
+use Rattle.face.proofs.Closing.{sizes-no, opened-no, flush-no, all-yes}
 use Rattle.searchfile.specs.declared.Session as code
 use Rattle.searchfile.specs.declared.Answer.{Answer}
 use Rattle.searchfile.specs.Promise.{held, given, counted, answered}
-
-sizes-no : (st : State) → sized (desc st) (length (st .file)) (length (st .buffer)) ≡ false → close st ≡ unchanged st wrongSize
-unfolding close closeChecks closeDone sizesOk
-sizes-no st e = simp e
-
-module _ (st : State) (fit : sized (desc st) (length (st .file)) (length (st .buffer)) ≡ true) where
-  opened-no : st .session .opened ≡ false → close st ≡ unchanged st isClosed
-  unfolding close closeChecks closeDone sizesOk isOpen
-  opened-no e = simp (fit, e)
-
-  flush-no : st .session .opened ≡ true → flushOk (texts st) (st .session .flag) ≡ false → close st ≡ unchanged st badFile
-  unfolding close closeChecks closeDone sizesOk isOpen
-  flush-no o e = simp (fit, o, e)
-
-  all-yes : st .session .opened ≡ true → flushOk (texts st) (st .session .flag) ≡ true
-      → close st ≡ record {
-        number = done;
-        transfers = flushMoves (texts st) (st .session .flag);
-        after = lent (atRest false (st .session)) (written (desc st) (flushMoves (texts st) (st .session .flag)) (st .file)) (st .buffer) (st .work);
-      }
-  unfolding close closeChecks closeDone sizesOk isOpen
-  all-yes o e = simp (fit, o, e)
 
 module _ (s : code.Session) (f b : List ℕ) (r : Answer) (t : Bool) where
   -- a refusal leaves all as it was

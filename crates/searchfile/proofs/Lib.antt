@@ -1,6 +1,4 @@
-pub mod Refusing
 pub mod Answers
-pub mod Chains
 pub mod Closing
 pub mod Opening
 pub mod Creating

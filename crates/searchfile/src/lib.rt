@@ -3,11 +3,9 @@
 mod copying;
 mod files;
 mod records;
-mod refusals;
 mod turning;
 
 use drum::Description;
-pub use refusals::refused_key;
 use rules::Done;
 ghost use mathlib.Core.Path.{_≡_};
 ghost use mathlib.Core.Bool.{false};

@@ -1,8 +1,8 @@
 // The calls on records: each is lent a workspace, and is its refusals and then its steps.
 use super::Answer;
 use super::Session;
-use super::refusals::refused_key;
-use super::refusals::refused_plain;
+use face::refused_key;
+use face::refused_plain;
 use rules::Held;
 ghost use mathlib.Core.Path.{_≡_};
 ghost use Rattle.rules.specs.Adv.{adv as advanced};

@@ -13,8 +13,9 @@ use Rattle.drum.proofs.Good.{sized-facts}
 use Rattle.rules.specs.State.{State, desc}
 use Rattle.rules.specs.Checks.{sizesOk, isOpen}
 use Rattle.searchfile.specs.declared.Session as code
-use Rattle.searchfile.specs.Promise.{given, refusing}
-use Rattle.searchfile.proofs.Refusing.{refusing-some, refusing-none}
+use Rattle.searchfile.specs.Promise.{given}
+use Rattle.face.specs.Checks.{refusing}
+use Rattle.face.proofs.Refusing.{refusing-some, refusing-none}
 use Rattle.tray.specs.declared.Trayed.{Trayed}
 use Rattle.tray.specs.Tray.{countOf, recordsOf, matches, inserts, trayChecks, afterChecks, nsertTray}
 use Rattle.tray.specs.Promise.{countedTray, answeredTray}

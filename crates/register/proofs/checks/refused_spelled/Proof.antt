@@ -1,7 +1,7 @@
 -- `register::refused_spelled` meets its contract: each return is the first line of the chain that refuses.
 use native.Mathlib.Omega.{arith}
 use borrow.Author.Needs.{needs}
-use Rattle.searchfile.proofs.Answers.{key-in-record}
+use Rattle.face.proofs.Lent.{key-in-record}
 use Rattle.register.proofs.Refusing.{spelled-none, spelled-length, spelled-key, spelled-words, spelled-right}
 use Rattle.register.proofs.checks.refused_spelled.Statement.{statement}
 use Rattle.register.proofs.checks.refused_spelled.Tie as tie

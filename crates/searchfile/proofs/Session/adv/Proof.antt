@@ -1,7 +1,8 @@
 -- `searchfile::Session::adv` meets its contract: the refusals in the table's order, then the steps of the call.
 use borrow.Author.Needs.{needs}
-use Rattle.searchfile.proofs.Answers.{call-refused, call-told, plain-call}
-use Rattle.searchfile.proofs.Chains.{adv-chain}
+use Rattle.face.proofs.Lent.{plain-call}
+use Rattle.searchfile.proofs.Answers.{call-refused, call-told}
+use Rattle.face.proofs.Chains.{adv-chain}
 use Rattle.searchfile.proofs.Session.adv.Statement.{statement}
 use Rattle.searchfile.proofs.Session.adv.Tie as tie
 

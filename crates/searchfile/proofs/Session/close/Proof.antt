@@ -1,6 +1,6 @@
 -- `searchfile::Session::close` meets its contract: each return is one way through CLOSE.
 use borrow.Author.Needs.{needs}
-use Rattle.searchfile.proofs.Refusing.{sized-fitting}
+use Rattle.face.proofs.Refusing.{sized-fitting}
 use Rattle.searchfile.proofs.Closing.{close-sizes, close-shut, close-bad, close-done, flush-least, flush-most}
 use Rattle.searchfile.proofs.Session.close.Statement.{statement}
 use Rattle.searchfile.proofs.Session.close.Tie as tie

@@ -1,7 +1,8 @@
 -- `searchfile::Session::seek` meets its contract: the refusals in the table's order, then the steps of the call.
 use borrow.Author.Needs.{needs}
-use Rattle.searchfile.proofs.Answers.{call-refused, call-told, key-in-record, keyed-call}
-use Rattle.searchfile.proofs.Chains.{seek-chain}
+use Rattle.face.proofs.Lent.{key-in-record, keyed-call}
+use Rattle.searchfile.proofs.Answers.{call-refused, call-told}
+use Rattle.face.proofs.Chains.{seek-chain}
 use Rattle.searchfile.proofs.Session.seek.Statement.{statement}
 use Rattle.searchfile.proofs.Session.seek.Tie as tie
 

@@ -1,8 +1,9 @@
 -- `searchfile::Session::updat` meets its contract: the refusals in the table's order, then the steps of the call.
 use native.Mathlib.Omega.{arith}
 use borrow.Author.Needs.{needs}
-use Rattle.searchfile.proofs.Answers.{call-refused, call-told, key-in-record, keyed-call}
-use Rattle.searchfile.proofs.Chains.{updat-chain}
+use Rattle.face.proofs.Lent.{key-in-record, keyed-call}
+use Rattle.searchfile.proofs.Answers.{call-refused, call-told}
+use Rattle.face.proofs.Chains.{updat-chain}
 use Rattle.searchfile.proofs.Session.updat.Statement.{statement}
 use Rattle.searchfile.proofs.Session.updat.Tie as tie
 

@@ -1,6 +1,6 @@
 -- The refusals that come before a call's own steps, in document 01's order, over what the code tests.
-use Prim.Native.Nat.{ℕ}
-use mathlib.Core.Bool.{Bool, not, _&&_}
+use Prim.Native.Nat.{ℕ, zero, suc}
+use mathlib.Core.Bool.{Bool, true, not, _&&_}
 use mathlib.Core.List.{List}
 use lib.Dec.{eqb}
 use lib.ListN.{length}
@@ -10,6 +10,11 @@ use Rattle.words.specs.Words.{part, allWords}
 use Rattle.words.specs.Keys.{isOnes}
 use Rattle.drum.specs.declared.Description.{Description}
 use Rattle.drum.specs.Params.{sized}
+
+-- a number as the answer of a step: 0 refuses nothing
+abbrev pub refusing : ℕ → Checked Bool
+refusing zero = passed true
+refusing (suc n) = refused (suc n)
 
 -- 020007, 020005: of a call on an open session that is lent a workspace
 unfoldable pub plainChecks : Description → Bool → ℕ → ℕ → ℕ → Checked Bool

@@ -18,8 +18,7 @@ use Rattle.drum.specs.Blocks.{Fitting}
 use Rattle.drum.proofs.Good.{caps, sized-facts}
 use Rattle.rules.specs.State.{State, Effect, desc, keyIn}
 use Rattle.rules.specs.Checks.{sizesOk, workOk, isOpen, keyOk}
-use Rattle.searchfile.specs.Promise.{refusing}
-use Rattle.searchfile.specs.Checks.{plainChecks, keyedChecks}
+use Rattle.face.specs.Checks.{refusing, plainChecks, keyedChecks}
 
 -- a number that refuses, and 0, which does not
 pub refusing-some : (n : ℕ) → (n ≡ 0 → ⊥) → refusing n ≡ refused n

@@ -1,4 +1,4 @@
-// What is refused before the steps of a call that is lent a workspace.
+// What every face of the routine shares: what is refused before the steps of a call that is lent a workspace.
 use drum::Description;
 use numbers::IS_CLOSED;
 use numbers::WRONG_KEY;
@@ -7,8 +7,7 @@ ghost use mathlib.Core.Path.{_≡_};
 ghost use mathlib.Core.Bool.{true};
 ghost use Prim.Native.Nat.{_≤_};
 ghost use Rattle.drum.specs.Params.{goodParams};
-ghost use Rattle.searchfile.specs.Promise.{refusing};
-ghost use Rattle.searchfile.specs.Checks.{plainChecks, keyedChecks};
+ghost use Rattle.face.specs.Checks.{refusing, plainChecks, keyedChecks};
 ghost use Rattle.words.specs.Slices.{was};
 
 // The first refusal of a call that is lent a workspace, or 0.

@@ -1,0 +1,4 @@
+pub mod Refusing
+pub mod Lent
+pub mod Chains
+pub mod Closing
