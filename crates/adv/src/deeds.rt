@@ -26,7 +26,7 @@ ghost use Rattle.words.specs.Slices.{was, became};
 const TOP_WORD: u32 = 262143;
 
 // The blocks read when the record is in the next detail block: its index block too if it is in the next section.
-fn reads_beyond(w: Path, x: Path) -> usize
+pub fn reads_beyond(w: Path, x: Path) -> usize
     ensures { λ r. ⌜ r ≡ length (advReads w x) ⌝ }
 {
     if x.section == w.section {
@@ -36,7 +36,7 @@ fn reads_beyond(w: Path, x: Path) -> usize
 }
 
 // The record i of the buffer to the workspace, with what was done before; the end record has its own number and leaves position.
-fn hand_over(p: Description, here: Arrived, buffer: &[u32], work: &mut [u32], i: usize) -> Done
+pub fn hand_over(p: Description, here: Arrived, buffer: &[u32], work: &mut [u32], i: usize) -> Done
     requires { ⌜
         (place (detailShape p) i + p .wpr ≤ length (now buffer)) × (length (now work) ≡ p .wpr) × (p .k ≤ p .wpr)
         ⌝ }

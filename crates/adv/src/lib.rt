@@ -2,6 +2,9 @@
 mod deeds;
 mod plan;
 
+pub use deeds::hand_over;
+pub use deeds::reads_beyond;
+pub use plan::plan_adv;
 use rules::Done;
 use rules::Held;
 ghost use mathlib.Core.Path.{_≡_};

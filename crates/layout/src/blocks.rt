@@ -24,7 +24,7 @@ fn start_of(p: Description, f: &[u32], b: usize) -> usize
 }
 
 // The words of block b.
-fn block_of<'a>(p: Description, f: &'a [u32], b: usize) -> &'a [u32]
+pub fn block_of<'a>(p: Description, f: &'a [u32], b: usize) -> &'a [u32]
     requires { ⌜ Fit p (now f) × (1 ≤ b) × (b ≤ p .n) ⌝ }
     ensures { λ r. ⌜ (now r ≡ blockAt p (was f) b) × (length (now r) ≡ p .wpb) ⌝ }
 {

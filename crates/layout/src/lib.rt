@@ -3,11 +3,12 @@ mod blocks;
 mod marking;
 mod rows;
 
+pub use blocks::block_of;
 use blocks::chain_held;
 use blocks::sections_held;
 use drum::Description;
 use marking::all_set;
-use marking::clear;
+pub use marking::clear;
 use marking::none_set;
 use rows::last_row;
 ghost use mathlib.Core.Path.{_≡_};

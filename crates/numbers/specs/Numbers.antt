@@ -15,6 +15,10 @@ alreadyOpen = 0o020006
 abbrev pub isClosed : ℕ
 isClosed = 0o020005
 
+-- "altering calls answer 020010, after 020005" [V6]
+abbrev pub readingOnly : ℕ
+readingOnly = 0o020010
+
 -- "a record too large or a length of 0" [R9]
 abbrev pub wrongLength : ℕ
 wrongLength = 0o020012

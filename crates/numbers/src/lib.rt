@@ -14,6 +14,8 @@ pub const ALREADY_OPEN: u32 = 0o020006;
 
 pub const WRONG_SIZE: u32 = 0o020007;
 
+pub const READING_ONLY: u32 = 0o020010;
+
 pub const WRONG_LENGTH: u32 = 0o020012;
 
 pub const WRONG_KEY: u32 = 0o030001;
