@@ -61,6 +61,7 @@ enum {
 #define NASTURAKH_NOT_FOUND 000001u       /* no record has the key; NSERT: one has it already */
 #define NASTURAKH_OUT_OF_SEQUENCE 000005u /* XTEND: the file has an ordinary record whose key is not below the key */
 #define NASTURAKH_WRONG_SIZE 020007u      /* a parameter or a slice's length is wrong, or session word 6, 8 or 9 is above 1; all unchanged */
+#define NASTURAKH_READING_ONLY 020010u    /* NSERT, DLETE, UPDAT, XTEND of the reading set; all unchanged */
 #define NASTURAKH_WRONG_LENGTH 020012u    /* PUT, GET: the record is of length 0, or larger than the data area; all unchanged */
 #define NASTURAKH_ALREADY_OPEN 020006u    /* OPEN, COPY or TURN of an open session; all unchanged */
 #define NASTURAKH_IS_CLOSED 020005u       /* another call on a closed session; all unchanged */
@@ -263,6 +264,42 @@ uint64_t nasturakh_put(uint32_t *row, size_t row_words, uint32_t *file, size_t f
  * unchanged. */
 uint64_t nasturakh_get(uint32_t *row, size_t row_words, const uint32_t *file, size_t file_words, uint32_t *workspace,
                        size_t workspace_words);
+
+/* THE READING SET, for a machine that carries a finished list and alters nothing. Its nine functions are in an archive of their own,
+ * libcreading.a, which has no altering code; a program may link both. The session is the same words with CONTROL 1; a write flag (word 8)
+ * other than 0 answers 020007, as CONTROL other than 1 does, in each of them. File and buffer are lent as in the full set, but the file is
+ * only read, so it may lie in memory that cannot be written. SEEK costs 0 or 2 transfers, ADV 0, 2 or 3, the others none.
+ *
+ * A finished list is a good file with no free chain whose index block is 1 and whose detail blocks are 2, 3, .. in the order of their keys,
+ * each but the last with FD = D - SPACE records. XTEND from CREATE makes one; nasturakh_copy brings a file of one section to CONTROL 1. */
+
+/* OPEN: 0 and marks as nasturakh_open's for a finished list; 070003 and marks 0 for any other file. Else 020007 or 020006. */
+uint64_t nasturakh_reading_open(uint32_t *session, size_t session_words, const uint32_t *file, size_t file_words,
+                                const uint32_t *buffer, size_t buffer_words, uint8_t *marks, size_t marks_bytes);
+
+/* CLOSE: 0, 020007 or 020005. There is nothing to write. */
+uint64_t nasturakh_reading_close(uint32_t *session, size_t session_words, const uint32_t *file, size_t file_words,
+                                 const uint32_t *buffer, size_t buffer_words);
+
+/* SEEK and ADV: as nasturakh_seek and nasturakh_adv. */
+uint64_t nasturakh_reading_seek(uint32_t *session, size_t session_words, const uint32_t *file, size_t file_words, uint32_t *buffer,
+                                size_t buffer_words, uint32_t *workspace, size_t workspace_words);
+uint64_t nasturakh_reading_adv(uint32_t *session, size_t session_words, const uint32_t *file, size_t file_words, uint32_t *buffer,
+                               size_t buffer_words, uint32_t *workspace, size_t workspace_words);
+
+/* VIEW: as nasturakh_view; an empty part, 0, where CONTROL is not 1. */
+uint64_t nasturakh_reading_view(const uint32_t *session, size_t session_words, const uint32_t *file, size_t file_words,
+                                const uint32_t *buffer, size_t buffer_words, size_t block);
+
+/* NSERT, DLETE, UPDAT, XTEND: 020007, 020005, else 020010, whatever the workspace has; all unchanged. */
+uint64_t nasturakh_reading_nsert(uint32_t *session, size_t session_words, const uint32_t *file, size_t file_words,
+                                 const uint32_t *buffer, size_t buffer_words, const uint32_t *workspace, size_t workspace_words);
+uint64_t nasturakh_reading_dlete(uint32_t *session, size_t session_words, const uint32_t *file, size_t file_words,
+                                 const uint32_t *buffer, size_t buffer_words, const uint32_t *workspace, size_t workspace_words);
+uint64_t nasturakh_reading_updat(uint32_t *session, size_t session_words, const uint32_t *file, size_t file_words,
+                                 const uint32_t *buffer, size_t buffer_words, const uint32_t *workspace, size_t workspace_words);
+uint64_t nasturakh_reading_xtend(uint32_t *session, size_t session_words, const uint32_t *file, size_t file_words,
+                                 const uint32_t *buffer, size_t buffer_words, const uint32_t *workspace, size_t workspace_words);
 
 #ifdef __cplusplus
 }

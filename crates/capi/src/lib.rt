@@ -2,10 +2,10 @@
 // a call's answer is one number: its transfers times 2^32, plus its number. A session slice that is none answers 020007 and changes nothing.
 mod copying;
 mod names;
-mod place;
+pub mod place;
 mod plan;
 mod rows;
-mod session;
+pub mod session;
 mod space;
 mod trays;
 mod turning;

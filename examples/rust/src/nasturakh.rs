@@ -11,6 +11,8 @@ pub const NOT_FOUND: u32 = 1;
 pub const OUT_OF_SEQUENCE: u32 = 5;
 /// A parameter or a slice's length is wrong.
 pub const WRONG_SIZE: u32 = 0o020007;
+/// NSERT, DLETE, UPDAT, XTEND of the reading set.
+pub const READING_ONLY: u32 = 0o020010;
 /// PUT, GET: the record is of length 0, or larger than the data area.
 pub const WRONG_LENGTH: u32 = 0o020012;
 /// OPEN, COPY or TURN of an open session.
@@ -214,7 +216,7 @@ pub struct Answer {
 }
 
 impl Answer {
-    fn of(packed: u64) -> Self {
+    pub(crate) fn of(packed: u64) -> Self {
         Self {
             number: packed as u32,
             transfers: (packed >> 32) as u32,

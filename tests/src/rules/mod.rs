@@ -1,4 +1,4 @@
-//! The ten calls of document 01, in both block forms, and of document 02 the copying call, the turning call, PUT and GET, the tray, and the name register.
+//! The ten calls of document 01, in both block forms, and of document 02 the copying call, the turning call, PUT and GET, the tray, the name register, and the reading set.
 //!
 //! Each call first makes a plan from the words as they stood when it began, and only then stores:
 //! a plan that fails leaves everything as it was.
@@ -13,6 +13,7 @@ mod layout;
 mod lookup;
 mod nsert;
 mod plan;
+mod reading;
 pub mod register;
 mod rows;
 pub mod sequential;
@@ -40,6 +41,7 @@ pub const OUT_OF_SEQUENCE: u32 = 0o5;
 pub const CLOSED: u32 = 0o020005;
 pub const ALREADY_OPEN: u32 = 0o020006;
 pub const WRONG_SIZE: u32 = 0o020007;
+pub const READING_ONLY: u32 = 0o020010;
 pub const WRONG_LENGTH: u32 = 0o020012;
 pub const BAD_WORD: u32 = 0o030001;
 pub const END_REACHED: u32 = 0o030002;
