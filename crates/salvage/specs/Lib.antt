@@ -1,0 +1,3 @@
+pub mod Met
+pub mod Salvage
+pub mod Promise
