@@ -1,0 +1,9 @@
+pub mod Stored
+pub mod Rows
+pub mod Runs
+pub mod Carried
+pub mod Kept
+pub mod Whole
+pub mod Lines
+pub mod Once
+pub mod Reports

@@ -1,0 +1,3 @@
+pub mod Spots
+pub mod Carried
+pub mod Reported
