@@ -13,6 +13,7 @@
  *   marks      exactly N bytes
  *   plan       exactly 8 words, see nasturakh_most_transfers
  *   tray       exactly 1 + count * WPR words, see nasturakh_nsert_tray; told there: exactly 2 numbers of 64 bits
+ *   report     3 * N * (1 + D) words or more, see nasturakh_salvage; told there: exactly 2 numbers of 64 bits
  *   row        exactly 7 words, see nasturakh_put; file and workspace there have lengths of their own
  * A slice whose length is wrong is refused by 020007; so no length reads or writes outside what it says.
  *
@@ -25,8 +26,8 @@
  *
  * THREADS. Any thread may call, and any number at once, as long as no two calls share a slice: one call at a time on one session.
  *
- * ANSWERS. Every function but nasturakh_view, the three nasturakh_most_.. and nasturakh_nsert_tray returns transfers * 2^32 + number;
- * nasturakh_nsert_tray returns the number alone. Numbers are octal; the first that applies is given.
+ * ANSWERS. Every function but nasturakh_view, the three nasturakh_most_.., nasturakh_nsert_tray and nasturakh_salvage returns transfers *
+ * 2^32 + number; those two return the number alone. Numbers are octal; the first that applies is given.
  */
 #ifndef NASTURAKH_H
 #define NASTURAKH_H
@@ -190,6 +191,29 @@ uint64_t nasturakh_free_name(uint32_t *session, size_t session_words, uint32_t *
 #define NASTURAKH_IN_BUFFER ((uint64_t)1 << 33)
 uint64_t nasturakh_view(const uint32_t *session, size_t session_words, const uint32_t *file, size_t file_words,
                         const uint32_t *buffer, size_t buffer_words, size_t block);
+
+/* SALVAGE: builds a fresh file of the records of a broken copy, and reports what was not carried. Of the session only the parameters are
+ * used: they are those of the copy and of the fresh file. The copy is read as the second block form marks blocks, whatever the session's
+ * form; its master and its index blocks are not believed, and it is only read. The blocks are gone through in number order. From each
+ * that, tested in this order, (1) has word 0 in 8192..12287, (2) has a count of 1..D, (3) has no word above 262143 in a record, (4) has
+ * strictly ascending keys, the records are put into the fresh file by NSERT, those with the reserved key left out; a block that misses a
+ * test is passed over. The fresh file is of the session's form and closed at the end: open it with any closed session of these
+ * parameters. The buffer is lent for the work.
+ *
+ * The report gets a line of three words for each block passed over, (block, 0, the test missed: 1..4), and for each record not carried,
+ * (block, place from 1 on, 5 where the key was carried before or 6 where there was no room), in the order of the walk; its words behind
+ * the lines stay. To give a crowded copy more room, hand it in with more blocks of zeros, or more words of the master, and a larger N or
+ * CONTROL. told[NASTURAKH_SALVAGE_TRANSFERS] is the transfers of the NSERTs and of the CLOSE, told[NASTURAKH_SALVAGE_LINES] how many
+ * lines there are. Returns the number: 0, or 020007, for a wrong parameter or length, with all words as they were and told 0 and 0;
+ * where the session slice is none, or told has not 2 numbers, told is left as it is too. */
+enum {
+  NASTURAKH_SALVAGE_TRANSFERS = 0,
+  NASTURAKH_SALVAGE_LINES = 1,
+  NASTURAKH_LINE = 3 /* words of a line: block, place, reason */
+};
+uint64_t nasturakh_salvage(const uint32_t *session, size_t session_words, const uint32_t *copy, size_t copy_words, uint32_t *fresh,
+                           size_t fresh_words, uint32_t *buffer, size_t buffer_words, uint32_t *report, size_t report_words,
+                           uint64_t *told, size_t told_words);
 
 /* COPY: writes the session's file, which must be closed and good, into a second one whose parameters are the session's but for CONTROL,
  * every word of it: the same records in the same blocks, the same free chain, and 0 where the master is not in use. So a file gets more

@@ -7,7 +7,7 @@
 
 enum {
   CREATE, OPEN, CLOSE, SEEK, ADV, NSERT, DLETE, UPDAT, XTEND, VIEW, MOST, COPY, PUT, GET, BLOCKS, SECTIONS, TRAY,
-  ENTER, ASK, HOLD, FREE, ROMANISE, TURN
+  ENTER, ASK, HOLD, FREE, ROMANISE, TURN, SALVAGE
 };
 enum { OF_SESSION, OF_FILE, OF_BUFFER, OF_WORKSPACE, OF_MARKS, SLICES };
 
@@ -77,6 +77,10 @@ static uint64_t perform(const struct call *c, void **slices) {
                               n[OF_MARKS] / sizeof(uint32_t));
   case TURN:
     return nasturakh_turn(s, n[OF_SESSION], f, n[OF_FILE], slices[OF_MARKS], n[OF_MARKS]);
+  case SALVAGE: /* the fresh file comes as the file, the copy and then the report as the workspace, the copy's length as the block */
+    return nasturakh_salvage(s, n[OF_SESSION], slices[OF_WORKSPACE], c->block, f, n[OF_FILE], b, n[OF_BUFFER],
+                             (uint32_t *)slices[OF_WORKSPACE] + c->block, n[OF_WORKSPACE] - c->block, slices[OF_MARKS],
+                             n[OF_MARKS] / sizeof(uint64_t));
   default:
     return on_record(c, s, f, b, slices[OF_WORKSPACE]);
   }

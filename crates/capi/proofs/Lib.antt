@@ -14,3 +14,4 @@ pub mod MostSpace
 pub mod TrayTold
 pub mod Registered
 pub mod TurnTold
+pub mod SalvageTold

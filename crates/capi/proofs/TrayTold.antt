@@ -86,7 +86,7 @@ module _ (s : code.Session) (r : Trayed) (f b t g d : List ℕ) (e : answeredTra
 
 -- ---- the returns of the code: x is its test of the words
 
-two-words : (l : List ℕ) (a b : ℕ) → length l ≡ 2 → set (set l 0 a) 1 b ≡ a ∷ b ∷ []
+pub two-words : (l : List ℕ) (a b : ℕ) → length l ≡ 2 → set (set l 0 a) 1 b ≡ a ∷ b ∷ []
 two-words [] a b h = absurd (omega arith)
 two-words (y ∷ []) a b h = absurd (omega arith)
 two-words (y ∷ z ∷ []) a b h = refl

@@ -8,3 +8,4 @@ pub mod Copying
 pub mod Space
 pub mod Tray
 pub mod Turning
+pub mod Salvage

@@ -5,6 +5,7 @@ mod names;
 pub mod place;
 mod plan;
 mod rows;
+mod salvaging;
 pub mod session;
 mod space;
 mod trays;

@@ -101,6 +101,20 @@ mod raw {
             told: *mut u64,
             told_words: usize,
         ) -> u64;
+        pub fn nasturakh_salvage(
+            session: *const u32,
+            session_words: usize,
+            copy: *const u32,
+            copy_words: usize,
+            fresh: *mut u32,
+            fresh_words: usize,
+            buffer: *mut u32,
+            buffer_words: usize,
+            report: *mut u32,
+            report_words: usize,
+            told: *mut u64,
+            told_words: usize,
+        ) -> u64;
         pub fn nasturakh_turn(
             session: *mut u32,
             session_words: usize,
@@ -245,6 +259,17 @@ impl Trayed {
     pub fn is_done(self) -> bool {
         self.number == DONE || self.number == NONE_FREE
     }
+}
+
+/// What salvage comes to.
+#[derive(Clone, Copy, Debug, PartialEq, Eq)]
+pub struct Salvaged {
+    /// 0, or 020007.
+    pub number: u32,
+    /// Block transfers made by its NSERTs and its CLOSE.
+    pub transfers: u64,
+    /// Lines of the report, three words each: block, place (0 for a block passed over), reason.
+    pub lines: u64,
 }
 
 /// What a session is planned to do: the most calls of each kind, refused ones counted, and the most records that NSERT and XTEND put in.
@@ -431,6 +456,40 @@ impl Session {
             stored: told[1],
             number: number as u32,
             transfers: told[0],
+        }
+    }
+
+    /// SALVAGE: builds a fresh file of the records of a broken copy, by this session's parameters, and reports every block passed over and every record not
+    /// carried. The report has 3 * N * (1 + D) words or more; the buffer is lent for the work.
+    pub fn salvage(
+        &self,
+        copy: &[u32],
+        fresh: &mut [u32],
+        buffer: &mut [u32],
+        report: &mut [u32],
+    ) -> Salvaged {
+        let mut told = [0; 2];
+        // SAFETY: as for the other calls; session and copy are only read.
+        let number = unsafe {
+            raw::nasturakh_salvage(
+                self.words.as_ptr(),
+                self.len(),
+                copy.as_ptr(),
+                copy.len(),
+                fresh.as_mut_ptr(),
+                fresh.len(),
+                buffer.as_mut_ptr(),
+                buffer.len(),
+                report.as_mut_ptr(),
+                report.len(),
+                told.as_mut_ptr(),
+                told.len(),
+            )
+        };
+        Salvaged {
+            number: number as u32,
+            transfers: told[0],
+            lines: told[1],
         }
     }
 

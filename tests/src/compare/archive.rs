@@ -1,4 +1,5 @@
 //! The functions of the archive. A slice travels as a pointer and a length.
+use crate::salvages::Lending;
 use crate::state::State;
 use nasturakh_tests::rules::register::Deed;
 use nasturakh_tests::rules::Kind;
@@ -28,6 +29,7 @@ extern "C" {
     fn nasturakh_put(row: *mut u32, words: usize, file: *mut u32, file_words: usize, workspace: *mut u32, record: usize) -> u64;
     fn nasturakh_get(row: *mut u32, words: usize, file: *mut u32, file_words: usize, workspace: *mut u32, record: usize) -> u64;
     fn nasturakh_nsert_tray(session: *mut u32, words: usize, file: *mut u32, file_words: usize, buffer: *mut u32, buffer_words: usize, tray: *const u32, tray_words: usize, told: *mut u64, told_words: usize) -> u64;
+    fn nasturakh_salvage(session: *const u32, words: usize, copy: *const u32, copy_words: usize, fresh: *mut u32, fresh_words: usize, buffer: *mut u32, buffer_words: usize, report: *mut u32, report_words: usize, told: *mut u64, told_words: usize) -> u64;
     fn nasturakh_most_transfers(session: *const u32, words: usize, plan: *const u32, plan_words: usize) -> u64;
     fn nasturakh_most_blocks(session: *const u32, words: usize, names: u32) -> u64;
     fn nasturakh_most_sections(session: *const u32, words: usize, names: u32) -> u64;
@@ -168,6 +170,27 @@ pub fn tray(s: &mut State, tray: &[u32], told: &mut [u64]) -> u64 {
             tray.len(),
             told.as_mut_ptr(),
             told.len(),
+        )
+    }
+}
+
+/// Salvage; the answer is the number alone.
+pub fn salvage(l: &mut Lending) -> u64 {
+    // SAFETY: as above; session and copy are only read.
+    unsafe {
+        nasturakh_salvage(
+            l.session.as_ptr(),
+            l.session.len(),
+            l.copy.as_ptr(),
+            l.copy.len(),
+            l.fresh.as_mut_ptr(),
+            l.fresh.len(),
+            l.buffer.as_mut_ptr(),
+            l.buffer.len(),
+            l.report.as_mut_ptr(),
+            l.report.len(),
+            l.told.as_mut_ptr(),
+            l.told.len(),
         )
     }
 }

@@ -14,6 +14,7 @@ mod names;
 mod plans;
 mod random;
 mod report;
+mod salvages;
 mod sequential;
 mod sessions;
 mod space;
@@ -64,6 +65,10 @@ fn round(seed: u64, tally: &mut report::Tallies) -> Result<(), Differs> {
         trays::compare(keys, state, &mut r, &mut tally.trays)?;
         trays::made_up(&mut r, &mut tally.trays)?;
     }
+    for _ in 0..60 {
+        salvages::compare(&kept[r.below(kept.len())].1, &mut r, &mut tally.salvages)?;
+        salvages::made_up(&mut r, &mut tally.salvages)?;
+    }
     for _ in 0..4 {
         let kept = names::run(&mut r, &mut tally.names)?;
         for _ in 0..40 {
@@ -78,6 +83,7 @@ fn all(rounds: u64) -> Result<report::Tallies, Differs> {
     fifteen::compare(&mut Tally::default())?;
     sequential::stored(&mut sequential::Tally::default())?;
     trays::stored()?;
+    salvages::stored()?;
     names::stored(&mut names::Tally::default())?;
     limits::most_blocks(&mut tallies.limits)?;
     known::compare(&mut tallies.copies)?;

@@ -2,6 +2,7 @@
 //! what became of blocks that say a wrong kind.
 use crate::both::Tally;
 use crate::names;
+use crate::salvages;
 use crate::sequential;
 use crate::trays;
 use nasturakh_tests::rules::{Event, Kind};
@@ -20,6 +21,7 @@ pub struct Tallies {
     pub sequential: sequential::Tally,
     pub trays: trays::Tally,
     pub names: names::Tally,
+    pub salvages: salvages::Tally,
 }
 
 const NUMBERS: [u32; 11] = [0, 0o1, 0o5, 0o020005, 0o020006, 0o020007, 0o030001, 0o030002, 0o070001, 0o070002, 0o070003];
@@ -32,6 +34,9 @@ const SEQUENTIAL: [(&str, u32); 8] =
 
 /// What a tray can answer.
 const TRAYS: [u32; 8] = [0, 0o1, 0o020005, 0o020007, 0o030001, 0o070001, 0o070002, 0o070003];
+/// What salvage can answer, and why a block or a record is reported.
+const SALVAGES: [(&str, u32); 8] =
+    [("number", 0), ("number", 0o020007), ("reason", 1), ("reason", 2), ("reason", 3), ("reason", 4), ("reason", 5), ("reason", 6)];
 /// What the register can answer.
 const NAMES: [(&str, u32); 10] = [
     ("Enter", 0),
@@ -116,6 +121,7 @@ fn missing(tallies: &Tallies) -> Vec<String> {
     let rows = SEQUENTIAL.iter().filter(|answer| !tallies.sequential.contains_key(answer));
     lacking.extend(rows.map(|(kind, number)| format!("{kind} {number:06o}")));
     lacking.extend(TRAYS.iter().filter(|number| !tallies.trays.contains_key(number)).map(|number| format!("a tray with {number:06o}")));
+    lacking.extend(SALVAGES.iter().filter(|told| !tallies.salvages.contains_key(told)).map(|(what, n)| format!("salvage with {what} {n:o}")));
     lacking.extend(NAMES.iter().filter(|answer| !tallies.names.contains_key(answer)).map(|(deed, number)| format!("{deed} {number:06o}")));
     lacking.extend(EVENTS.iter().filter(|e| !tallies.sessions.events.contains_key(e)).map(|e| format!("{e:?}")));
     lacking
@@ -137,6 +143,10 @@ pub fn print(rounds: u64, tallies: &Tallies) {
     }
     let trays: Vec<String> = tallies.trays.iter().map(|(number, count)| format!("{number:06o} {count}")).collect();
     println!("trays\n  {}", trays.join(", "));
+    println!("copies salvaged");
+    for ((what, n), count) in &tallies.salvages {
+        println!("  {what} {n:o}  {count}");
+    }
     println!("names in the register");
     for ((deed, number), count) in &tallies.names {
         println!("  {number:06o}  {deed} {count}");

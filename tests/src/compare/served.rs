@@ -1,5 +1,6 @@
 //! The functions of the archive on a machine that can't link them: asked of a program that has them (`src/server.c`), which the toolchain's
 //! emulator runs. NASTURAKH_SERVER names it.
+use crate::salvages::Lending;
 use crate::state::State;
 use nasturakh_tests::rules::register::Deed;
 use nasturakh_tests::rules::{Kind, Lent};
@@ -21,6 +22,7 @@ const HOLD: u64 = 19;
 const FREE: u64 = 20;
 const ROMANISE: u64 = 21;
 const TURN: u64 = 22;
+const SALVAGE: u64 = 23;
 
 struct Server {
     to: BufWriter<ChildStdin>,
@@ -183,6 +185,24 @@ pub fn tray(s: &mut State, tray: &[u32], told: &mut [u64]) -> u64 {
     s.words = asking.words;
     s.lent.file = asking.lent.file;
     s.lent.buffer = asking.lent.buffer;
+    answer
+}
+
+/// Salvage; the answer is the number alone. The fresh file travels as the file, the copy and then the report as the workspace, the copy's length as the block,
+/// what is told as the marks.
+pub fn salvage(l: &mut Lending) -> u64 {
+    let marks = l.told.iter().flat_map(|figure| figure.to_le_bytes()).collect();
+    let workspace = [&l.copy[..], &l.report[..]].concat();
+    let lent = Lent { file: l.fresh.clone(), buffer: l.buffer.clone(), workspace, marks };
+    let mut asking = State { words: l.session.clone(), lent };
+    let answer = asked(SALVAGE, l.copy.len() as u64, &mut asking);
+    let (copy, report) = asking.lent.workspace.split_at(l.copy.len());
+    assert!(asking.words == l.session && copy == l.copy, "a word of the session or of the copy was changed");
+    l.report.copy_from_slice(report);
+    for (figure, eight) in l.told.iter_mut().zip(asking.lent.marks.chunks_exact(8)) {
+        *figure = u64::from_le_bytes(eight.try_into().expect("eight bytes"));
+    }
+    (l.fresh, l.buffer) = (asking.lent.file, asking.lent.buffer);
     answer
 }
 

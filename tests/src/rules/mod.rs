@@ -1,4 +1,5 @@
-//! The ten calls of document 01, in both block forms, and of document 02 the copying call, the turning call, PUT and GET, the tray, the name register, and the reading set.
+//! The ten calls of document 01, in both block forms, and of document 02 the copying call, the turning call, PUT and GET, the tray, salvage, the name
+//! register, and the reading set.
 //!
 //! Each call first makes a plan from the words as they stood when it began, and only then stores:
 //! a plan that fails leaves everything as it was.
@@ -16,6 +17,7 @@ mod plan;
 mod reading;
 pub mod register;
 mod rows;
+mod salvage;
 pub mod sequential;
 mod session;
 mod space;
@@ -28,6 +30,7 @@ pub use answer::{Answer, Event, Kind, Lent, Move, Part};
 pub use description::{Description, Use};
 pub use layout::inspect;
 pub use plan::Plan;
+pub use salvage::{salvage, Salvaged};
 pub use session::{create, Session};
 pub use space::Space;
 pub use tray::Trayed;
