@@ -1,10 +1,12 @@
 -- What is carried: the number of each NSERT, and the first copy of a key.
 use mathlib.Core.Path.{_≡_, refl, sym, ap, _∙_, subst}
 use mathlib.Core.Bool.{Bool, true, false, cond}
+use mathlib.Core.Logic.{_⊎_, inl, inr}
 use mathlib.Core.List.{List, [], _∷_, _++_, map}
 use Prim.Native.Nat.{ℕ, _-_}
 use native.Mathlib.Omega.{arith}
 use lib.ListN.{length, length-replicate}
+use Rattle.numbers.specs.Numbers.{done, notFound, noneFree, noRoom}
 use Rattle.words.specs.Words.{part, allWords, zeros}
 use Rattle.words.specs.Keys.{isOnes, ones, sameKey}
 use Rattle.words.proofs.All.{isOnes-ones}
@@ -22,16 +24,19 @@ use Rattle.demands.specs.Answers.{Keyed, Inserted, Answered}
 use Rattle.demands.proofs.Answered.{call-answers}
 use Rattle.salvage.specs.Salvage.{begun}
 use Rattle.salvaged.specs.Spots.{Spot, rowsOf, inserts, started, triedAfter, carriedOf, Lent}
-use Rattle.salvaged.specs.Carried.{SecondCopy}
+use Rattle.salvaged.specs.Carried.{SecondCopy, OnlyNumbers}
 use Rattle.salvaged.proofs.Stored.{Under, none, one, with-changed}
 use Rattle.salvaged.proofs.Rows.{Fit, all-at, all-fit}
 use Rattle.salvaged.proofs.Runs.{left-stays, from-open, contains}
 
-end-ones : (p : Description) → isOnes (keyIn p (endRecord p)) ≡ true
+pub end-key : (p : Description) → keyIn p (endRecord p) ≡ ones (p .k)
 unfolding endRecord
-end-ones p =
+end-key p =
     let k : length (ones (p .k)) ≡ p .k = length-replicate {A = ℕ} (p .k) 262143 in
-    ap isOnes (part-append-low 0 (p .k) (ones (p .k)) (zeros (p .wpr - p .k)) (omega arith) ∙ part-all (p .k) (ones (p .k)) k) ∙ isOnes-ones (p .k)
+    part-append-low 0 (p .k) (ones (p .k)) (zeros (p .wpr - p .k)) (omega arith) ∙ part-all (p .k) (ones (p .k)) k
+
+pub end-ones : (p : Description) → isOnes (keyIn p (endRecord p)) ≡ true
+end-ones p = ap isOnes (end-key p) ∙ isOnes-ones (p .k)
 
 -- an ordinary key is not the end record's
 end-other : (p : Description) (key : List ℕ) → isOnes key ≡ false → withKey p key (endRecord p ∷ []) ≡ []
@@ -80,3 +85,12 @@ module _ (p : Description) (buffer : List ℕ) (good : goodParams p ≡ true) (l
 pub second-copy : SecondCopy
 second-copy p copy buffer l xs ys s e =
     inserted-after p buffer (l .good) (l .buffer-is) xs s (all-at (Fit p) xs s ys (subst (All (Fit p)) e (all-fit p copy buffer l)) .0)
+
+pub only-numbers : OnlyNumbers
+only-numbers p copy buffer l xs ys s e =
+    go (withKey p (keyIn p (s .row)) (rowsOf (carriedOf (started p buffer) xs))) (triedAfter (started p buffer) xs s) (second-copy p copy buffer l xs ys s e)
+  where
+    go : (was : List (List ℕ)) (o : Outcome) → Inserted was o
+        → (o .number ≡ notFound) ⊎ ((o .number ≡ done) ⊎ ((o .number ≡ noneFree) ⊎ (o .number ≡ noRoom)))
+    go [] o h = inr h
+    go (r ∷ rs) o h = inl h

@@ -64,7 +64,7 @@ module _ (p : Description) (key : List ℕ) where
       go false l = refl
 
   -- where no place has the key, none that is carried has it
-  none-carried : (xs : List Spot) (st : State) → withKey p key (rowsOf xs) ≡ [] → withKey p key (rowsOf (carriedOf st xs)) ≡ []
+  pub none-carried : (xs : List Spot) (st : State) → withKey p key (rowsOf xs) ≡ [] → withKey p key (rowsOf (carriedOf st xs)) ≡ []
   unfolding carriedOf
   none-carried [] st h = h
   none-carried (x ∷ xs) st h =

@@ -7,3 +7,8 @@ pub mod Whole
 pub mod Lines
 pub mod Once
 pub mod Reports
+pub mod GoodBlocks
+pub mod Counting
+pub mod Ordered
+pub mod GoodFile
+pub mod GoodWhole

@@ -1,3 +1,4 @@
 pub mod Spots
 pub mod Carried
 pub mod Reported
+pub mod Whole
