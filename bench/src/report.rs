@@ -4,7 +4,7 @@ use crate::ours::Count;
 use crate::{Lane, Peer};
 
 /// The session formula's share of each kind: transfers per call, without what new blocks add.
-const BOUND: [u64; 5] = [4, 3, 3, 6, 5];
+const BOUND: [u64; 5] = [6, 3, 3, 6, 5];
 
 fn median(mut xs: Vec<f64>) -> f64 {
     xs.sort_by(f64::total_cmp);

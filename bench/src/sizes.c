@@ -49,7 +49,7 @@ static uint64_t most_transfers(const struct list *l) {
   uint64_t records = (uint64_t)l->names + l->grown;
   uint64_t details = records / hD(l) + records / FD(l);
   uint64_t indexes = details / hI(l) + details / FI(l);
-  uint64_t shares = 3 * ((uint64_t)l->names + l->grown) + 5 * ((uint64_t)l->names + 1) + 6 * (uint64_t)l->grown + 4 * (uint64_t)l->names + KINDS + 1;
+  uint64_t shares = 3 * ((uint64_t)l->names + l->grown) + 5 * ((uint64_t)l->names + 1) + 6 * ((uint64_t)l->grown + l->names) + KINDS + 1;
   return shares + 4 * details + indexes;
 }
 
