@@ -13,14 +13,14 @@ use Rattle.words.specs.Words.{part, put}
 use Rattle.words.proofs.Parts.{length_part, put_all}
 use Rattle.table.specs.Tables.{place, row}
 use Rattle.drum.specs.declared.Description.{Description}
-use Rattle.drum.specs.Params.{detailShape}
-use Rattle.drum.specs.Blocks.{Fitting, Block, Read, written, putBlock, block_at, Texts, seen, text_of}
+use Rattle.drum.specs.Params.{detail_shape}
+use Rattle.drum.specs.Blocks.{Fitting, Block, Read, written, put_block, block_at, Texts, seen, text_of}
 use Rattle.drum.proofs.Blocks.{text-current, text-other, block-still}
 use Rattle.rules.specs.declared.Path.{Path}
 use Rattle.rules.specs.declared.Way.{Way}
 use Rattle.rules.specs.declared.Way.TheVariants.{Here, By}
 use Rattle.rules.specs.declared.Done.{Done}
-use Rattle.rules.specs.Lookup.{flushMoves, reached, stopping}
+use Rattle.rules.specs.Lookup.{flush_moves, reached, stopping}
 use Rattle.rules.specs.Fits.{FlushFits, WayFits}
 use Rattle.rules.specs.Told.{gave, told}
 use Rattle.acts.specs.declared.Arrived.{Arrived}
@@ -34,11 +34,11 @@ module _ (p : Description) (cur : ℕ) (f b : List ℕ) where
 
   -- the current text of block x, stored in the file
   module _ (x : ℕ) where
-    pub stored-already : (x ≡ cur → ⊥) → Fitting p f b → Block p x → f ≡ putBlock p f x (text_of w x)
-    stored-already ne fit h = sym (ap (putBlock p f x) (text-other w x ne) ∙ block-still p f fit.file-is x h)
+    pub stored-already : (x ≡ cur → ⊥) → Fitting p f b → Block p x → f ≡ put_block p f x (text_of w x)
+    stored-already ne fit h = sym (ap (put_block p f x) (text-other w x ne) ∙ block-still p f fit.file-is x h)
 
-    pub stored-now : (g : List ℕ) → g ≡ putBlock p f x b → x ≡ cur → g ≡ putBlock p f x (text_of w x)
-    stored-now g eg e = eg ∙ ap (putBlock p f x) (sym (text-current w x e))
+    pub stored-now : (g : List ℕ) → g ≡ put_block p f x b → x ≡ cur → g ≡ put_block p f x (text_of w x)
+    stored-now g eg e = eg ∙ ap (put_block p f x) (sym (text-current w x e))
 
     -- and in the buffer
     pub loaded-already : x ≡ cur → b ≡ text_of w x
@@ -53,26 +53,26 @@ module _ (p : Description) (cur : ℕ) (flag : Bool) (f b : List ℕ) where
 
   -- an unflagged buffer is no transfer
   module _ (off : not flag ≡ true) where
-    pub unflagged-count : 0 ≡ length (flushMoves v flag)
-    unfolding flushMoves
+    pub unflagged-count : 0 ≡ length (flush_moves v flag)
+    unfolding flush_moves
     unflagged-count = simp (not-true flag off)
 
-    pub unflagged-file : f ≡ written p (flushMoves v flag) f
-    unfolding flushMoves written
+    pub unflagged-file : f ≡ written p (flush_moves v flag) f
+    unfolding flush_moves written
     unflagged-file = simp (not-true flag off)
 
   -- a flagged one is one, to its block
   module _ (on : not flag ≡ false) where
-    pub flagged-count : 1 ≡ length (flushMoves v flag)
-    unfolding flushMoves
+    pub flagged-count : 1 ≡ length (flush_moves v flag)
+    unfolding flush_moves
     flagged-count = simp (not-false flag on)
 
-    pub flagged-file : (g : List ℕ) → g ≡ putBlock p f cur b → g ≡ written p (flushMoves v flag) f
-    unfolding flushMoves written
+    pub flagged-file : (g : List ℕ) → g ≡ put_block p f cur b → g ≡ written p (flush_moves v flag) f
+    unfolding flush_moves written
     flagged-file g e = simp (not-false flag on) e
 
   -- the buffer written, the file fits, and block x has its current text
-  module _ (g : List ℕ) (e : g ≡ written p (flushMoves v flag) f) (due : FlushFits v flag) (fit : Fitting p f b) where
+  module _ (g : List ℕ) (e : g ≡ written p (flush_moves v flag) f) (due : FlushFits v flag) (fit : Fitting p f b) where
     pub flushed-fits : Fitting p g b
     flushed-fits = record { good = fit.good; file-is = ap length e ∙ length-flushed v fit flag due; buffer-is = fit.buffer-is }
 
@@ -80,7 +80,7 @@ module _ (p : Description) (cur : ℕ) (flag : Bool) (f b : List ℕ) where
     brought x t et h = et ∙ ap (λ (z : List ℕ). text_of (seen p cur z b) x) e ∙ text-flushed v fit flag due x h
 
   -- two blocks are read then
-  pub two-more : (wrote : ℕ) → wrote ≡ length (flushMoves v flag) → Fits w64 (wrote + 2)
+  pub two-more : (wrote : ℕ) → wrote ≡ length (flush_moves v flag) → Fits w64 (wrote + 2)
   two-more wrote e =
       let m = flush-most v flag in
       omega arith
@@ -112,16 +112,16 @@ module _ (p : Description) (cur : ℕ) (flag : Bool) (f b : List ℕ) where
         pub way-most : w.detail ≤ p.n
         way-most = (subst (WayFits v flag) e fits).0.detail-most
 
-      module _ (wrote : ℕ) (ew : wrote ≡ length (flushMoves v flag)) where
+      module _ (wrote : ℕ) (ew : wrote ≡ length (flush_moves v flag)) where
         pub way-count : wrote + 2 ≡ length (reached v flag way).moves
         way-count = rw e (by_count v flag w wrote ew)
 
-        pub came-by : (g t : List ℕ) → g ≡ written p (flushMoves v flag) f → t ≡ text_of v w.detail
+        pub came-by : (g t : List ℕ) → g ≡ written p (flush_moves v flag) f → t ≡ text_of v w.detail
             → record { file = g; current = w.detail; flag = false; buffer = t; transfers = wrote + 2 } ≡ come (reached v flag way)
         unfolding reached
         came-by g t eg et = rw e (come-by v flag w.detail (Read w.index ∷ Read w.detail ∷ []) wrote 2 g t ew refl eg et tt)
 
-      pub way-file : (g : List ℕ) → g ≡ written p (flushMoves v flag) f → g ≡ written p (reached v flag way).moves f
+      pub way-file : (g : List ℕ) → g ≡ written p (flush_moves v flag) f → g ≡ written p (reached v flag way).moves f
       way-file g eg = rw e (eg ∙ by-file v flag w f)
 
     -- the call stops at the block reached
@@ -143,6 +143,6 @@ module _ (p : Description) (cur : ℕ) (flag : Bool) (f b : List ℕ) where
 
 -- the workspace, written over in full, is the row
 pub row-given : (p : Description) (b w t : List ℕ) (i : ℕ) → t ≡ put w 0 (part (1 + i * p.wpr) p.wpr b)
-    → place (detailShape p) i + p.wpr ≤ length b → length w ≡ p.wpr → t ≡ row (detailShape p) b i
-unfolding detailShape row
+    → place (detail_shape p) i + p.wpr ≤ length b → length w ≡ p.wpr → t ≡ row (detail_shape p) b i
+unfolding detail_shape row
 row-given p b w t i e h n = e ∙ put_all w (part (1 + i * p.wpr) p.wpr b) (length_part (1 + i * p.wpr) p.wpr b h ∙ sym n)

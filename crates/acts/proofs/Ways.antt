@@ -5,24 +5,24 @@ use mathlib.Core.List.{List, [], ◌∷◌}
 use Prim.Native.Nat.{ℕ, ◌+◌, ◌≤◌}
 use native.Mathlib.Omega.{arith}
 use lib.ListN.{length, length-append}
-use Rattle.drum.specs.Params.{fileSize}
+use Rattle.drum.specs.Params.{file_size}
 use Rattle.drum.specs.Blocks.{Fitting, Block, Read, written, Texts, seen, text_of}
 use Rattle.drum.proofs.Written.{Moves, moves-append, length-written}
 use Rattle.rules.specs.declared.Path.{Path}
 use Rattle.rules.specs.declared.Way.{Way}
 use Rattle.rules.specs.declared.Way.TheVariants.{Here, By}
-use Rattle.rules.specs.Lookup.{flushMoves, bringing, reached}
+use Rattle.rules.specs.Lookup.{flush_moves, bringing, reached}
 use Rattle.rules.specs.Fits.{FlushFits, WayFits}
 use Rattle.acts.proofs.Moves.{written-reads, text-flushed, flush-most}
 
 module _ (v : Texts) (flag : Bool) where
-  pub by_count : (w : Path) (wrote : ℕ) → wrote ≡ length (flushMoves v flag) → wrote + 2 ≡ length (reached v flag (By w)).moves
+  pub by_count : (w : Path) (wrote : ℕ) → wrote ≡ length (flush_moves v flag) → wrote + 2 ≡ length (reached v flag (By w)).moves
   unfolding reached bringing
-  by_count w wrote e = ap (λ (n : ℕ). n + 2) e ∙ sym (length-append (flushMoves v flag) (Read w.index ∷ Read w.detail ∷ []))
+  by_count w wrote e = ap (λ (n : ℕ). n + 2) e ∙ sym (length-append (flush_moves v flag) (Read w.index ∷ Read w.detail ∷ []))
 
-  pub by-file : (w : Path) (f : List ℕ) → written v.desc (flushMoves v flag) f ≡ written v.desc (reached v flag (By w)).moves f
+  pub by-file : (w : Path) (f : List ℕ) → written v.desc (flush_moves v flag) f ≡ written v.desc (reached v flag (By w)).moves f
   unfolding reached bringing
-  by-file w f = sym (written-reads v.desc (flushMoves v flag) (Read w.index ∷ Read w.detail ∷ []) f tt)
+  by-file w f = sym (written-reads v.desc (flush_moves v flag) (Read w.index ∷ Read w.detail ∷ []) f tt)
 
   pub moves-most : (way : Way) → length (reached v flag way).moves ≤ 3
   unfolding reached bringing
@@ -32,20 +32,20 @@ module _ (v : Texts) (flag : Bool) where
       simp length-append (omega arith)
 
   module _ (fit : Fitting v.desc v.file v.buffer) where
-    flush-moves : FlushFits v flag → Moves v.desc (flushMoves v flag)
-    unfolding flushMoves
+    flush-moves : FlushFits v flag → Moves v.desc (flush_moves v flag)
+    unfolding flush_moves
     flush-moves due = go flag due
       where
-        go : (x : Bool) → FlushFits v x → Moves v.desc (flushMoves v x)
+        go : (x : Bool) → FlushFits v x → Moves v.desc (flush_moves v x)
         go true due = (due refl, fit.buffer-is, tt)
         go false due = tt
 
     pub way-moves : (way : Way) → WayFits v flag way → Moves v.desc (reached v flag way).moves
     unfolding reached bringing
     way-moves Here h = tt
-    way-moves (By w) h = moves-append v.desc (flushMoves v flag) (Read w.index ∷ Read w.detail ∷ []) (flush-moves h.1) tt
+    way-moves (By w) h = moves-append v.desc (flush_moves v flag) (Read w.index ∷ Read w.detail ∷ []) (flush-moves h.1) tt
 
-    pub length-followed : (way : Way) → WayFits v flag way → length (written v.desc (reached v flag way).moves v.file) ≡ fileSize v.desc
+    pub length-followed : (way : Way) → WayFits v flag way → length (written v.desc (reached v flag way).moves v.file) ≡ file_size v.desc
     length-followed way h = length-written v.desc v.file fit.file-is (reached v flag way).moves (way-moves way h)
 
     pub text-followed : (way : Way) → WayFits v flag way → (b : ℕ) → Block v.desc b

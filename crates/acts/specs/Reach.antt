@@ -6,8 +6,8 @@ use Rattle.rules.specs.Lookup.{Reached}
 use Rattle.acts.specs.declared.Arrived.{Arrived}
 
 -- what a plan looks at, where description, current block and flag are handed over as one [S4]
-abbrev pub seenBy : Held → List ℕ → List ℕ → Texts
-seenBy at f b = seen at.desc at.current f b
+abbrev pub seen_by : Held → List ℕ → List ℕ → Texts
+seen_by at f b = seen at.desc at.current f b
 
 -- what some steps come to, with their transfers counted
 pub record Come : Type 0 where

@@ -1,14 +1,14 @@
 // What the calls do once they are planned: a flagged buffer written, blocks brought and reached, a record given, the master's free words set.
 ghost use Rattle.std.specs.Prelude.{◌≡◌, true, false, ◌+◌, ◌≤◌, length, []};
 ghost use Rattle.table.specs.Tables.{place, row};
-ghost use Rattle.drum.specs.Params.{detailShape};
-ghost use Rattle.drum.specs.Blocks.{Fitting, Block, block_at, putBlock, written, text_of, at_entry};
-ghost use Rattle.rules.specs.Lookup.{flushMoves, reached, stopping};
+ghost use Rattle.drum.specs.Params.{detail_shape};
+ghost use Rattle.drum.specs.Blocks.{Fitting, Block, block_at, put_block, written, text_of, at_entry};
+ghost use Rattle.rules.specs.Lookup.{flush_moves, reached, stopping};
 ghost use Rattle.rules.specs.Told.{gave, told};
 ghost use Rattle.numbers.specs.Checked.{passed};
-ghost use Rattle.rules.specs.Free.{withFree};
+ghost use Rattle.rules.specs.Free.{with_free};
 ghost use Rattle.rules.specs.Fits.{FlushFits, WayFits};
-ghost use Rattle.acts.specs.Reach.{seenBy, come, came};
+ghost use Rattle.acts.specs.Reach.{seen_by, come, came};
 ghost use Rattle.words.specs.Slices.{was, became};
 
 use drum::Description;
@@ -24,9 +24,9 @@ pub struct Arrived {
 
 // Writes the buffer over its block if it is flagged, and counts it.
 pub fn flush(at: Held, file: &mut [u32], buffer: &[u32]) -> usize
-    requires { Fitting at.desc file.old buffer.now × FlushFits (seenBy at file.old buffer.now) at.flag }
-    ensures { (result ≡ length (flushMoves (seenBy at (was file) (was buffer)) at.flag))
-        × (became file ≡ written at.desc (flushMoves (seenBy at (was file) (was buffer)) at.flag) (was file)) }
+    requires { Fitting at.desc file.old buffer.now × FlushFits (seen_by at file.old buffer.now) at.flag }
+    ensures { (result ≡ length (flush_moves (seen_by at (was file) (was buffer)) at.flag))
+        × (became file ≡ written at.desc (flush_moves (seen_by at (was file) (was buffer)) at.flag) (was file)) }
 {
     if !at.flag {
         return 0;
@@ -38,7 +38,7 @@ pub fn flush(at: Held, file: &mut [u32], buffer: &[u32]) -> usize
 // Lets the file have the current text of block b.
 pub fn stage(p: Description, current: usize, file: &mut [u32], buffer: &[u32], b: usize)
     requires { Fitting p file.old buffer.now × Block p b }
-    ensures { became file ≡ putBlock p (was file) b (text_of (at_entry p current file buffer) b) }
+    ensures { became file ≡ put_block p (was file) b (text_of (at_entry p current file buffer) b) }
 {
     if b != current {
         return;
@@ -61,11 +61,11 @@ pub fn load(p: Description, current: usize, file: &[u32], buffer: &mut [u32], b:
 // looked at where they lie, and the caller counts them.
 pub fn bring(at: Held, file: &mut [u32], buffer: &mut [u32], b: usize) -> usize
     requires { Fitting at.desc file.old buffer.old
-        × FlushFits (seenBy at file.old buffer.old) at.flag
+        × FlushFits (seen_by at file.old buffer.old) at.flag
         × Block at.desc b }
-    ensures { (result ≡ length (flushMoves (seenBy at (was file) (was buffer)) at.flag))
-        × (became file ≡ written at.desc (flushMoves (seenBy at (was file) (was buffer)) at.flag) (was file))
-        × (became buffer ≡ text_of (seenBy at (was file) (was buffer)) b) }
+    ensures { (result ≡ length (flush_moves (seen_by at (was file) (was buffer)) at.flag))
+        × (became file ≡ written at.desc (flush_moves (seen_by at (was file) (was buffer)) at.flag) (was file))
+        × (became buffer ≡ text_of (seen_by at (was file) (was buffer)) b) }
 {
     let wrote = flush(at, file, buffer);
     load(at.desc, at.current, file, buffer, b);
@@ -74,8 +74,8 @@ pub fn bring(at: Held, file: &mut [u32], buffer: &mut [u32], b: usize) -> usize
 
 // Reaches the block at the end of the way.
 pub fn reach(at: Held, file: &mut [u32], buffer: &mut [u32], way: Way) -> Arrived
-    requires { Fitting at.desc file.old buffer.old × WayFits (seenBy at file.old buffer.old) at.flag way }
-    ensures { came result (became file) (became buffer) ≡ come (reached (seenBy at (was file) (was buffer)) at.flag way) }
+    requires { Fitting at.desc file.old buffer.old × WayFits (seen_by at file.old buffer.old) at.flag way }
+    ensures { came result (became file) (became buffer) ≡ come (reached (seen_by at (was file) (was buffer)) at.flag way) }
 {
     match way {
         Way::Here => Arrived {
@@ -97,9 +97,9 @@ pub fn reach(at: Held, file: &mut [u32], buffer: &mut [u32], way: Way) -> Arrive
 
 // Follows the way without its block being brought: a flagged buffer is written, and the reads are counted.
 pub fn follow(at: Held, file: &mut [u32], buffer: &[u32], way: Way) -> usize
-    requires { Fitting at.desc file.old buffer.now × WayFits (seenBy at file.old buffer.now) at.flag way }
-    ensures { (result ≡ length (reached (seenBy at (was file) (was buffer)) at.flag way).moves)
-        × (became file ≡ written at.desc (reached (seenBy at (was file) (was buffer)) at.flag way).moves (was file)) }
+    requires { Fitting at.desc file.old buffer.now × WayFits (seen_by at file.old buffer.now) at.flag way }
+    ensures { (result ≡ length (reached (seen_by at (was file) (was buffer)) at.flag way).moves)
+        × (became file ≡ written at.desc (reached (seen_by at (was file) (was buffer)) at.flag way).moves (was file)) }
 {
     match way {
         Way::Here => 0,
@@ -112,10 +112,10 @@ pub fn follow(at: Held, file: &mut [u32], buffer: &[u32], way: Way) -> usize
 
 // Reaches the block, and the call stops there with its number.
 pub fn stop(at: Held, file: &mut [u32], buffer: &mut [u32], way: Way, number: u32) -> Done
-    requires { Fitting at.desc file.old buffer.old × WayFits (seenBy at file.old buffer.old) at.flag way }
+    requires { Fitting at.desc file.old buffer.old × WayFits (seen_by at file.old buffer.old) at.flag way }
     ensures { gave result (became file) (became buffer) []
-        ≡ told (seenBy at (was file) (was buffer)) at.flag []
-        (passed (stopping number [] (reached (seenBy at (was file) (was buffer)) at.flag way))) }
+        ≡ told (seen_by at (was file) (was buffer)) at.flag []
+        (passed (stopping number [] (reached (seen_by at (was file) (was buffer)) at.flag way))) }
 {
     let here = reach(at, file, buffer, way);
     Done {
@@ -152,8 +152,8 @@ pub fn land(
 
 // Record i of the buffer to the workspace.
 pub fn give(p: Description, buffer: &[u32], work: &mut [u32], i: usize)
-    requires { (place (detailShape p) i + p.wpr ≤ length buffer.now) × (length work.old ≡ p.wpr) }
-    ensures { became work ≡ row (detailShape p) (was buffer) i }
+    requires { (place (detail_shape p) i + p.wpr ≤ length buffer.now) × (length work.old ≡ p.wpr) }
+    ensures { became work ≡ row (detail_shape p) (was buffer) i }
 {
     let wpr = p.wpr;
     words::copy_words(work, 0, buffer, 1 + i * wpr, wpr);
@@ -162,7 +162,7 @@ pub fn give(p: Description, buffer: &[u32], work: &mut [u32], i: usize)
 // Words 1 and 2 of the master.
 pub fn set_free(file: &mut [u32], head: usize, lowest: u32)
     requires { (3 ≤ length file.old) × (head ≤ 262143) }
-    ensures { became file ≡ withFree head lowest (was file) }
+    ensures { became file ≡ with_free head lowest (was file) }
 {
     words::put_word(file, 1, head);
     file[2] = lowest;

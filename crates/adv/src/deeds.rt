@@ -1,13 +1,13 @@
 // The record that ADV comes to, brought to the workspace.
 ghost use Rattle.std.specs.Prelude.{◌≡◌, cond, ◌+◌, ◌≤◌, length};
-ghost use Rattle.numbers.specs.Numbers.{done, atEnd};
+ghost use Rattle.numbers.specs.Numbers.{done, at_end};
 ghost use Rattle.table.specs.Tables.{place, row};
-ghost use Rattle.drum.specs.Params.{detailShape};
+ghost use Rattle.drum.specs.Params.{detail_shape};
 ghost use Rattle.drum.specs.Blocks.{Fitting};
 ghost use Rattle.rules.specs.Fits.{StepFits};
-ghost use Rattle.rules.specs.Adv.{advReads, advDone};
+ghost use Rattle.rules.specs.Adv.{adv_reads, adv_done};
 ghost use Rattle.rules.specs.Told.{FollowsAt};
-ghost use Rattle.acts.specs.Reach.{seenBy};
+ghost use Rattle.acts.specs.Reach.{seen_by};
 ghost use Rattle.adv.specs.Answers.{handed};
 ghost use Rattle.words.specs.Slices.{was, became};
 
@@ -20,7 +20,7 @@ const TOP_WORD: u32 = 262143;
 
 // The blocks read when the record is in the next detail block: its index block too if it is in the next section.
 pub fn reads_beyond(w: Path, x: Path) -> usize
-    ensures { result ≡ length (advReads w x) }
+    ensures { result ≡ length (adv_reads w x) }
 {
     if x.section == w.section {
         return 3;
@@ -30,8 +30,8 @@ pub fn reads_beyond(w: Path, x: Path) -> usize
 
 // The record i of the buffer to the workspace, with what was done before; the end record has its own number and leaves position.
 pub fn hand_over(p: Description, here: Arrived, buffer: &[u32], work: &mut [u32], i: usize) -> Done
-    requires { (place (detailShape p) i + p.wpr ≤ length buffer.now) × (length work.old ≡ p.wpr) × (p.k ≤ p.wpr) }
-    ensures { (result ≡ handed p (was buffer) i here) × (became work ≡ row (detailShape p) (was buffer) i) }
+    requires { (place (detail_shape p) i + p.wpr ≤ length buffer.now) × (length work.old ≡ p.wpr) × (p.k ≤ p.wpr) }
+    ensures { (result ≡ handed p (was buffer) i here) × (became work ≡ row (detail_shape p) (was buffer) i) }
 {
     acts::give(p, buffer, work, i);
     let end = words::all_are(buffer, 1 + i * p.wpr, p.k, TOP_WORD);
@@ -45,7 +45,7 @@ pub fn hand_over(p: Description, here: Arrived, buffer: &[u32], work: &mut [u32]
 }
 
 fn number_of(end: bool) -> u32
-    ensures { result ≡ cond end atEnd done }
+    ensures { result ≡ cond end at_end done }
 {
     if end {
         return AT_END;
@@ -57,8 +57,8 @@ fn number_of(end: bool) -> u32
 pub fn do_adv(s: Step, at: Held, file: &mut [u32], buffer: &mut [u32], work: &mut [u32]) -> Done
     requires { Fitting at.desc file.old buffer.old
         × (length work.old ≡ at.desc.wpr)
-        × StepFits (seenBy at file.old buffer.old) at.flag s }
-    ensures { FollowsAt result (λ v flag work. advDone v flag s) at file buffer work }
+        × StepFits (seen_by at file.old buffer.old) at.flag s }
+    ensures { FollowsAt result (λ v flag work. adv_done v flag s) at file buffer work }
 {
     match s {
         Step::Bad => Done::refused(BAD_FILE, at.current, at.flag),

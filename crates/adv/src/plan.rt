@@ -1,16 +1,16 @@
 // Where the least key above position is, decided from current texts alone.
 ghost use Rattle.std.specs.Prelude.{◌≡◌, true, cond, ◌&&◌, [], ◌-◌, ◌≤◌, length};
 ghost use Rattle.words.specs.Words.{part};
-ghost use Rattle.words.specs.Keys.{keyLt, keyLe};
+ghost use Rattle.words.specs.Keys.{key_lt, key_le};
 ghost use Rattle.table.specs.Tables.{count, key_at};
-ghost use Rattle.drum.specs.Params.{D, goodParams, detailShape};
+ghost use Rattle.drum.specs.Params.{D, good_params, detail_shape};
 ghost use Rattle.drum.specs.Blocks.{Fitting, seen, at_entry};
 ghost use Rattle.rules.specs.declared.Which.TheVariants.{First, Covering};
 ghost use Rattle.rules.specs.Fits.{PathFits};
-ghost use Rattle.rules.specs.Adv.{nextRow, nextInBuffer, nextPath, advBeyond, advAt, advOutside, advStep};
-ghost use Rattle.lookup.specs.Answers.{asRoute, asTest};
-ghost use Rattle.acts.specs.Reach.{seenBy};
-ghost use Rattle.adv.specs.Answers.{asStep};
+ghost use Rattle.rules.specs.Adv.{next_row, next_in_buffer, next_path, adv_beyond, adv_at, adv_outside, adv_step};
+ghost use Rattle.lookup.specs.Answers.{as_route, as_test};
+ghost use Rattle.acts.specs.Reach.{seen_by};
+ghost use Rattle.adv.specs.Answers.{as_step};
 ghost use Rattle.words.specs.Slices.{was};
 
 use drum::Description;
@@ -20,8 +20,8 @@ use table::Want;
 
 // The first record of a detail block's text above position, or its first record while position is none; else the count.
 fn next_row(p: Description, placed: bool, position: &[u32], t: &[u32]) -> usize
-    requires { (goodParams p ≡ true) × (length t.now ≡ p.wpb) × (count (detailShape p) t.now ≤ D p) × (p.k ≤ length position.now) }
-    ensures { result ≡ nextRow (seen p 0 [] []) placed (part 0 p.k (was position)) (was t) }
+    requires { (good_params p ≡ true) × (length t.now ≡ p.wpb) × (count (detail_shape p) t.now ≤ D p) × (p.k ≤ length position.now) }
+    ensures { result ≡ next_row (seen p 0 [] []) placed (part 0 p.k (was position)) (was t) }
 {
     if !placed {
         return 0;
@@ -32,14 +32,14 @@ fn next_row(p: Description, placed: bool, position: &[u32], t: &[u32]) -> usize
 
 // Whether the buffer's first key is not above position, and its last key is.
 fn spans(p: Description, position: &[u32], buffer: &[u32]) -> bool
-    requires { (goodParams p ≡ true)
+    requires { (good_params p ≡ true)
         × (length buffer.now ≡ p.wpb)
-        × (1 ≤ count (detailShape p) buffer.now)
-        × (count (detailShape p) buffer.now ≤ D p)
+        × (1 ≤ count (detail_shape p) buffer.now)
+        × (count (detail_shape p) buffer.now ≤ D p)
         × (p.k ≤ length position.now) }
     ensures { result
-        ≡ (keyLe (key_at (detailShape p) (was buffer) 0) (part 0 p.k (was position)) && keyLt
-        (part 0 p.k (was position)) (key_at (detailShape p) (was buffer) (count (detailShape p) (was buffer) - 1))) }
+        ≡ (key_le (key_at (detail_shape p) (was buffer) 0) (part 0 p.k (was position)) && key_lt
+        (part 0 p.k (was position)) (key_at (detail_shape p) (was buffer) (count (detail_shape p) (was buffer) - 1))) }
 {
     let k = p.k;
     if words::key_below(position, 0, buffer, 1, k) {
@@ -51,8 +51,8 @@ fn spans(p: Description, position: &[u32], buffer: &[u32]) -> bool
 
 // Whether the next record is in the buffer.
 fn next_in_buffer(p: Description, current: usize, position: &[u32], buffer: &[u32]) -> Test
-    requires { (goodParams p ≡ true) × (length buffer.now ≡ p.wpb) × (p.k ≤ length position.now) }
-    ensures { asTest result ≡ nextInBuffer (seen p current [] (was buffer)) (part 0 p.k (was position)) }
+    requires { (good_params p ≡ true) × (length buffer.now ≡ p.wpb) × (p.k ≤ length position.now) }
+    ensures { as_test result ≡ next_in_buffer (seen p current [] (was buffer)) (part 0 p.k (was position)) }
 {
     let held = lookup::on_buffer(p, current, buffer);
     match held {
@@ -71,8 +71,8 @@ fn next_in_buffer(p: Description, current: usize, position: &[u32], buffer: &[u3
 fn next_path<'a>(at: Held, file: &'a [u32], buffer: &'a [u32], position: &[u32], w: Path) -> Route
     requires { Fitting at.desc file.now buffer.now
         × (at.desc.k ≤ length position.now)
-        × PathFits (seenBy at file.now buffer.now) w }
-    ensures { asRoute result ≡ nextPath (seenBy at (was file) (was buffer)) w }
+        × PathFits (seen_by at file.now buffer.now) w }
+    ensures { as_route result ≡ next_path (seen_by at (was file) (was buffer)) w }
 {
     let t = drum::text_of(at.desc, at.current, file, buffer, w.index);
     let n = drum::kinds::entries_in(at.desc, t);
@@ -96,9 +96,9 @@ fn adv_beyond<'a>(
 ) -> Step
     requires { Fitting at.desc file.now buffer.now
         × (at.desc.k ≤ length position.now)
-        × PathFits (seenBy at file.now buffer.now) w }
-    ensures { asStep result
-        ≡ advBeyond (seenBy at (was file) (was buffer)) placed (part 0 at.desc.k (was position)) w }
+        × PathFits (seen_by at file.now buffer.now) w }
+    ensures { as_step result
+        ≡ adv_beyond (seen_by at (was file) (was buffer)) placed (part 0 at.desc.k (was position)) w }
 {
     let p = at.desc;
     let current = at.current;
@@ -128,9 +128,9 @@ fn adv_at<'a>(
 ) -> Step
     requires { Fitting at.desc file.now buffer.now
         × (at.desc.k ≤ length position.now)
-        × PathFits (seenBy at file.now buffer.now) w }
-    ensures { asStep result
-        ≡ advAt (seenBy at (was file) (was buffer)) at.flag placed (part 0 at.desc.k (was position)) w }
+        × PathFits (seen_by at file.now buffer.now) w }
+    ensures { as_step result
+        ≡ adv_at (seen_by at (was file) (was buffer)) at.flag placed (part 0 at.desc.k (was position)) w }
 {
     let p = at.desc;
     if !lookup::can_flush(p, at.current, at.flag) {
@@ -164,8 +164,8 @@ fn adv_outside<'a>(
     position: &[u32],
 ) -> Step
     requires { Fitting at.desc file.now buffer.now × (at.desc.k ≤ length position.now) }
-    ensures { asStep result
-        ≡ advOutside (seenBy at (was file) (was buffer)) at.flag placed (part 0 at.desc.k (was position)) }
+    ensures { as_step result
+        ≡ adv_outside (seen_by at (was file) (was buffer)) at.flag placed (part 0 at.desc.k (was position)) }
 {
     let which = first_wanted(placed);
     let route = lookup::path_by(at, file, buffer, which, which, position);
@@ -184,8 +184,8 @@ pub fn plan_adv<'a>(
     position: &[u32],
 ) -> Step
     requires { Fitting at.desc file.now buffer.now × (at.desc.k ≤ length position.now) }
-    ensures { asStep result
-        ≡ advStep (seenBy at (was file) (was buffer)) at.flag placed (part 0 at.desc.k (was position)) }
+    ensures { as_step result
+        ≡ adv_step (seen_by at (was file) (was buffer)) at.flag placed (part 0 at.desc.k (was position)) }
 {
     let p = at.desc;
     if !placed {

@@ -23,13 +23,13 @@ use Rattle.rules.specs.declared.Delete.TheVariants as delete-is
 use Rattle.rules.specs.declared.Extend.{Extend}
 use Rattle.rules.specs.declared.Extend.TheVariants as extend-is
 use Rattle.rules.specs.State.{Effect}
-use Rattle.rules.specs.Paths.{pathTo}
+use Rattle.rules.specs.Paths.{path_to}
 use Rattle.rules.specs.Lookup.{look, reached, stopping, storing}
-use Rattle.rules.specs.Free.{takeOne, takeTwo}
+use Rattle.rules.specs.Free.{take_one, take_two}
 use Rattle.rules.specs.Fits.{PathFits, FlushFits, WayFits, LookFits}
-use Rattle.rules.specs.Nsert.{roomDeed, splitDeed, bothDeed, insertAt, insertAfter, insertDeed}
-use Rattle.rules.specs.NsertDone.{splitMoves, bothSplitMoves, half_of, insertDone, nsertSteps}
-use Rattle.rules.specs.Dlete.{emptyDeed, empty_at, deleteAfter, deleteDeed, emptyMoves, emptyAll, bothAll, emptying, deleteDone, dleteSteps}
+use Rattle.rules.specs.Nsert.{room_deed, split_deed, both_deed, insert_at, insert_after, insert_deed}
+use Rattle.rules.specs.NsertDone.{split_moves, both_split_moves, half_of, insert_done, nsert_steps}
+use Rattle.rules.specs.Dlete.{empty_deed, empty_at, delete_after, delete_deed, empty_moves, empty_all, both_all, emptying, delete_done, dlete_steps}
 use Rattle.rules.specs.Xtend as x
 use Rattle.rules.specs.XtendDone as y
 use Rattle.rules.proofs.Fits.{path-fits, flush-of, look-passed, last-passed}
@@ -43,7 +43,7 @@ module _ (v : Texts) (fit : Fitting v.desc v.file v.buffer) (flag : Bool) (work 
 
   -- NSERT
   record Inserts (d : Insert) : Type 0 where
-    modest : Passed (Modest v) (insertDone v flag work d)
+    modest : Passed (Modest v) (insert_done v flag work d)
 
   module _ (w : Path) (path : PathFits v w) (due : FlushFits v flag) where
     half-most : (n i b : ℕ) → b ≤ v.desc.n → half_of n i w.detail b ≤ v.desc.n
@@ -54,61 +54,61 @@ module _ (v : Texts) (fit : Fitting v.desc v.file v.buffer) (flag : Bool) (work 
         go false = new
 
     stop-deed : (n : ℕ) → Inserts (insert-is.Stop (By w) n)
-    unfolding insertDone
+    unfolding insert_done
     stop-deed n = record { modest = by-passed _ (stop-modest v fit n work (reached v flag (By w)) (way-brought v fit flag (By w) (path, due))) }
 
     room-deed : (i n : ℕ) → Inserts (insert-is.Room w i n)
-    unfolding insertDone
+    unfolding insert_done
     room-deed i n = record { modest = by-passed _ (store-modest v fit n work (reached v flag (By w)) _ (way-brought v fit flag (By w) (path, due))) }
 
-    split-deed : (i n : ℕ) (d : Taken) → takeOne v flag w ≡ passed d → eqb d.block 0 ≡ false → Inserts (insert-is.Split w i d n)
-    unfolding insertDone splitMoves
+    split-deed : (i n : ℕ) (d : Taken) → take_one v flag w ≡ passed d → eqb d.block 0 ≡ false → Inserts (insert-is.Split w i d n)
+    unfolding insert_done split_moves
     split-deed i n d e z =
         let new = (one-new v flag w d e z).new.block in
         record { modest = by-passed _ (land-modest v fit n work _ _ _ (half-most _ i d.block new.1) (more-few v fit flag (By w) _ (path, due) (omega arith))) }
 
-    both-deed : (i n : ℕ) (t : Pair) → takeTwo v flag w ≡ passed t → eqb t.detail 0 ≡ false → Inserts (insert-is.Both w i t.detail t.index n)
-    unfolding insertDone bothSplitMoves
+    both-deed : (i n : ℕ) (t : Pair) → take_two v flag w ≡ passed t → eqb t.detail 0 ≡ false → Inserts (insert-is.Both w i t.detail t.index n)
+    unfolding insert_done both_split_moves
     both-deed i n t e z =
         let new = (two-new v flag w t e z).detail.block in
         record { modest = by-passed _ (land-modest v fit n work _ _ _ (half-most _ i t.detail new.1) (more-few v fit flag (By w) _ (path, due) (omega arith))) }
 
   duplicate-deed : (way : Way) (i n : ℕ) → LookFits v flag (look_is.Found way i) → Inserts (insert-is.Stop way n)
-  unfolding insertDone
+  unfolding insert_done
   duplicate-deed way i n h = record { modest = by-passed _ (stop-modest v fit n work (reached v flag way) (way-brought v fit flag way h.0)) }
 
   -- at a place of the block that a lookup came to
-  insert-at : (w : Path) (i : ℕ) → PathFits v w → FlushFits v flag → Passed Inserts (insertAt v flag w i)
-  unfolding insertAt roomDeed splitDeed bothDeed
+  insert-at : (w : Path) (i : ℕ) → PathFits v w → FlushFits v flag → Passed Inserts (insert_at v flag w i)
+  unfolding insert_at room_deed split_deed both_deed
   insert-at w i path due = search (chain, stop-deed, room-deed, split-deed, both-deed) depth 16
 
-  insert-after : (key : List ℕ) (l : Look) → LookFits v flag l → Passed Inserts (insertAfter v flag key l)
-  unfolding insertAfter
+  insert-after : (key : List ℕ) (l : Look) → LookFits v flag l → Passed Inserts (insert_after v flag key l)
+  unfolding insert_after
   insert-after key look_is.Bad h = search chain
   insert-after key (look_is.Found way i) h = by-passed _ (duplicate-deed way i _ h)
   insert-after key (look_is.Missing w) h = insert-at w _ h.0 h.1
 
-  insert-passed : (key : List ℕ) → Passed Inserts (insertDeed v flag key)
-  unfolding insertDeed
+  insert-passed : (key : List ℕ) → Passed Inserts (insert_deed v flag key)
+  unfolding insert_deed
   insert-passed key = search (chain, insert-after, looked)
 
-  insert-done : (key : List ℕ) (d : Insert) → insertDeed v flag key ≡ passed d → Passed (Modest v) (insertDone v flag work d)
+  insert-done : (key : List ℕ) (d : Insert) → insert_deed v flag key ≡ passed d → Passed (Modest v) (insert_done v flag work d)
   insert-done key d e = ((insert-passed key).holds d e).modest
 
-  pub nsert-modest : Passed (Modest v) (nsertSteps v flag work)
-  unfolding nsertSteps
+  pub nsert-modest : Passed (Modest v) (nsert_steps v flag work)
+  unfolding nsert_steps
   nsert-modest = search (chain, insert-done)
 
   -- DLETE
   record Deletes (d : Delete) : Type 0 where
-    modest : Passed (Modest v) (deleteDone v flag work d)
+    modest : Passed (Modest v) (delete_done v flag work d)
 
   stopped : (w : Path) → LookFits v flag (look_is.Missing w) → Deletes (delete-is.Stop w)
-  unfolding deleteDone
+  unfolding delete_done
   stopped w h = record { modest = by-passed _ (stop-modest v fit _ work (reached v flag (By w)) (way-brought v fit flag (By w) h)) }
 
   removing : (way : Way) (i : ℕ) → LookFits v flag (look_is.Found way i) → Deletes (delete-is.Remove way i)
-  unfolding deleteDone
+  unfolding delete_done
   removing way i h = record { modest = by-passed _ (store-modest v fit _ work (reached v flag way) _ (way-brought v fit flag way h.0)) }
 
   emptied : (moves : List Transfer) (f : List ℕ) → length moves ≤ 16 → Modest v (emptying v.desc work moves f)
@@ -116,31 +116,31 @@ module _ (v : Texts) (fit : Fitting v.desc v.file v.buffer) (flag : Bool) (work 
   emptied moves f l = record { current-most = λ c. omega arith; few = l }
 
   either : (t : Bool) (way : Way) (w : Path) (head : ℕ) → WayFits v flag way → Deletes (cond t (delete-is.Both way w head) (delete-is.Empty way w head))
-  unfolding deleteDone bothAll emptyAll emptyMoves
+  unfolding delete_done both_all empty_all empty_moves
   either true way w head h = record { modest = by-passed _ (emptied _ _ (more-few v fit flag way _ h (omega arith))) }
   either false way w head h = record { modest = by-passed _ (emptied _ _ (more-few v fit flag way _ h (omega arith))) }
 
-  delete-after : (key : List ℕ) (l : Look) → LookFits v flag l → Passed Deletes (deleteAfter v key l)
-  unfolding deleteAfter empty_at emptyDeed
+  delete-after : (key : List ℕ) (l : Look) → LookFits v flag l → Passed Deletes (delete_after v key l)
+  unfolding delete_after empty_at empty_deed
   delete-after key look_is.Bad h = search chain
   delete-after key (look_is.Missing w) h = by-passed _ (stopped w h)
   delete-after key (look_is.Found Here i) h = let r = removing Here i h in let b : WayFits v flag Here = h.0 in search (chain, either) depth 12
   delete-after key (look_is.Found (By w) i) h = let r = removing (By w) i h in let b : WayFits v flag (By w) = h.0 in search (chain, either) depth 12
 
-  delete-passed : (key : List ℕ) → Passed Deletes (deleteDeed v flag key)
-  unfolding deleteDeed
+  delete-passed : (key : List ℕ) → Passed Deletes (delete_deed v flag key)
+  unfolding delete_deed
   delete-passed key = search (chain, delete-after, looked)
 
-  delete-done : (key : List ℕ) (d : Delete) → deleteDeed v flag key ≡ passed d → Passed (Modest v) (deleteDone v flag work d)
+  delete-done : (key : List ℕ) (d : Delete) → delete_deed v flag key ≡ passed d → Passed (Modest v) (delete_done v flag work d)
   delete-done key d e = ((delete-passed key).holds d e).modest
 
-  pub dlete-modest : Passed (Modest v) (dleteSteps v flag work)
-  unfolding dleteSteps
+  pub dlete-modest : Passed (Modest v) (dlete_steps v flag work)
+  unfolding dlete_steps
   dlete-modest = search (chain, delete-done)
 
   -- XTEND
   record Extends (d : Extend) : Type 0 where
-    modest : Passed (Modest v) (y.extendDone v flag work d)
+    modest : Passed (Modest v) (y.extend_done v flag work d)
 
   index_read : (n : ℕ) → length (cond (eqb n 0) [] (Read n ∷ [])) ≤ 1
   index_read n = go (eqb n 0)
@@ -155,29 +155,29 @@ module _ (v : Texts) (fit : Fitting v.desc v.file v.buffer) (flag : Bool) (work 
     reading-few n = let r = index_read n in more-few v fit flag way _ reach (omega arith)
 
     extend-stop : (n z : ℕ) → Extends (extend-is.Stop way n z)
-    unfolding y.extendDone y.reading stopping
+    unfolding y.extend_done y.reading stopping
     extend-stop n z = record { modest = by-passed _ (record { current-most = (way-brought v fit flag way reach).current-most; few = reading-few n }) }
 
     extend-room : (n z : ℕ) → Extends (extend-is.Room way n z)
-    unfolding y.extendDone y.reading storing
+    unfolding y.extend_done y.reading storing
     extend-room n z = record { modest = by-passed _ (record { current-most = (way-brought v fit flag way reach).current-most; few = reading-few n }) }
 
-    extend-new : (w : Path) (n : ℕ) (d : Taken) → takeOne v flag w ≡ passed d → eqb d.block 0 ≡ false → Extends (extend-is.New way w d n)
-    unfolding y.extendDone y.newMoves
+    extend-new : (w : Path) (n : ℕ) (d : Taken) → take_one v flag w ≡ passed d → eqb d.block 0 ≡ false → Extends (extend-is.New way w d n)
+    unfolding y.extend_done y.new_moves
     extend-new w n d e z =
         let new = (one-new v flag w d e z).new.block in
         record { modest = by-passed _ (land-modest v fit n work _ _ _ new.1 (more-few v fit flag way _ reach (omega arith))) }
 
-    extend-both : (w : Path) (n : ℕ) (t : Pair) → takeTwo v flag w ≡ passed t → eqb t.detail 0 ≡ false
+    extend-both : (w : Path) (n : ℕ) (t : Pair) → take_two v flag w ≡ passed t → eqb t.detail 0 ≡ false
         → Extends (extend-is.Both way w t.detail t.index n)
-    unfolding y.extendDone y.sectionMoves
+    unfolding y.extend_done y.section_moves
     extend-both w n t e z =
         let new = (two-new v flag w t e z).detail.block in
         record { modest = by-passed _ (land-modest v fit n work _ _ _ new.1 (more-few v fit flag way _ reach (omega arith))) }
 
     -- the last block reached, and then what NSERT does
-    listed-modest : (n : ℕ) (d : Insert) (e t : Effect) → Passed (Modest v) (insertDone v flag work d) → insertDone v flag work d ≡ passed e
-        → insertDone v (reached v flag way).flag work d ≡ passed t → Modest v (y.listed ((y.reading n (reached v flag way)).moves ++ t.transfers) e)
+    listed-modest : (n : ℕ) (d : Insert) (e t : Effect) → Passed (Modest v) (insert_done v flag work d) → insert_done v flag work d ≡ passed e
+        → insert_done v (reached v flag way).flag work d ≡ passed t → Modest v (y.listed ((y.reading n (reached v flag way)).moves ++ t.transfers) e)
     unfolding y.listed y.reading
     listed-modest n d e t inner h k =
         let a = (way-brought v fit flag way reach).few in
@@ -185,27 +185,27 @@ module _ (v : Texts) (fit : Fitting v.desc v.file v.buffer) (flag : Bool) (work 
         let m = insert-few v work (reached v flag way).flag d t k in
         record { current-most = (inner.holds e h).current-most; few = simp length-append (omega arith) }
 
-    extend-before : (w : Path) (d : Insert) → Passed (Modest v) (insertDone v flag work d) → Extends (extend-is.Before way w d)
-    unfolding y.extendDone
+    extend-before : (w : Path) (d : Insert) → Passed (Modest v) (insert_done v flag work d) → Extends (extend-is.Before way w d)
+    unfolding y.extend_done
     extend-before w d inner = record { modest = search (chain, listed-modest) }
 
-    extend-turned : (key : List ℕ) (w q : Path) (n : ℕ) → pathTo v key ≡ passed q → Extends (extend-is.Before way w (insert-is.Stop (By q) n))
+    extend-turned : (key : List ℕ) (w q : Path) (n : ℕ) → path_to v key ≡ passed q → Extends (extend-is.Before way w (insert-is.Stop (By q) n))
     extend-turned key w q n e = extend-before w _ (stop-deed q (path-fits v _ _ key q e) (flush-of v flag way reach) n).modest
 
-    extend-inserted : (key : List ℕ) (w q : Path) (i : ℕ) (d : Insert) → pathTo v key ≡ passed q → insertAt v flag q i ≡ passed d
+    extend-inserted : (key : List ℕ) (w q : Path) (i : ℕ) (d : Insert) → path_to v key ≡ passed q → insert_at v flag q i ≡ passed d
         → Extends (extend-is.Before way w d)
     extend-inserted key w q i d e f = extend-before w d ((insert-at q i (path-fits v _ _ key q e) (flush-of v flag way reach)).holds d f).modest
 
-  last_fits : (way : Way) → x.lastWay v flag ≡ passed way → WayFits v flag way
+  last_fits : (way : Way) → x.last_way v flag ≡ passed way → WayFits v flag way
   last_fits way e = (last-passed v flag).holds way e
 
-  extend-passed : (key : List ℕ) → Passed Extends (x.extendDeed v flag key)
-  unfolding x.extendDeed x.extendAt x.aloneDeed x.lookDeed x.insertBefore x.lastRoom x.newDeed x.newAt x.startDeed x.sectionDeed
+  extend-passed : (key : List ℕ) → Passed Extends (x.extend_deed v flag key)
+  unfolding x.extend_deed x.extend_at x.alone_deed x.look_deed x.insert_before x.last_room x.new_deed x.new_at x.start_deed x.section_deed
   extend-passed key = search (chain, last_fits, extend-stop, extend-turned, extend-inserted, extend-room, extend-new, extend-both) depth 24
 
-  extend-done : (key : List ℕ) (d : Extend) → x.extendDeed v flag key ≡ passed d → Passed (Modest v) (y.extendDone v flag work d)
+  extend-done : (key : List ℕ) (d : Extend) → x.extend_deed v flag key ≡ passed d → Passed (Modest v) (y.extend_done v flag work d)
   extend-done key d e = ((extend-passed key).holds d e).modest
 
-  pub xtend-modest : Passed (Modest v) (y.xtendSteps v flag work)
-  unfolding y.xtendSteps
+  pub xtend-modest : Passed (Modest v) (y.xtend_steps v flag work)
+  unfolding y.xtend_steps
   xtend-modest = search (chain, extend-done)

@@ -5,53 +5,53 @@ use mathlib.Core.Bool.{Bool, true, false, cond, not}
 use mathlib.Core.List.{List, []}
 use native.Mathlib.Omega.{arith}
 use borrow.Author.Tests.{not-true, not-false}
-use Rattle.numbers.specs.Numbers.{wrongSize}
+use Rattle.numbers.specs.Numbers.{wrong_size}
 use Rattle.rules.specs.State.{Session, lent}
-use Rattle.rules.specs.Copy.{copyFile}
+use Rattle.rules.specs.Copy.{copy_file}
 use Rattle.searchfile.specs.declared.Session as code
 use Rattle.searchfile.specs.declared.Answer.{Answer}
 use Rattle.searchfile.specs.Promise.{held, given}
-use Rattle.searchfile.specs.Copying.{CountedCopy, countedCopy, answeredCopy}
-use Rattle.capi.specs.Words.{isSession, sessionOf, words_of, packed}
-use Rattle.capi.specs.Copying.{returnedCopy, toldCopy, calledCopy, OneReturnedCopy}
+use Rattle.searchfile.specs.Copying.{CountedCopy, counted_copy, answered_copy}
+use Rattle.capi.specs.Words.{is_session, session_of, words_of, packed}
+use Rattle.capi.specs.Copying.{returned_copy, told_copy, called_copy, OneReturnedCopy}
 use Rattle.capi.proofs.Words.{words-kept}
 
 -- what is told, by the test of the words
-copy-by : (ws f second m : List ℕ) (c : ℕ) (x : Bool) → isSession ws ≡ x
-    → cond x (toldCopy ws (countedCopy (copyFile (lent (sessionOf ws) f [] []) second c m))) (returnedCopy (packed 0 wrongSize) ws f second m)
-    ≡ calledCopy ws f second c m
-unfolding calledCopy
+copy-by : (ws f second m : List ℕ) (c : ℕ) (x : Bool) → is_session ws ≡ x
+    → cond x (told_copy ws (counted_copy (copy_file (lent (session_of ws) f [] []) second c m))) (returned_copy (packed 0 wrong_size) ws f second m)
+    ≡ called_copy ws f second c m
+unfolding called_copy
 copy-by ws f second m c x is = rw is
 
 module _ (ws : List ℕ) (t : Bool) where
   -- words that are no session's
-  pub copy-none : (f second m : List ℕ) (c r : ℕ) → r ≡ packed 0 wrongSize → t ≡ isSession ws → not t ≡ true
-      → returnedCopy r ws f second m ≡ calledCopy ws f second c m
-  copy-none f second m c r e q h = (λ j. returnedCopy (e j) ws f second m) ∙ copy-by ws f second m c false (sym q ∙ not-true t h)
+  pub copy-none : (f second m : List ℕ) (c r : ℕ) → r ≡ packed 0 wrong_size → t ≡ is_session ws → not t ≡ true
+      → returned_copy r ws f second m ≡ called_copy ws f second c m
+  copy-none f second m c r e q h = (λ j. returned_copy (e j) ws f second m) ∙ copy-by ws f second m c false (sym q ∙ not-true t h)
 
   -- what the answer of the session's call is told as; the words are still the session's
   pub copy-called : (s : code.Session) (a : Answer) (f second m x n : List ℕ) (c r : ℕ)
-      → answeredCopy a f x n ≡ countedCopy (copyFile (given s f [] []) second c m) → held s ≡ sessionOf ws
-      → r ≡ packed a.transfers a.number → t ≡ isSession ws → not t ≡ false → returnedCopy r ws f x n ≡ calledCopy ws f second c m
-  unfolding copyFile
+      → answered_copy a f x n ≡ counted_copy (copy_file (given s f [] []) second c m) → held s ≡ session_of ws
+      → r ≡ packed a.transfers a.number → t ≡ is_session ws → not t ≡ false → returned_copy r ws f x n ≡ called_copy ws f second c m
+  unfolding copy_file
   copy-called s a f second m x n c r e same p q h =
-      let yes : isSession ws ≡ true = sym q ∙ not-false t h in
+      let yes : is_session ws ≡ true = sym q ∙ not-false t h in
       let kept : words_of ws (held a.session) ≡ ws =
       ap (λ (o : CountedCopy). words_of ws o.outcome.after.session) e ∙ ap (words_of ws) same ∙ words-kept ws yes in
-      (λ j. returnedCopy (p j) (sym kept j) f x n)
-      ∙ ap (toldCopy ws) e
-      ∙ ap (λ (o : Session). toldCopy ws (countedCopy (copyFile (lent o f [] []) second c m))) same
+      (λ j. returned_copy (p j) (sym kept j) f x n)
+      ∙ ap (told_copy ws) e
+      ∙ ap (λ (o : Session). told_copy ws (counted_copy (copy_file (lent o f [] []) second c m))) same
       ∙ copy-by ws f second m c true yes
 
 -- no transfers
 pub copy-free : (s : code.Session) (a : Answer) (f second m x n : List ℕ) (c : ℕ)
-    → answeredCopy a f x n ≡ countedCopy (copyFile (given s f [] []) second c m) → a.transfers ≤ 16
-unfolding copyFile
+    → answered_copy a f x n ≡ counted_copy (copy_file (given s f [] []) second c m) → a.transfers ≤ 16
+unfolding copy_file
 copy-free s a f second m x n c e =
     let z : a.transfers ≡ 0 = ap (λ (o : CountedCopy). o.outcome.transfers) e in
     omega arith
 
 pub one-returned-copy : OneReturnedCopy
 one-returned-copy ws file second marks c r s us vs f g x y m n a b =
-    let e : returnedCopy r us f x m ≡ returnedCopy s vs g y n = a ∙ sym b in
+    let e : returned_copy r us f x m ≡ returned_copy s vs g y n = a ∙ sym b in
     (λ i. (e i).answer, λ i. (e i).session, λ i. (e i).file, λ i. (e i).second, λ i. (e i).marks)

@@ -18,29 +18,29 @@ use Rattle.rules.specs.declared.Look.{Look}
 use Rattle.rules.specs.declared.Look.TheVariants as look_is
 use Rattle.rules.specs.declared.Step.{Step}
 use Rattle.rules.specs.declared.Step.TheVariants as step_is
-use Rattle.rules.specs.State.{Effect, keyIn}
-use Rattle.rules.specs.Lookup.{Reached, flushMoves, bringing, reached, look, stopping, storing, landing}
+use Rattle.rules.specs.State.{Effect, key_in}
+use Rattle.rules.specs.Lookup.{Reached, flush_moves, bringing, reached, look, stopping, storing, landing}
 use Rattle.rules.specs.Fits.{WayFits, LookFits, StepFits}
-use Rattle.rules.specs.Seek.{giving, seekDone, seekSteps, updatDone, updatSteps}
-use Rattle.rules.specs.Adv.{advGiving, advReads, advStep, advDone, advSteps}
+use Rattle.rules.specs.Seek.{giving, seek_done, seek_steps, updat_done, updat_steps}
+use Rattle.rules.specs.Adv.{adv_giving, adv_reads, adv_step, adv_done, adv_steps}
 use Rattle.rules.proofs.Fits.{look-passed, step-passed}
-use Rattle.capi.specs.Words.{mostWord}
+use Rattle.capi.specs.Words.{most_word}
 
 pub record Modest (v : Texts) (e : Effect) : Type 0 where
-  pub current-most : v.current ≤ mostWord → e.current ≤ mostWord
+  pub current-most : v.current ≤ most_word → e.current ≤ most_word
   pub few : length e.transfers ≤ 16
 
 -- the same of a block that was reached
 pub record Brought (v : Texts) (r : Reached) : Type 0 where
-  pub current-most : v.current ≤ mostWord → r.current ≤ mostWord
+  pub current-most : v.current ≤ most_word → r.current ≤ most_word
   pub few : length r.moves ≤ 5
 
 module _ (v : Texts) (fit : Fitting v.desc v.file v.buffer) where
-  pub block-most : (b : ℕ) → b ≤ v.desc.n → b ≤ mostWord
+  pub block-most : (b : ℕ) → b ≤ v.desc.n → b ≤ most_word
   block-most b h = let g = good-facts v.desc fit.good in omega arith
 
-  flush-few : (flag : Bool) → length (flushMoves v flag) ≤ 1
-  unfolding flushMoves
+  flush-few : (flag : Bool) → length (flush_moves v flag) ≤ 1
+  unfolding flush_moves
   flush-few true = omega arith
   flush-few false = omega arith
 
@@ -81,49 +81,49 @@ module _ (v : Texts) (fit : Fitting v.desc v.file v.buffer) where
       simp length-append (omega arith)
 
 module _ (v : Texts) (fit : Fitting v.desc v.file v.buffer) (flag : Bool) (work : List ℕ) where
-  looked : (l : Look) → look v flag (keyIn v.desc work) ≡ passed l → LookFits v flag l
-  looked l e = (look-passed v flag (keyIn v.desc work)).holds l e
+  looked : (l : Look) → look v flag (key_in v.desc work) ≡ passed l → LookFits v flag l
+  looked l e = (look-passed v flag (key_in v.desc work)).holds l e
 
-  seek-done : (l : Look) → LookFits v flag l → Passed (Modest v) (seekDone v flag work l)
-  unfolding seekDone
+  seek-done : (l : Look) → LookFits v flag l → Passed (Modest v) (seek_done v flag work l)
+  unfolding seek_done
   seek-done look_is.Bad h = search chain
   seek-done (look_is.Found way i) h = by-passed _ (give-modest v fit (reached v flag way) _ i _ (way-brought v fit flag way h.0))
   seek-done (look_is.Missing w) h = by-passed _ (stop-modest v fit _ work (reached v flag (By w)) (way-brought v fit flag (By w) h))
 
-  pub seek-modest : Passed (Modest v) (seekSteps v flag work)
-  unfolding seekSteps
+  pub seek-modest : Passed (Modest v) (seek_steps v flag work)
+  unfolding seek_steps
   seek-modest = search (chain, seek-done, looked)
 
-  updat-done : (l : Look) → LookFits v flag l → Passed (Modest v) (updatDone v flag work l)
-  unfolding updatDone
+  updat-done : (l : Look) → LookFits v flag l → Passed (Modest v) (updat_done v flag work l)
+  unfolding updat_done
   updat-done look_is.Bad h = search chain
   updat-done (look_is.Found way i) h = by-passed _ (store-modest v fit _ work (reached v flag way) _ (way-brought v fit flag way h.0))
   updat-done (look_is.Missing w) h = by-passed _ (stop-modest v fit _ work (reached v flag (By w)) (way-brought v fit flag (By w) h))
 
-  pub updat-modest : Passed (Modest v) (updatSteps v flag work)
-  unfolding updatSteps
+  pub updat-modest : Passed (Modest v) (updat_steps v flag work)
+  unfolding updat_steps
   updat-modest = search (chain, updat-done, looked)
 
 -- ADV
 module _ (v : Texts) (fit : Fitting v.desc v.file v.buffer) (flag : Bool) where
-  next-few : (w x : Path) → length (advReads w x) ≤ 4
-  unfolding advReads
+  next-few : (w x : Path) → length (adv_reads w x) ≤ 4
+  unfolding adv_reads
   next-few w x = go (eqb x.section w.section)
     where
       go : (t : Bool) → length (Read w.index ∷ Read w.detail ∷ cond t (Read x.detail ∷ []) (Read x.index ∷ Read x.detail ∷ [])) ≤ 4
       go true = omega arith
       go false = omega arith
 
-  stepped : (placed : Bool) (at : List ℕ) (s : Step) → advStep v flag placed at ≡ passed s → StepFits v flag s
+  stepped : (placed : Bool) (at : List ℕ) (s : Step) → adv_step v flag placed at ≡ passed s → StepFits v flag s
   stepped placed at s e = (step-passed v flag at placed).holds s e
 
-  adv-done : (s : Step) → StepFits v flag s → Passed (Modest v) (advDone v flag s)
-  unfolding advDone advGiving
+  adv-done : (s : Step) → StepFits v flag s → Passed (Modest v) (adv_done v flag s)
+  unfolding adv_done adv_giving
   adv-done step_is.Bad h = search chain
   adv-done (step_is.At way i) h = by-passed _ (give-modest v fit (reached v flag way) _ i _ (way-brought v fit flag way h.0))
   adv-done (step_is.Beyond w x i) h =
-      by-passed _ (give-modest v fit (bringing v flag x.detail (advReads w x)) _ i _ (brought v fit flag x.detail (advReads w x) h.0.detail-most (next-few w x)))
+      by-passed _ (give-modest v fit (bringing v flag x.detail (adv_reads w x)) _ i _ (brought v fit flag x.detail (adv_reads w x) h.0.detail-most (next-few w x)))
 
-  pub adv-modest : (placed : Bool) (at : List ℕ) → Passed (Modest v) (advSteps v flag placed at)
-  unfolding advSteps
+  pub adv-modest : (placed : Bool) (at : List ℕ) → Passed (Modest v) (adv_steps v flag placed at)
+  unfolding adv_steps
   adv-modest placed at = search (chain, adv-done, stepped)

@@ -8,19 +8,19 @@ use lib.Dec.{eqb}
 use mir.Syntax.{w32}
 use mir.Val.{Fits}
 use lib.ListN.{length, get_or, length-append}
-use Rattle.numbers.specs.Numbers.{done, notAllowed}
+use Rattle.numbers.specs.Numbers.{done, not_allowed}
 use Rattle.numbers.specs.Checked.{Checked, passed, refused}
 use Rattle.rules.specs.State.{State, Outcome, desc, unchanged}
 use Rattle.rules.specs.Seek.{seek, updat}
 use Rattle.rules.specs.NsertDone.{nsert}
 use Rattle.rules.specs.Requests.{lending}
-use Rattle.register.specs.Names.{raw, romanised, onHold, state_of}
-use Rattle.register.specs.Register.{hasState, nameOk, spelledOk, checked, rawName, stopped, joined, sought, followed, move, spelled, turned, turn, enter, ask, romanise, hold, free}
+use Rattle.register.specs.Names.{raw, romanised, on_hold, state_of}
+use Rattle.register.specs.Register.{has_state, name_ok, spelled_ok, checked, raw_name, stopped, joined, sought, followed, move, spelled, turned, turn, enter, ask, romanise, hold, free}
 use Rattle.register.proofs.Costs.{seek-few, updat-few}
 use Rattle.searchfile.specs.declared.Session as code
 use Rattle.searchfile.specs.declared.Answer.{Answer}
 use Rattle.searchfile.specs.Promise.{held, given, counted, answered}
-use Rattle.capi.specs.Words.{isSession, sessionOf}
+use Rattle.capi.specs.Words.{is_session, session_of}
 use Rattle.capi.specs.Calls.{Tellable}
 use Rattle.capi.proofs.Told.{tellable}
 use Rattle.capi.proofs.Outcomes.{Telling, seek-telling, updat-telling, nsert-telling}
@@ -50,8 +50,8 @@ module _ (st : State) where
       found : Brief st (seek st)
       found = record { telling = seek-telling st; brief = seek-few st }
 
-      go : (t : Bool) → Brief st (cond t (stopped notAllowed (seek st)) (seek st))
-      go true = stopped-brief notAllowed (seek st) found
+      go : (t : Bool) → Brief st (cond t (stopped not_allowed (seek st)) (seek st))
+      go true = stopped-brief not_allowed (seek st) found
       go false = found
 
   followed-telling : (o : Outcome) (c : Checked (List ℕ)) → Brief st o → Telling st (followed o c)
@@ -79,27 +79,27 @@ module _ (st : State) where
   pub enter-telling : Telling st (enter st)
   unfolding enter lending
   enter-telling =
-      let t = nsert-telling (lending (rawName (desc st) st.work) st) in
-      checked-telling (nameOk st) _ (record { same-parameters = t.same-parameters; current-most = t.current-most; few = t.few })
+      let t = nsert-telling (lending (raw_name (desc st) st.work) st) in
+      checked-telling (name_ok st) _ (record { same-parameters = t.same-parameters; current-most = t.current-most; few = t.few })
 
   pub ask-telling : Telling st (ask st)
   unfolding ask
-  ask-telling = checked-telling (hasState st) _ (seek-telling st)
+  ask-telling = checked-telling (has_state st) _ (seek-telling st)
 
   pub hold-telling : Telling st (hold st)
   unfolding hold turn
-  hold-telling = checked-telling (nameOk st) _ (move-telling romanised (turned (desc st) onHold))
+  hold-telling = checked-telling (name_ok st) _ (move-telling romanised (turned (desc st) on_hold))
 
   pub free-telling : Telling st (free st)
   unfolding free turn
-  free-telling = checked-telling (nameOk st) _ (move-telling onHold (turned (desc st) romanised))
+  free-telling = checked-telling (name_ok st) _ (move-telling on_hold (turned (desc st) romanised))
 
 pub romanise-telling : (spelling : List ℕ) (st : State) → Telling st (romanise spelling st)
 unfolding romanise
-romanise-telling spelling st = checked-telling st (spelledOk spelling st) _ (move-telling st raw (spelled (desc st) spelling))
+romanise-telling spelling st = checked-telling st (spelled_ok spelling st) _ (move-telling st raw (spelled (desc st) spelling))
 
 -- romanising can be told, whatever the spelling
 pub romanise-tellable : (spelling ws : List ℕ) (t : Bool) (s : code.Session) (a : Answer) (f b w f₁ b₁ w₁ : List ℕ)
-    → answered a f₁ b₁ w₁ ≡ counted (romanise spelling (given s f b w)) → held s ≡ sessionOf ws → t ≡ isSession ws → not t ≡ false
+    → answered a f₁ b₁ w₁ ≡ counted (romanise spelling (given s f b w)) → held s ≡ session_of ws → t ≡ is_session ws → not t ≡ false
     → ((i : ℕ) → Fits w32 (get_or ws i 0)) → Tellable ws a
 romanise-tellable spelling = tellable (romanise spelling) (romanise-telling spelling)

@@ -11,9 +11,9 @@ use Rattle.numbers.specs.Checked.{Checked, passed, refused}
 use Rattle.words.specs.Words.{part}
 use Rattle.words.proofs.Parts.{length_part}
 use Rattle.rules.specs.State.{Session, State, Outcome, lent}
-use Rattle.rules.specs.Open.{openChecks, openDone, openLayout, openFile}
-use Rattle.rules.specs.Checks.{sizesOk, isOpen}
-use Rattle.rules.specs.Close.{closeChecks, closeDone, close}
+use Rattle.rules.specs.Open.{open_checks, open_done, open_layout, open_file}
+use Rattle.rules.specs.Checks.{sizes_ok, is_open}
+use Rattle.rules.specs.Close.{close_checks, close_done, close}
 use Rattle.rules.specs.Seek.{seek, updat}
 use Rattle.rules.specs.Adv.{adv}
 use Rattle.rules.specs.NsertDone.{nsert}
@@ -24,9 +24,9 @@ use Rattle.drum.specs.declared.Description.{Description}
 use Rattle.demands.proofs.Came.{same-parameters}
 use Rattle.demands.proofs.Lengths.{lengths-kept}
 use Rattle.searchfile.specs.Promise.{counted}
-use Rattle.capi.specs.Words.{isSession, parametersIn, sessionOf}
-use Rattle.capi.specs.Calls.{Returned, ReturnedOpen, returned, toldInWords}
-use Rattle.capi.specs.Runs.{number_in, transfersIn, stateIn, keeping, promised}
+use Rattle.capi.specs.Words.{is_session, parameters_in, session_of}
+use Rattle.capi.specs.Calls.{Returned, ReturnedOpen, returned, told_in_words}
+use Rattle.capi.specs.Runs.{number_in, transfers_in, state_in, keeping, promised}
 use Rattle.capi.proofs.Words.{session-facts, form-none, session-kept, words_are}
 use Rattle.capi.proofs.Told.{called-some, open-some}
 use Rattle.capi.proofs.Unpacked.{number_small, number-unpacked, transfers-unpacked}
@@ -35,39 +35,39 @@ use Rattle.capi.proofs.Unpacked.{number_small, number-unpacked, transfers-unpack
 module _ (ws : List ℕ) (s : Session) (f b w : List ℕ) where
   -- told without it, and told with it
   abbrev Keeping : Outcome → Outcome → Type 0
-  Keeping o p = keeping w (toldInWords ws (counted o)) ≡ toldInWords ws (counted p)
+  Keeping o p = keeping w (told_in_words ws (counted o)) ≡ told_in_words ws (counted p)
 
-  closed-keeping : (c : Checked Bool) → Keeping (closeDone (lent s f b []) c) (closeDone (lent s f b w) c)
-  unfolding closeDone
+  closed-keeping : (c : Checked Bool) → Keeping (close_done (lent s f b []) c) (close_done (lent s f b w) c)
+  unfolding close_done
   closed-keeping (refused n) = refl
   closed-keeping (passed x) = refl
 
   close-keeping : Keeping (close (lent s f b [])) (close (lent s f b w))
-  unfolding close closeChecks sizesOk isOpen
-  close-keeping = closed-keeping (closeChecks (lent s f b w))
+  unfolding close close_checks sizes_ok is_open
+  close-keeping = closed-keeping (close_checks (lent s f b w))
 
-  layout-keeping : (c : Checked (List ℕ)) → Keeping (openLayout (lent s f b []) c).outcome (openLayout (lent s f b w) c).outcome
-  unfolding openLayout
+  layout-keeping : (c : Checked (List ℕ)) → Keeping (open_layout (lent s f b []) c).outcome (open_layout (lent s f b w) c).outcome
+  unfolding open_layout
   layout-keeping (refused n) = refl
   layout-keeping (passed ms) = refl
 
-  opened-keeping : (marks : List ℕ) (c : Checked Bool) → Keeping (openDone (lent s f b []) marks c).outcome (openDone (lent s f b w) marks c).outcome
-  unfolding openDone
+  opened-keeping : (marks : List ℕ) (c : Checked Bool) → Keeping (open_done (lent s f b []) marks c).outcome (open_done (lent s f b w) marks c).outcome
+  unfolding open_done
   opened-keeping marks (refused n) = refl
   opened-keeping marks (passed x) = layout-keeping _
 
-  open-keeping : (marks : List ℕ) → Keeping (openFile (lent s f b []) marks).outcome (openFile (lent s f b w) marks).outcome
-  unfolding openFile openChecks sizesOk
-  open-keeping marks = opened-keeping marks (openChecks (lent s f b w) marks)
+  open-keeping : (marks : List ℕ) → Keeping (open_file (lent s f b []) marks).outcome (open_file (lent s f b w) marks).outcome
+  unfolding open_file open_checks sizes_ok
+  open-keeping marks = opened-keeping marks (open_checks (lent s f b w) marks)
 
-promised-told : (x : Returned) → isSession x.session ≡ true → (q : Request) → promised x q ≡ toldInWords x.session (counted (answer (stateIn x) q))
+promised-told : (x : Returned) → is_session x.session ≡ true → (q : Request) → promised x q ≡ told_in_words x.session (counted (answer (state_in x) q))
 unfolding promised answer lending
 promised-told x ok (opening marks) =
     ap (λ (r : ReturnedOpen). keeping x.work r.returned) (sym (open-some x.session ok x.file x.buffer marks))
-    ∙ open-keeping x.session (sessionOf x.session) x.file x.buffer x.work marks
+    ∙ open-keeping x.session (session_of x.session) x.file x.buffer x.work marks
 promised-told x ok closing =
     ap (keeping x.work) (sym (called-some x.session ok close x.file x.buffer []))
-    ∙ close-keeping x.session (sessionOf x.session) x.file x.buffer x.work
+    ∙ close-keeping x.session (session_of x.session) x.file x.buffer x.work
 promised-told x ok (seeking w) = sym (called-some x.session ok seek x.file x.buffer w)
 promised-told x ok (advancing w) = sym (called-some x.session ok adv x.file x.buffer w)
 promised-told x ok (inserting w) = sym (called-some x.session ok nsert x.file x.buffer w)
@@ -88,38 +88,38 @@ given-session st (extending w) = refl
 
 -- ---- one call
 
-module _ (x : Returned) (ok : isSession x.session ≡ true) (q : Request) (y : Returned) (p : y ≡ promised x q) where
+module _ (x : Returned) (ok : is_session x.session ≡ true) (q : Request) (y : Returned) (p : y ≡ promised x q) where
   abbrev does : Outcome
-  does = answer (stateIn x) q
+  does = answer (state_in x) q
 
-  is : y ≡ toldInWords x.session (counted does)
+  is : y ≡ told_in_words x.session (counted does)
   is = p ∙ promised-told x ok q
 
   whole : length does.after.session.position ≡ 63
-  unfolding sessionOf
+  unfolding session_of
   whole =
       let h = (session-facts x.session ok).whole in
       let l : length (part 10 63 x.session) ≡ 63 = length_part 10 63 x.session (omega arith) in
-      (lengths-kept (stateIn x) q).position (ap (λ (s : Session). length s.position) (given-session (stateIn x) q) ∙ l)
+      (lengths-kept (state_in x) q).position (ap (λ (s : Session). length s.position) (given-session (state_in x) q) ∙ l)
 
   -- the parameters stay, and words without a place for the form are of the first
   first : eqb (length x.session) 74 ≡ false → does.after.session.desc.form ≡ 1
-  unfolding sessionOf parametersIn
+  unfolding session_of parameters_in
   first e =
       let f = session-facts x.session ok in
       let n : length x.session ≡ 74 → ⊥ = eqb-false (length x.session) 74 e in
-      ap (λ (d : Description). d.form) (same-parameters (stateIn x) q) ∙ sym (form-none x.session (omega (arith, f.no_more)))
+      ap (λ (d : Description). d.form) (same-parameters (state_in x) q) ∙ sym (form-none x.session (omega (arith, f.no_more)))
 
-  pub step-session : isSession y.session ≡ true
-  step-session = ap (λ (r : Returned). isSession r.session) is ∙ words_are x.session does.after.session whole
+  pub step-session : is_session y.session ≡ true
+  step-session = ap (λ (r : Returned). is_session r.session) is ∙ words_are x.session does.after.session whole
 
-  pub step-state : stateIn y ≡ does.after
+  pub step-state : state_in y ≡ does.after
   step-state =
       let k = session-kept x.session does.after.session whole first in
-      ap stateIn is ∙ (λ j. lent (k j) does.after.file does.after.buffer does.after.work)
+      ap state_in is ∙ (λ j. lent (k j) does.after.file does.after.buffer does.after.work)
 
   pub step-number : number_in y.answer ≡ does.number
-  step-number = ap (λ (r : Returned). number_in r.answer) is ∙ number-unpacked _ _ (number_small (stateIn x) q)
+  step-number = ap (λ (r : Returned). number_in r.answer) is ∙ number-unpacked _ _ (number_small (state_in x) q)
 
-  pub step-transfers : transfersIn y.answer ≡ length does.transfers
-  step-transfers = ap (λ (r : Returned). transfersIn r.answer) is ∙ transfers-unpacked _ _ (number_small (stateIn x) q)
+  pub step-transfers : transfers_in y.answer ≡ length does.transfers
+  step-transfers = ap (λ (r : Returned). transfers_in r.answer) is ∙ transfers-unpacked _ _ (number_small (state_in x) q)

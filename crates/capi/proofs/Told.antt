@@ -9,110 +9,110 @@ use native.Mathlib.Omega.{arith}
 use mir.Syntax.{w32}
 use mir.Val.{Fits}
 use lib.ListN.{length, get_or}
-use Rattle.numbers.specs.Numbers.{wrongSize}
+use Rattle.numbers.specs.Numbers.{wrong_size}
 use Rattle.rules.specs.State.{Session, State, Outcome, desc, lent}
-use Rattle.rules.specs.Open.{openFile}
-use Rattle.rules.specs.Run.{createdOutcome}
+use Rattle.rules.specs.Open.{open_file}
+use Rattle.rules.specs.Run.{created_outcome}
 use Rattle.searchfile.specs.declared.Session as code
 use Rattle.searchfile.specs.declared.Answer.{Answer}
-use Rattle.searchfile.specs.Promise.{Counted, CountedOpen, held, given, counted, countedOpen, answered, answeredOpen, creating}
-use Rattle.capi.specs.Words.{isSession, parametersIn, sessionOf, words_of, packed}
-use Rattle.capi.specs.Calls.{returned, toldInWords, toldOpen, marked, called, calledOpen, Tellable}
+use Rattle.searchfile.specs.Promise.{Counted, CountedOpen, held, given, counted, counted_open, answered, answered_open, creating}
+use Rattle.capi.specs.Words.{is_session, parameters_in, session_of, words_of, packed}
+use Rattle.capi.specs.Calls.{returned, told_in_words, told_open, marked, called, called_open, Tellable}
 use Rattle.capi.proofs.Words.{session-facts, words-kept}
 use Rattle.capi.proofs.Outcomes.{Telling, open-telling}
 
 -- what a call is told as, by the test of the words
-module _ (ws : List ℕ) (x : Bool) (is : isSession ws ≡ x) where
+module _ (ws : List ℕ) (x : Bool) (is : is_session ws ≡ x) where
   called-by : (call : State → Outcome) (f b w : List ℕ)
-      → cond x (toldInWords ws (counted (call (lent (sessionOf ws) f b w)))) (returned (packed 0 wrongSize) ws f b w) ≡ called call ws f b w
+      → cond x (told_in_words ws (counted (call (lent (session_of ws) f b w)))) (returned (packed 0 wrong_size) ws f b w) ≡ called call ws f b w
   unfolding called
   called-by call f b w = rw is
 
   open_by : (f b m : List ℕ)
-      → cond x (toldOpen ws (countedOpen (openFile (lent (sessionOf ws) f b []) m))) (marked (returned (packed 0 wrongSize) ws f b []) m)
-      ≡ calledOpen ws f b m
-  unfolding calledOpen
+      → cond x (told_open ws (counted_open (open_file (lent (session_of ws) f b []) m))) (marked (returned (packed 0 wrong_size) ws f b []) m)
+      ≡ called_open ws f b m
+  unfolding called_open
   open_by f b m = rw is
 
 module _ (ws : List ℕ) (t : Bool) where
   -- what the code's test tells
-  asked-yes : t ≡ isSession ws → not t ≡ false → isSession ws ≡ true
+  asked-yes : t ≡ is_session ws → not t ≡ false → is_session ws ≡ true
   asked-yes e h = sym e ∙ not-false t h
 
-  asked-no : t ≡ isSession ws → not t ≡ true → isSession ws ≡ false
+  asked-no : t ≡ is_session ws → not t ≡ true → is_session ws ≡ false
   asked-no e h = sym e ∙ not-true t h
 
-  pub asked-whole : t ≡ isSession ws → not t ≡ false → 73 ≤ length ws
+  pub asked-whole : t ≡ is_session ws → not t ≡ false → 73 ≤ length ws
   asked-whole e h = (session-facts ws (asked-yes e h)).whole
 
-  pub asked-no-more : t ≡ isSession ws → not t ≡ false → length ws ≤ 74
+  pub asked-no-more : t ≡ is_session ws → not t ≡ false → length ws ≤ 74
   asked-no-more e h = (session-facts ws (asked-yes e h)).no_more
 
   -- words that are no session's
-  pub called-none : (call : State → Outcome) (f b w : List ℕ) (r : ℕ) → t ≡ isSession ws → not t ≡ true → r ≡ packed 0 wrongSize
+  pub called-none : (call : State → Outcome) (f b w : List ℕ) (r : ℕ) → t ≡ is_session ws → not t ≡ true → r ≡ packed 0 wrong_size
       → returned r ws f b w ≡ called call ws f b w
   called-none call f b w r e h p = (λ j. returned (p j) ws f b w) ∙ called-by ws false (asked-no e h) call f b w
 
-  pub open_none : (f b m : List ℕ) (r : ℕ) → t ≡ isSession ws → not t ≡ true → r ≡ packed 0 wrongSize
-      → marked (returned r ws f b []) m ≡ calledOpen ws f b m
+  pub open_none : (f b m : List ℕ) (r : ℕ) → t ≡ is_session ws → not t ≡ true → r ≡ packed 0 wrong_size
+      → marked (returned r ws f b []) m ≡ called_open ws f b m
   open_none f b m r e h p = (λ j. marked (returned (p j) ws f b []) m) ∙ open_by ws false (asked-no e h) f b m
 
 -- words that are one's
-module _ (ws : List ℕ) (yes : isSession ws ≡ true) where
-  pub called-some : (call : State → Outcome) (f b w : List ℕ) → toldInWords ws (counted (call (lent (sessionOf ws) f b w))) ≡ called call ws f b w
+module _ (ws : List ℕ) (yes : is_session ws ≡ true) where
+  pub called-some : (call : State → Outcome) (f b w : List ℕ) → told_in_words ws (counted (call (lent (session_of ws) f b w))) ≡ called call ws f b w
   called-some = called-by ws true yes
 
-  pub open-some : (f b m : List ℕ) → toldOpen ws (countedOpen (openFile (lent (sessionOf ws) f b []) m)) ≡ calledOpen ws f b m
+  pub open-some : (f b m : List ℕ) → told_open ws (counted_open (open_file (lent (session_of ws) f b []) m)) ≡ called_open ws f b m
   open-some = open_by ws true yes
 
 -- what CREATE answers is told, its session as it was; and it can be told
 module _ (s : code.Session) (a : Answer) (f g : List ℕ) (e : answered a g [] [] ≡ counted (creating (given s f [] []))) where
-  pub create-called : (ws : List ℕ) (t : Bool) (r : ℕ) → held s ≡ sessionOf ws → r ≡ packed a.transfers a.number
-      → t ≡ isSession ws → not t ≡ false → returned r ws g [] [] ≡ called creating ws f [] []
-  unfolding creating createdOutcome
+  pub create-called : (ws : List ℕ) (t : Bool) (r : ℕ) → held s ≡ session_of ws → r ≡ packed a.transfers a.number
+      → t ≡ is_session ws → not t ≡ false → returned r ws g [] [] ≡ called creating ws f [] []
+  unfolding creating created_outcome
   create-called ws t r same p q h =
       let yes = asked-yes ws t q h in
       let k = words-kept ws yes in
       let c = e ∙ ap (λ (x : Session). counted (creating (lent x f [] []))) same in
       (λ j. returned (p j) (sym k j) g [] [])
-      ∙ (λ j. returned (packed (c j).transfers (c j).number) (words_of ws (sessionOf ws)) (c j).after.file [] [])
+      ∙ (λ j. returned (packed (c j).transfers (c j).number) (words_of ws (session_of ws)) (c j).after.file [] [])
       ∙ called-some ws yes creating f [] []
 
   pub create-few : a.transfers ≤ 16
-  unfolding creating createdOutcome
+  unfolding creating created_outcome
   create-few = let n : a.transfers ≡ 0 = ap (λ (x : Counted). x.transfers) e in omega arith
 
 -- what the answer of a call is told as
 module _ (ws : List ℕ) (t : Bool) (s : code.Session) (a : Answer) where
   pub call-called : (call : State → Outcome) (f b w f₁ b₁ w₁ us : List ℕ) (r : ℕ)
-      → answered a f₁ b₁ w₁ ≡ counted (call (given s f b w)) → held s ≡ sessionOf ws
+      → answered a f₁ b₁ w₁ ≡ counted (call (given s f b w)) → held s ≡ session_of ws
       → (r ≡ packed a.transfers a.number) × (us ≡ words_of ws (held a.session))
-      → t ≡ isSession ws → not t ≡ false → returned r us f₁ b₁ w₁ ≡ called call ws f b w
+      → t ≡ is_session ws → not t ≡ false → returned r us f₁ b₁ w₁ ≡ called call ws f b w
   call-called call f b w f₁ b₁ w₁ us r e same p q h =
       (λ j. returned (p.0 j) (p.1 j) f₁ b₁ w₁)
-      ∙ ap (toldInWords ws) e
-      ∙ ap (λ (x : Session). toldInWords ws (counted (call (lent x f b w)))) same
+      ∙ ap (told_in_words ws) e
+      ∙ ap (λ (x : Session). told_in_words ws (counted (call (lent x f b w)))) same
       ∙ called-some ws (asked-yes ws t q h) call f b w
 
   pub open-called : (f b m m₁ us : List ℕ) (r : ℕ)
-      → answeredOpen a f b m₁ ≡ countedOpen (openFile (given s f b []) m) → held s ≡ sessionOf ws
+      → answered_open a f b m₁ ≡ counted_open (open_file (given s f b []) m) → held s ≡ session_of ws
       → (r ≡ packed a.transfers a.number) × (us ≡ words_of ws (held a.session))
-      → t ≡ isSession ws → not t ≡ false → marked (returned r us f b []) m₁ ≡ calledOpen ws f b m
+      → t ≡ is_session ws → not t ≡ false → marked (returned r us f b []) m₁ ≡ called_open ws f b m
   open-called f b m m₁ us r e same p q h =
       (λ j. marked (returned (p.0 j) (p.1 j) f b []) m₁)
-      ∙ ap (toldOpen ws) e
-      ∙ ap (λ (x : Session). toldOpen ws (countedOpen (openFile (lent x f b []) m))) same
+      ∙ ap (told_open ws) e
+      ∙ ap (λ (x : Session). told_open ws (counted_open (open_file (lent x f b []) m))) same
       ∙ open-some ws (asked-yes ws t q h) f b m
 
 -- and it can be told: the call is given by hand, the rest is in reach
 pub tellable : (call : State → Outcome) → ((st : State) → Telling st (call st))
     → (ws : List ℕ) (t : Bool) (s : code.Session) (a : Answer) (f b w f₁ b₁ w₁ : List ℕ)
-    → answered a f₁ b₁ w₁ ≡ counted (call (given s f b w)) → held s ≡ sessionOf ws → t ≡ isSession ws → not t ≡ false
+    → answered a f₁ b₁ w₁ ≡ counted (call (given s f b w)) → held s ≡ session_of ws → t ≡ is_session ws → not t ≡ false
     → ((i : ℕ) → Fits w32 (get_or ws i 0)) → Tellable ws a
-unfolding sessionOf
+unfolding session_of
 tellable call tells ws t s a f b w f₁ b₁ w₁ e same q h word =
     let m = tells (given s f b w) in
-    let p : (held s).desc ≡ parametersIn ws = ap (λ (x : Session). x.desc) same in
+    let p : (held s).desc ≡ parameters_in ws = ap (λ (x : Session). x.desc) same in
     let c : (held s).current ≡ get_or ws 7 0 = ap (λ (x : Session). x.current) same in
     let d : a.session.desc ≡ (call (given s f b w)).after.session.desc = ap (λ (x : Counted). x.after.session.desc) e in
     let u : a.session.current ≡ (call (given s f b w)).after.session.current = ap (λ (x : Counted). x.after.session.current) e in
@@ -129,7 +129,7 @@ tellable call tells ws t s a f b w f₁ b₁ w₁ e same q h word =
     }
 
 pub open-tellable : (ws : List ℕ) (t : Bool) (s : code.Session) (a : Answer) (f b m m₁ : List ℕ)
-    → answeredOpen a f b m₁ ≡ countedOpen (openFile (given s f b []) m) → held s ≡ sessionOf ws → t ≡ isSession ws → not t ≡ false
+    → answered_open a f b m₁ ≡ counted_open (open_file (given s f b []) m) → held s ≡ session_of ws → t ≡ is_session ws → not t ≡ false
     → ((i : ℕ) → Fits w32 (get_or ws i 0)) → Tellable ws a
 open-tellable ws t s a f b m m₁ e =
-    tellable (λ st. (openFile st m).outcome) (λ st. open-telling st m) ws t s a f b [] f b [] (ap (λ (o : CountedOpen). o.outcome) e)
+    tellable (λ st. (open_file st m).outcome) (λ st. open-telling st m) ws t s a f b [] f b [] (ap (λ (o : CountedOpen). o.outcome) e)

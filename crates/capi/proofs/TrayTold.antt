@@ -9,18 +9,18 @@ use mir.Syntax.{w32}
 use mir.Val.{Fits}
 use lib.Dec.{eqb}
 use lib.ListN.{length, get_or, set}
-use Rattle.numbers.specs.Numbers.{done, wrongSize, accepted}
+use Rattle.numbers.specs.Numbers.{done, wrong_size, accepted}
 use Rattle.numbers.specs.Checked.{Checked, passed, refused}
 use Rattle.rules.specs.State.{Session, State, desc, lent}
 use Rattle.rules.specs.Requests.{lending}
 use Rattle.searchfile.specs.declared.Session as code
 use Rattle.searchfile.specs.Promise.{held, given}
 use Rattle.tray.specs.declared.Trayed.{Trayed}
-use Rattle.tray.specs.Tray.{TrayOutcome, recordsOf, nsertOne, stoppedBy, storedBefore, inserts, trayChecks, afterChecks, nsertTray}
-use Rattle.tray.specs.Promise.{CountedTray, countedTray, answeredTray}
-use Rattle.capi.specs.Words.{isSession, parametersIn, sessionOf, words_of, mostWord}
+use Rattle.tray.specs.Tray.{TrayOutcome, records_of, nsert_one, stopped_by, stored_before, inserts, tray_checks, after_checks, nsert_tray}
+use Rattle.tray.specs.Promise.{CountedTray, counted_tray, answered_tray}
+use Rattle.capi.specs.Words.{is_session, parameters_in, session_of, words_of, most_word}
 use Rattle.capi.specs.Calls.{Writable}
-use Rattle.capi.specs.Tray.{returnedTray, toldTray, calledTray, OneReturnedTray}
+use Rattle.capi.specs.Tray.{returned_tray, told_tray, called_tray, OneReturnedTray}
 use Rattle.capi.proofs.Told.{asked-whole, asked-no-more}
 use Rattle.capi.proofs.Outcomes.{nsert-telling}
 
@@ -28,10 +28,10 @@ use Rattle.capi.proofs.Outcomes.{nsert-telling}
 
 record Tells (st now : State) : Type 0 where
   same-parameters : now.session.desc ≡ desc st
-  current-most : st.session.current ≤ mostWord → now.session.current ≤ mostWord
+  current-most : st.session.current ≤ most_word → now.session.current ≤ most_word
 
-one-tells : (st : State) (r : List ℕ) → Tells st (nsertOne st r).after
-unfolding nsertOne lending
+one-tells : (st : State) (r : List ℕ) → Tells st (nsert_one st r).after
+unfolding nsert_one lending
 one-tells st r = let t = nsert-telling (lending r st) in record { same-parameters = t.same-parameters; current-most = t.current-most }
 
 then-tells : (a b c : State) → Tells a b → Tells b c → Tells a c
@@ -45,37 +45,37 @@ inserts-tell : (rs : List (List ℕ)) (st : State) (n : ℕ) → Tells st (inser
 unfolding inserts
 inserts-tell [] st n = record { same-parameters = refl; current-most = λ h. h }
 inserts-tell (r ∷ rs) st n =
-    let o = nsertOne st r in
+    let o = nsert_one st r in
     let one = one-tells st r in
     let rest = inserts o.after rs o.number in
-    either-tells st (accepted o.number) (storedBefore o rest) (stoppedBy o)
+    either-tells st (accepted o.number) (stored_before o rest) (stopped_by o)
     (then-tells st o.after rest.after one (inserts-tell rs o.after o.number)) one
 
-tray-tells : (st : State) (t : List ℕ) → Tells st (nsertTray st t).after
-unfolding nsertTray afterChecks
-tray-tells st t = go (trayChecks st t)
+tray-tells : (st : State) (t : List ℕ) → Tells st (nsert_tray st t).after
+unfolding nsert_tray after_checks
+tray-tells st t = go (tray_checks st t)
   where
-    go : (c : Checked Bool) → Tells st (afterChecks st t c).after
+    go : (c : Checked Bool) → Tells st (after_checks st t c).after
     go (refused n) = record { same-parameters = refl; current-most = λ h. h }
-    go (passed x) = inserts-tell (recordsOf (desc st) t) st done
+    go (passed x) = inserts-tell (records_of (desc st) t) st done
 
-module _ (s : code.Session) (r : Trayed) (f b t g d : List ℕ) (e : answeredTray r g d ≡ countedTray (nsertTray (given s f b []) t)) where
-  tray-parameters : (ws : List ℕ) → held s ≡ sessionOf ws → parametersIn ws ≡ r.session.desc
-  unfolding sessionOf
+module _ (s : code.Session) (r : Trayed) (f b t g d : List ℕ) (e : answered_tray r g d ≡ counted_tray (nsert_tray (given s f b []) t)) where
+  tray-parameters : (ws : List ℕ) → held s ≡ session_of ws → parameters_in ws ≡ r.session.desc
+  unfolding session_of
   tray-parameters ws same =
-      let k : r.session.desc ≡ (nsertTray (given s f b []) t).after.session.desc = ap (λ (x : CountedTray). x.after.session.desc) e in
+      let k : r.session.desc ≡ (nsert_tray (given s f b []) t).after.session.desc = ap (λ (x : CountedTray). x.after.session.desc) e in
       sym (k ∙ (tray-tells (given s f b []) t).same-parameters ∙ ap (λ (x : Session). x.desc) same)
 
-  tray-current : (ws : List ℕ) → held s ≡ sessionOf ws → ((i : ℕ) → Fits w32 (get_or ws i 0)) → r.session.current ≤ mostWord
-  unfolding sessionOf
+  tray-current : (ws : List ℕ) → held s ≡ session_of ws → ((i : ℕ) → Fits w32 (get_or ws i 0)) → r.session.current ≤ most_word
+  unfolding session_of
   tray-current ws same word =
-      let k : r.session.current ≡ (nsertTray (given s f b []) t).after.session.current = ap (λ (x : CountedTray). x.after.session.current) e in
+      let k : r.session.current ≡ (nsert_tray (given s f b []) t).after.session.current = ap (λ (x : CountedTray). x.after.session.current) e in
       let c : (held s).current ≡ get_or ws 7 0 = ap (λ (x : Session). x.current) same in
       let w = word 7 in
       rw k ((tray-tells (given s f b []) t).current-most (rw c (omega arith)))
 
   -- so the words have room for its session
-  pub tray-writable : (ws : List ℕ) (x : Bool) → held s ≡ sessionOf ws → x ≡ isSession ws → not x ≡ false
+  pub tray-writable : (ws : List ℕ) (x : Bool) → held s ≡ session_of ws → x ≡ is_session ws → not x ≡ false
       → ((i : ℕ) → Fits w32 (get_or ws i 0)) → Writable ws r.session
   tray-writable ws x same q h word = record {
     whole = asked-whole ws x q h;
@@ -93,35 +93,35 @@ two-words (y ∷ z ∷ []) a b h = refl
 two-words (y ∷ z ∷ v ∷ l) a b h = absurd (omega arith)
 
 module _ (ws f b t told : List ℕ) where
-  tray-by : (c : Bool) → isSession ws && eqb (length told) 2 ≡ c
-      → cond c (toldTray ws (countedTray (nsertTray (lent (sessionOf ws) f b []) t))) (returnedTray wrongSize ws f b told) ≡ calledTray ws f b t told
-  unfolding calledTray
+  tray-by : (c : Bool) → is_session ws && eqb (length told) 2 ≡ c
+      → cond c (told_tray ws (counted_tray (nsert_tray (lent (session_of ws) f b []) t))) (returned_tray wrong_size ws f b told) ≡ called_tray ws f b t told
+  unfolding called_tray
   tray-by c e = rw e
 
-  module _ (x : Bool) (asked : x ≡ isSession ws) where
-    pub tray-none : (r : ℕ) → r ≡ wrongSize → not x ≡ true → returnedTray r ws f b told ≡ calledTray ws f b t told
-    tray-none r e h = (λ j. returnedTray (e j) ws f b told) ∙ tray-by false (ap (λ (c : Bool). c && eqb (length told) 2) (sym asked ∙ not-true x h))
+  module _ (x : Bool) (asked : x ≡ is_session ws) where
+    pub tray-none : (r : ℕ) → r ≡ wrong_size → not x ≡ true → returned_tray r ws f b told ≡ called_tray ws f b t told
+    tray-none r e h = (λ j. returned_tray (e j) ws f b told) ∙ tray-by false (ap (λ (c : Bool). c && eqb (length told) 2) (sym asked ∙ not-true x h))
 
-    pub tray-untold : (r : ℕ) → r ≡ wrongSize → (length told ≡ 2 → ⊥) → not x ≡ false → returnedTray r ws f b told ≡ calledTray ws f b t told
+    pub tray-untold : (r : ℕ) → r ≡ wrong_size → (length told ≡ 2 → ⊥) → not x ≡ false → returned_tray r ws f b told ≡ called_tray ws f b t told
     tray-untold r e l h =
         let y = sym asked ∙ not-false x h in
         let z = ne_eqb (length told) 2 l in
-        (λ j. returnedTray (e j) ws f b told) ∙ tray-by false (λ j. y j && z j)
+        (λ j. returned_tray (e j) ws f b told) ∙ tray-by false (λ j. y j && z j)
 
     pub tray-called : (s : code.Session) (a : Trayed) (g d us : List ℕ) (r : ℕ)
-        → answeredTray a g d ≡ countedTray (nsertTray (given s f b []) t) → held s ≡ sessionOf ws → us ≡ words_of ws (held a.session) → r ≡ a.number
+        → answered_tray a g d ≡ counted_tray (nsert_tray (given s f b []) t) → held s ≡ session_of ws → us ≡ words_of ws (held a.session) → r ≡ a.number
         → length told ≡ 2 → not x ≡ false
-        → returnedTray r us g d (set (set told 0 a.transfers) 1 a.stored) ≡ calledTray ws f b t told
+        → returned_tray r us g d (set (set told 0 a.transfers) 1 a.stored) ≡ called_tray ws f b t told
     tray-called s a g d us r e same u n l h =
         let y = sym asked ∙ not-false x h in
         let z = eq-eqb (length told) 2 l in
         let w = two-words told a.transfers a.stored l in
-        (λ j. returnedTray (n j) (u j) g d (w j))
-        ∙ ap (toldTray ws) e
-        ∙ ap (λ (o : Session). toldTray ws (countedTray (nsertTray (lent o f b []) t))) same
+        (λ j. returned_tray (n j) (u j) g d (w j))
+        ∙ ap (told_tray ws) e
+        ∙ ap (λ (o : Session). told_tray ws (counted_tray (nsert_tray (lent o f b []) t))) same
         ∙ tray-by true (λ j. y j && z j)
 
 pub one-returned-tray : OneReturnedTray
 one-returned-tray ws file buffer t told r s us vs f g b d m n x y =
-    let e : returnedTray r us f b m ≡ returnedTray s vs g d n = x ∙ sym y in
+    let e : returned_tray r us f b m ≡ returned_tray s vs g d n = x ∙ sym y in
     (λ i. (e i).answer, λ i. (e i).session, λ i. (e i).file, λ i. (e i).buffer, λ i. (e i).told)

@@ -10,22 +10,22 @@ use mir.Val.{Fits}
 use lib.Dec.{eqb}
 use lib.ListN.{length, get_or, set}
 use lib.Seq.{set_at, get_or-set_other}
-use Rattle.numbers.specs.Numbers.{wrongSize}
+use Rattle.numbers.specs.Numbers.{wrong_size}
 use Rattle.numbers.specs.Checked.{Checked, passed, refused}
 use Rattle.numbers.proofs.Passed.{both}
 use Rattle.words.specs.Words.{part}
 use Rattle.words.proofs.Parts.{length_part}
 use Rattle.drum.specs.declared.Description.{Description}
-use Rattle.layout.specs.Inspect.{layoutMarks}
-use Rattle.layout.specs.Turned.{otherForm}
+use Rattle.layout.specs.Inspect.{layout_marks}
+use Rattle.layout.specs.Turned.{other_form}
 use Rattle.rules.specs.State.{Session, lent}
-use Rattle.rules.specs.Turning.{turnChecks, turnLayout, turnDone, turning, describing, turnFile}
+use Rattle.rules.specs.Turning.{turn_checks, turn_layout, turn_done, turning, describing, turn_file}
 use Rattle.searchfile.specs.declared.Session as code
 use Rattle.searchfile.specs.declared.Answer.{Answer}
 use Rattle.searchfile.specs.Promise.{held, given}
-use Rattle.searchfile.specs.Turning.{CountedTurn, countedTurn, answeredTurn}
-use Rattle.capi.specs.Words.{isSession, parametersIn, sessionOf, words_of, mostWord, bit, packed}
-use Rattle.capi.specs.Turning.{ReturnedTurn, returnedTurn, toldTurn, calledTurn, OnlyForm, OneReturnedTurn}
+use Rattle.searchfile.specs.Turning.{CountedTurn, counted_turn, answered_turn}
+use Rattle.capi.specs.Words.{is_session, parameters_in, session_of, words_of, most_word, bit, packed}
+use Rattle.capi.specs.Turning.{ReturnedTurn, returned_turn, told_turn, called_turn, OnlyForm, OneReturnedTurn}
 use Rattle.capi.proofs.Words.{session-facts, form-read, words-kept}
 
 -- ---- the call hands back the session with another form at most
@@ -37,22 +37,22 @@ formed x p = record { wpb = p.wpb; wpr = p.wpr; k = p.k; space = p.space; contro
 -- a description that differs from p in the form at most, which fits a word where that of p does
 record Turns (p d : Description) : Type 0 where
   same-else : formed d.form p ≡ d
-  form-most : p.form ≤ mostWord → d.form ≤ mostWord
+  form-most : p.form ≤ most_word → d.form ≤ most_word
 
 module _ (p : Description) (f : List ℕ) where
-  layout-turns : (c : Checked (List ℕ)) → Turns p (turnLayout p f c).desc
-  unfolding turnLayout otherForm
+  layout-turns : (c : Checked (List ℕ)) → Turns p (turn_layout p f c).desc
+  unfolding turn_layout other_form
   layout-turns (refused n) = record { same-else = refl; form-most = λ h. h }
   layout-turns (passed m) = record { same-else = refl; form-most = λ h. omega arith }
 
-  done-turns : (marks : List ℕ) (c : Checked Bool) → Turns p (turnDone p f marks c).desc
-  unfolding turnDone
+  done-turns : (marks : List ℕ) (c : Checked Bool) → Turns p (turn_done p f marks c).desc
+  unfolding turn_done
   done-turns marks (refused n) = record { same-else = refl; form-most = λ h. h }
-  done-turns marks (passed x) = layout-turns (layoutMarks p f)
+  done-turns marks (passed x) = layout-turns (layout_marks p f)
 
   turning-turns : (opened : Bool) (marks : List ℕ) → Turns p (turning p opened f marks).desc
   unfolding turning
-  turning-turns opened marks = done-turns marks (turnChecks p opened (length f) (length marks))
+  turning-turns opened marks = done-turns marks (turn_checks p opened (length f) (length marks))
 
 -- ---- word 73 written over
 
@@ -71,82 +71,82 @@ form-written ws s x n l =
     ∙ ap (front s) (set_at s.position s.desc.form [] x 63 l)
     ∙ (λ j. front s (s.position ++ cond (sym q j) (x ∷ []) []))
 
-module _ (ws f m : List ℕ) (yes : isSession ws ≡ true) (n : length ws ≡ 74) where
+module _ (ws f m : List ℕ) (yes : is_session ws ≡ true) (n : length ws ≡ 74) where
   abbrev after : Session
-  after = (turnFile (lent (sessionOf ws) f [] []) m).outcome.after.session
+  after = (turn_file (lent (session_of ws) f [] []) m).outcome.after.session
 
   turned-words : set ws 73 after.desc.form ≡ words_of ws after
-  unfolding turnFile describing sessionOf
+  unfolding turn_file describing session_of
   turned-words =
       let l : length (part 10 63 ws) ≡ 63 = length_part 10 63 ws (omega arith) in
-      let t = (turning-turns (parametersIn ws) f (sessionOf ws).opened m).same-else in
+      let t = (turning-turns (parameters_in ws) f (session_of ws).opened m).same-else in
       ap (λ (z : List ℕ). set z 73 after.desc.form) (sym (words-kept ws yes))
-      ∙ form-written ws (sessionOf ws) after.desc.form n l
-      ∙ ap (λ (d : Description). words_of ws (describing d (sessionOf ws))) t
+      ∙ form-written ws (session_of ws) after.desc.form n l
+      ∙ ap (λ (d : Description). words_of ws (describing d (session_of ws))) t
 
-  turned-most : ((i : ℕ) → Fits w32 (get_or ws i 0)) → after.desc.form ≤ mostWord
-  unfolding turnFile describing sessionOf parametersIn
+  turned-most : ((i : ℕ) → Fits w32 (get_or ws i 0)) → after.desc.form ≤ most_word
+  unfolding turn_file describing session_of parameters_in
   turned-most word =
       let k = word 73 in
       let e = form-read ws (get_or ws 73 0) refl (omega arith) in
-      (turning-turns (parametersIn ws) f (sessionOf ws).opened m).form-most (omega arith)
+      (turning-turns (parameters_in ws) f (session_of ws).opened m).form-most (omega arith)
 
 -- ---- the returns of the code: x is its test of the words
 
 -- what is told with these words for the session
-abbrev formTold : CountedTurn → List ℕ → ReturnedTurn
-formTold o us = returnedTurn (packed o.outcome.transfers o.outcome.number) us o.outcome.after.file o.marks
+abbrev form_told : CountedTurn → List ℕ → ReturnedTurn
+form_told o us = returned_turn (packed o.outcome.transfers o.outcome.number) us o.outcome.after.file o.marks
 
 module _ (ws f m : List ℕ) where
-  turn_by : (c : Bool) → isSession ws && eqb (length ws) 74 ≡ c
-      → cond c (toldTurn ws (countedTurn (turnFile (lent (sessionOf ws) f [] []) m))) (returnedTurn (packed 0 wrongSize) ws f m) ≡ calledTurn ws f m
-  unfolding calledTurn
+  turn_by : (c : Bool) → is_session ws && eqb (length ws) 74 ≡ c
+      → cond c (told_turn ws (counted_turn (turn_file (lent (session_of ws) f [] []) m))) (returned_turn (packed 0 wrong_size) ws f m) ≡ called_turn ws f m
+  unfolding called_turn
   turn_by c e = rw e
 
-  module _ (x : Bool) (asked : x ≡ isSession ws) where
-    pub turn-none : (r : ℕ) → r ≡ packed 0 wrongSize → not x ≡ true → returnedTurn r ws f m ≡ calledTurn ws f m
-    turn-none r e h = (λ j. returnedTurn (e j) ws f m) ∙ turn_by false (ap (λ (c : Bool). c && eqb (length ws) 74) (sym asked ∙ not-true x h))
+  module _ (x : Bool) (asked : x ≡ is_session ws) where
+    pub turn-none : (r : ℕ) → r ≡ packed 0 wrong_size → not x ≡ true → returned_turn r ws f m ≡ called_turn ws f m
+    turn-none r e h = (λ j. returned_turn (e j) ws f m) ∙ turn_by false (ap (λ (c : Bool). c && eqb (length ws) 74) (sym asked ∙ not-true x h))
 
-    pub turn-formless : (r : ℕ) → r ≡ packed 0 wrongSize → (length ws ≡ 74 → ⊥) → not x ≡ false → returnedTurn r ws f m ≡ calledTurn ws f m
+    pub turn-formless : (r : ℕ) → r ≡ packed 0 wrong_size → (length ws ≡ 74 → ⊥) → not x ≡ false → returned_turn r ws f m ≡ called_turn ws f m
     turn-formless r e l h =
         let y = sym asked ∙ not-false x h in
         let z = ne_eqb (length ws) 74 l in
-        (λ j. returnedTurn (e j) ws f m) ∙ turn_by false (λ j. y j && z j)
+        (λ j. returned_turn (e j) ws f m) ∙ turn_by false (λ j. y j && z j)
 
-    module _ (s : code.Session) (a : Answer) (g n : List ℕ) (e : answeredTurn a g n ≡ countedTurn (turnFile (given s f [] []) m)) where
-      pub turn-called : (us : List ℕ) (r : ℕ) → held s ≡ sessionOf ws → us ≡ set ws 73 a.session.desc.form
-          → r ≡ packed a.transfers a.number → length ws ≡ 74 → not x ≡ false → returnedTurn r us g n ≡ calledTurn ws f m
+    module _ (s : code.Session) (a : Answer) (g n : List ℕ) (e : answered_turn a g n ≡ counted_turn (turn_file (given s f [] []) m)) where
+      pub turn-called : (us : List ℕ) (r : ℕ) → held s ≡ session_of ws → us ≡ set ws 73 a.session.desc.form
+          → r ≡ packed a.transfers a.number → length ws ≡ 74 → not x ≡ false → returned_turn r us g n ≡ called_turn ws f m
       turn-called us r same u p l h =
           let y = sym asked ∙ not-false x h in
           let z = eq-eqb (length ws) 74 l in
-          let c = e ∙ ap (λ (o : Session). countedTurn (turnFile (lent o f [] []) m)) same in
-          (λ j. returnedTurn (p j) (u j) g n)
-          ∙ ap (λ (b : CountedTurn). formTold b (set ws 73 b.outcome.after.session.desc.form)) c
-          ∙ ap (formTold (countedTurn (turnFile (lent (sessionOf ws) f [] []) m))) (turned-words ws f m y l)
+          let c = e ∙ ap (λ (o : Session). counted_turn (turn_file (lent o f [] []) m)) same in
+          (λ j. returned_turn (p j) (u j) g n)
+          ∙ ap (λ (b : CountedTurn). form_told b (set ws 73 b.outcome.after.session.desc.form)) c
+          ∙ ap (form_told (counted_turn (turn_file (lent (session_of ws) f [] []) m))) (turned-words ws f m y l)
           ∙ turn_by true (λ j. y j && z j)
 
-      pub turn-most : held s ≡ sessionOf ws → length ws ≡ 74 → not x ≡ false → ((i : ℕ) → Fits w32 (get_or ws i 0))
-          → a.session.desc.form ≤ mostWord
+      pub turn-most : held s ≡ session_of ws → length ws ≡ 74 → not x ≡ false → ((i : ℕ) → Fits w32 (get_or ws i 0))
+          → a.session.desc.form ≤ most_word
       turn-most same l h word =
           let y = sym asked ∙ not-false x h in
-          let c = e ∙ ap (λ (o : Session). countedTurn (turnFile (lent o f [] []) m)) same in
+          let c = e ∙ ap (λ (o : Session). counted_turn (turn_file (lent o f [] []) m)) same in
           let k : a.session.desc.form ≡ (after ws f m y l).desc.form = ap (λ (b : CountedTurn). b.outcome.after.session.desc.form) c in
           rw k (turned-most ws f m y l word)
 
 -- no transfers
-pub turn-free : (s : code.Session) (a : Answer) (f m g n : List ℕ) → answeredTurn a g n ≡ countedTurn (turnFile (given s f [] []) m) → a.transfers ≤ 16
-unfolding turnFile
+pub turn-free : (s : code.Session) (a : Answer) (f m g n : List ℕ) → answered_turn a g n ≡ counted_turn (turn_file (given s f [] []) m) → a.transfers ≤ 16
+unfolding turn_file
 turn-free s a f m g n e =
     let z : a.transfers ≡ 0 = ap (λ (o : CountedTurn). o.outcome.transfers) e in
     omega arith
 
 pub only-form : OnlyForm
-only-form ws f m i h = go (isSession ws && eqb (length ws) 74) refl
+only-form ws f m i h = go (is_session ws && eqb (length ws) 74) refl
   where
-    go : (t : Bool) → isSession ws && eqb (length ws) 74 ≡ t → get_or (calledTurn ws f m).session i 0 ≡ get_or ws i 0
+    go : (t : Bool) → is_session ws && eqb (length ws) 74 ≡ t → get_or (called_turn ws f m).session i 0 ≡ get_or ws i 0
     go false e = ap (λ (r : ReturnedTurn). get_or r.session i 0) (sym (turn_by ws f m false e))
     go true e =
-        let b = both (isSession ws) (eqb (length ws) 74) e in
+        let b = both (is_session ws) (eqb (length ws) 74) e in
         let n = eqb-true (length ws) 74 b.1 in
         ap (λ (r : ReturnedTurn). get_or r.session i 0) (sym (turn_by ws f m true e))
         ∙ ap (λ (z : List ℕ). get_or z i 0) (sym (turned-words ws f m b.0 n))
@@ -154,5 +154,5 @@ only-form ws f m i h = go (isSession ws && eqb (length ws) 74) refl
 
 pub one-returned-turn : OneReturnedTurn
 one-returned-turn ws file marks r s us vs f g m n a b =
-    let e : returnedTurn r us f m ≡ returnedTurn s vs g n = a ∙ sym b in
+    let e : returned_turn r us f m ≡ returned_turn s vs g n = a ∙ sym b in
     (λ i. (e i).answer, λ i. (e i).session, λ i. (e i).file, λ i. (e i).marks)

@@ -16,7 +16,7 @@ use Rattle.drum.specs.declared.Description.{Description}
 use Rattle.rules.specs.State.{Session}
 use Rattle.searchfile.specs.declared.Session as code
 use Rattle.searchfile.specs.Promise.{held}
-use Rattle.capi.specs.Words.{isSession, parametersIn, sessionOf, formWord, words_of, bit}
+use Rattle.capi.specs.Words.{is_session, parameters_in, session_of, form_word, words_of, bit}
 use Rattle.capi.specs.Calls.{Writable}
 
 -- what the test of a session's words tells
@@ -28,14 +28,14 @@ pub record Words (ws : List ℕ) : Type 0 where
   pub placed-most : get_or ws 9 0 ≤ 1
 
 -- a word in reach is read the same, whatever would be read beyond
-getD-within : (l : List ℕ) (i d e : ℕ) → i < length l → get_or l i d ≡ get_or l i e
-getD-within [] i d e h = absurd (omega arith)
-getD-within (x ∷ l) zero d e h = refl
-getD-within (x ∷ l) (suc i) d e h = getD-within l i d e (omega arith)
+get_or-within : (l : List ℕ) (i d e : ℕ) → i < length l → get_or l i d ≡ get_or l i e
+get_or-within [] i d e h = absurd (omega arith)
+get_or-within (x ∷ l) zero d e h = refl
+get_or-within (x ∷ l) (suc i) d e h = get_or-within l i d e (omega arith)
 
 module _ (ws : List ℕ) where
-  pub session-facts : isSession ws ≡ true → Words ws
-  unfolding isSession
+  pub session-facts : is_session ws ≡ true → Words ws
+  unfolding is_session
   session-facts h =
       let a = both (leb 73 (length ws)) _ h in
       let m = both (leb (length ws) 74) _ a.1 in
@@ -49,8 +49,8 @@ module _ (ws : List ℕ) where
         placed-most = leb-true _ _ c.1;
       }
 
-  pub session-yes : Words ws → isSession ws ≡ true
-  unfolding isSession
+  pub session-yes : Words ws → is_session ws ≡ true
+  unfolding is_session
   session-yes h =
       simp (
         le-leb _ _ h.whole,
@@ -61,24 +61,24 @@ module _ (ws : List ℕ) where
       )
 
   -- the tests one by one, as the code makes them
-  pub session-short : length ws < 73 → false ≡ isSession ws
-  unfolding isSession
+  pub session-short : length ws < 73 → false ≡ is_session ws
+  unfolding is_session
   session-short h = simp (lt-leb _ _ h)
 
-  pub session-long : 73 ≤ length ws → 74 < length ws → false ≡ isSession ws
-  unfolding isSession
+  pub session-long : 73 ≤ length ws → 74 < length ws → false ≡ is_session ws
+  unfolding is_session
   session-long h k = simp (le-leb _ _ h, lt-leb _ _ k)
 
-  pub session-opened : 73 ≤ length ws → length ws ≤ 74 → 1 < get_or ws 6 0 → false ≡ isSession ws
-  unfolding isSession
+  pub session-opened : 73 ≤ length ws → length ws ≤ 74 → 1 < get_or ws 6 0 → false ≡ is_session ws
+  unfolding is_session
   session-opened h k a = simp (le-leb _ _ h, le-leb _ _ k, lt-leb _ _ a)
 
-  pub session-flag : 73 ≤ length ws → length ws ≤ 74 → get_or ws 6 0 ≤ 1 → 1 < get_or ws 8 0 → false ≡ isSession ws
-  unfolding isSession
+  pub session-flag : 73 ≤ length ws → length ws ≤ 74 → get_or ws 6 0 ≤ 1 → 1 < get_or ws 8 0 → false ≡ is_session ws
+  unfolding is_session
   session-flag h k a b = simp (le-leb _ _ h, le-leb _ _ k, le-leb _ _ a, lt-leb _ _ b)
 
-  pub session-placed : 73 ≤ length ws → length ws ≤ 74 → get_or ws 6 0 ≤ 1 → get_or ws 8 0 ≤ 1 → leb (get_or ws 9 0) 1 ≡ isSession ws
-  unfolding isSession
+  pub session-placed : 73 ≤ length ws → length ws ≤ 74 → get_or ws 6 0 ≤ 1 → get_or ws 8 0 ≤ 1 → leb (get_or ws 9 0) 1 ≡ is_session ws
+  unfolding is_session
   session-placed h k a b = simp (le-leb _ _ h, le-leb _ _ k, le-leb _ _ a, le-leb _ _ b)
 
   -- the form as the code reads it: without a place for it the first, else word 73
@@ -86,7 +86,7 @@ module _ (ws : List ℕ) where
   form-none h = sym (get_or-eq_default ws 1 {n = 73} h)
 
   pub form-read : (x : ℕ) → x ≡ get_or ws 73 0 → 73 < length ws → x ≡ get_or ws 73 1
-  form-read x e h = e ∙ getD-within ws 73 0 1 h
+  form-read x e h = e ∙ get_or-within ws 73 0 1 h
 
   -- the first ten words one by one
   spelled : 73 ≤ length ws
@@ -109,10 +109,10 @@ module _ (ws : List ℕ) where
   gone : (n : ℕ) → length ws ≡ n → drop n ws ≡ []
   gone n e = ap (λ (k : ℕ). drop k ws) (sym e) ∙ drop-length ws
 
-  form-kept : 73 ≤ length ws → length ws ≤ 74 → formWord ws (get_or ws 73 1) ≡ drop 73 ws
+  form-kept : 73 ≤ length ws → length ws ≤ 74 → form_word ws (get_or ws 73 1) ≡ drop 73 ws
   form-kept h k = go (dec_lt (length ws) 74)
     where
-      go : Dec (length ws < 74) → formWord ws (get_or ws 73 1) ≡ drop 73 ws
+      go : Dec (length ws < 74) → form_word ws (get_or ws 73 1) ≡ drop 73 ws
       go (yes q) =
           ap (λ (t : Bool). cond t (get_or ws 73 1 ∷ []) []) (ne_eqb (length ws) 74 (λ e. omega arith)) ∙ sym (gone 73 (omega arith))
       go (no q) =
@@ -120,24 +120,24 @@ module _ (ws : List ℕ) where
           let e : drop 73 ws ≡ get_or ws 73 1 ∷ [] = drop-cons ws 73 1 (omega arith) ∙ ap (λ (z : List ℕ). get_or ws 73 1 ∷ z) (gone 74 n) in
           ap (λ (t : Bool). cond t (get_or ws 73 1 ∷ []) []) (eq-eqb (length ws) 74 n) ∙ sym e
 
-  rest-kept : 73 ≤ length ws → length ws ≤ 74 → part 10 63 ws ++ formWord ws (get_or ws 73 1) ≡ drop 10 ws
+  rest-kept : 73 ≤ length ws → length ws ≤ 74 → part 10 63 ws ++ form_word ws (get_or ws 73 1) ≡ drop 10 ws
   unfolding part
   rest-kept h k =
       ap (λ (z : List ℕ). part 10 63 ws ++ z) (form-kept h k ∙ sym (drop-drop 63 10 ws)) ∙ take-append-drop 63 (drop 10 ws)
 
   -- the parameters read one by one, each step handing the description on
   pub parameters-by : (p : Description) (a b c d e f g : ℕ) → p ≡ record { wpb = a; wpr = b; k = c; space = d; control = e; n = f; form = g }
-      → g ≡ get_or ws 73 1 → a ≡ get_or ws 0 0 → b ≡ get_or ws 1 0 → c ≡ get_or ws 2 0 → d ≡ get_or ws 3 0 → e ≡ get_or ws 4 0 → f ≡ get_or ws 5 0 → p ≡ parametersIn ws
-  unfolding parametersIn
+      → g ≡ get_or ws 73 1 → a ≡ get_or ws 0 0 → b ≡ get_or ws 1 0 → c ≡ get_or ws 2 0 → d ≡ get_or ws 3 0 → e ≡ get_or ws 4 0 → f ≡ get_or ws 5 0 → p ≡ parameters_in ws
+  unfolding parameters_in
   parameters-by p a b c d e f g h i u v w x y z = h ∙ (λ j. record { wpb = u j; wpr = v j; k = w j; space = x j; control = y j; n = z j; form = i j })
 
   -- the session read so, its position copied over the words l
-  pub session-by : (d : Description) (x : ℕ) (l ps : List ℕ) → ps ≡ put l 0 (part 10 63 ws) → d ≡ parametersIn ws → x ≡ get_or ws 7 0
+  pub session-by : (d : Description) (x : ℕ) (l ps : List ℕ) → ps ≡ put l 0 (part 10 63 ws) → d ≡ parameters_in ws → x ≡ get_or ws 7 0
       → 73 ≤ length ws → length l ≡ 63
       → ◌≡◌ {A = Session}
       (record { desc = d; opened = eqb (get_or ws 6 0) 1; current = x; flag = eqb (get_or ws 8 0) 1; placed = eqb (get_or ws 9 0) 1; position = ps })
-      (sessionOf ws)
-  unfolding sessionOf
+      (session_of ws)
+  unfolding session_of
   session-by d x l ps e p c h k =
       let q = e ∙ put_all l (part 10 63 ws) (length_part 10 63 ws (omega arith) ∙ sym k) in
       λ j. record {
@@ -160,8 +160,8 @@ bit-back true = refl
 bit-back false = refl
 
 -- a session's words are the words of the session that they are
-pub words-kept : (ws : List ℕ) → isSession ws ≡ true → words_of ws (sessionOf ws) ≡ ws
-unfolding words_of sessionOf parametersIn
+pub words-kept : (ws : List ℕ) → is_session ws ≡ true → words_of ws (session_of ws) ≡ ws
+unfolding words_of session_of parameters_in
 words-kept ws h =
     let f = session-facts ws h in
     let a = bit_is (get_or ws 6 0) f.opened-most in
@@ -172,7 +172,7 @@ words-kept ws h =
     ∙ sym (spelled ws f.whole)
 
 -- the form written is read back; without a place for it, it was the first
-form-back : (ws pos : List ℕ) (x : ℕ) → length pos ≡ 63 → (eqb (length ws) 74 ≡ false → x ≡ 1) → get_or (pos ++ formWord ws x) 63 1 ≡ x
+form-back : (ws pos : List ℕ) (x : ℕ) → length pos ≡ 63 → (eqb (length ws) 74 ≡ false → x ≡ 1) → get_or (pos ++ form_word ws x) 63 1 ≡ x
 form-back ws pos x l h = go (eqb (length ws) 74) refl
   where
     go : (t : Bool) → eqb (length ws) 74 ≡ t → get_or (pos ++ cond t (x ∷ []) []) 63 1 ≡ x
@@ -182,13 +182,13 @@ form-back ws pos x l h = go (eqb (length ws) 74) refl
 
 -- a session is the one that its words are
 pub session-kept : (ws : List ℕ) (s : Session) → length s.position ≡ 63 → (eqb (length ws) 74 ≡ false → s.desc.form ≡ 1)
-    → sessionOf (words_of ws s) ≡ s
-unfolding words_of sessionOf parametersIn part
+    → session_of (words_of ws s) ≡ s
+unfolding words_of session_of parameters_in part
 session-kept ws s h first =
     let a = bit-back s.opened in
     let b = bit-back s.flag in
     let c = bit-back s.placed in
-    let d = take_at s.position (formWord ws s.desc.form) 63 h in
+    let d = take_at s.position (form_word ws s.desc.form) 63 h in
     let e = form-back ws s.position s.desc.form h first in
     λ j. record {
       desc = record {
@@ -211,16 +211,16 @@ bit-most : (x : Bool) → bit x ≤ 1
 bit-most true = omega arith
 bit-most false = omega arith
 
-one_more : (t : Bool) (pos : List ℕ) (x : ℕ) → length pos ≡ 63
+one_more_lem : (t : Bool) (pos : List ℕ) (x : ℕ) → length pos ≡ 63
     → (63 ≤ length (pos ++ cond t (x ∷ []) [])) × (length (pos ++ cond t (x ∷ []) []) ≤ 64)
-one_more true pos x h = let e = length-append pos (x ∷ []) in (omega arith, omega arith)
-one_more false pos x h = let e = length-append {A = ℕ} pos [] in (omega arith, omega arith)
+one_more_lem true pos x h = let e = length-append pos (x ∷ []) in (omega arith, omega arith)
+one_more_lem false pos x h = let e = length-append {A = ℕ} pos [] in (omega arith, omega arith)
 
 -- and its words are a session's
-pub words_are : (ws : List ℕ) (s : Session) → length s.position ≡ 63 → isSession (words_of ws s) ≡ true
+pub words_are : (ws : List ℕ) (s : Session) → length s.position ≡ 63 → is_session (words_of ws s) ≡ true
 unfolding words_of
 words_are ws s h =
-    let l = one_more (eqb (length ws) 74) s.position s.desc.form h in
+    let l = one_more_lem (eqb (length ws) 74) s.position s.desc.form h in
     session-yes (words_of ws s)
     (record {
       whole = omega (arith, l.0);
@@ -244,7 +244,7 @@ pub overwritten : (ws : List ℕ) (s : code.Session) (ts : List ℕ) (o l m : �
     → ts ≡ put ws 10 (part 0 63 s.position) → o ≡ bit s.opened → l ≡ bit s.flag → m ≡ bit s.placed
     → Writable ws s → length s.position ≡ 63
     → set (set (set (set ts 6 o) 7 s.current) 8 l) 9 m ≡ words_of ws (held s)
-unfolding words_of parametersIn
+unfolding words_of parameters_in
 overwritten ws s ts o l m e u v w pre k =
     let p = pre.same-parameters in
     let x =
@@ -257,4 +257,4 @@ overwritten ws s ts o l m e u v w pre k =
     ∙ (λ j. get_or ws 0 0 ∷ get_or ws 1 0 ∷ get_or ws 2 0 ∷ get_or ws 3 0 ∷ get_or ws 4 0 ∷ get_or ws 5 0
     ∷ bit s.opened ∷ s.current ∷ bit s.flag ∷ bit s.placed ∷ (s.position ++ y j))
     ∙ (λ j. (p j).wpb ∷ (p j).wpr ∷ (p j).k ∷ (p j).space ∷ (p j).control ∷ (p j).n
-    ∷ bit s.opened ∷ s.current ∷ bit s.flag ∷ bit s.placed ∷ (s.position ++ formWord ws (p j).form))
+    ∷ bit s.opened ∷ s.current ∷ bit s.flag ∷ bit s.placed ∷ (s.position ++ form_word ws (p j).form))

@@ -2,9 +2,9 @@
 -- and every word lent. Nothing is proved here.
 use Rattle.std.specs.Prelude.{ℕ, ◌≡◌, List, []}
 use Rattle.rules.specs.State.{State, Outcome}
-use Rattle.capi.specs.Calls.{returned, called, marked, calledOpen}
+use Rattle.capi.specs.Calls.{returned, called, marked, called_open}
 use Rattle.capi.specs.View.{viewed}
-use Rattle.capi.specs.Plan.{mostIn}
+use Rattle.capi.specs.Plan.{most_in}
 
 -- the same number, and the same session, file, buffer and workspace
 abbrev pub Same : ℕ → List ℕ → List ℕ → List ℕ → List ℕ → ℕ → List ℕ → List ℕ → List ℕ → List ℕ → Type 0
@@ -20,7 +20,7 @@ OneReturned =
 abbrev pub OneReturnedOpen : Type 0
 OneReturnedOpen =
     (ws file buffer marks : List ℕ) (r s : ℕ) (us vs f g b d m n : List ℕ)
-    → marked (returned r us f b []) m ≡ calledOpen ws file buffer marks → marked (returned s vs g d []) n ≡ calledOpen ws file buffer marks
+    → marked (returned r us f b []) m ≡ called_open ws file buffer marks → marked (returned s vs g d []) n ≡ called_open ws file buffer marks
     → Same r us f b m s vs g d n
 
 -- `nasturakh_view`, `nasturakh_most_transfers`
@@ -29,4 +29,4 @@ OneViewed = (ws file buffer : List ℕ) (block r s : ℕ) → r ≡ viewed ws fi
 
 -- the bound of a plan
 abbrev pub OneMost : Type 0
-OneMost = (ws plan : List ℕ) (r s : ℕ) → r ≡ mostIn ws plan → s ≡ mostIn ws plan → r ≡ s
+OneMost = (ws plan : List ℕ) (r s : ℕ) → r ≡ most_in ws plan → s ≡ most_in ws plan → r ≡ s

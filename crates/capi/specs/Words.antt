@@ -6,13 +6,13 @@ use Rattle.drum.specs.declared.Description.{Description}
 use Rattle.rules.specs.State.{Session}
 
 -- "exactly 73 words", or one more for FORM, and none of "a word 6, 8 or 9 above 1" [K1]
-unfoldable pub isSession : List ℕ → Bool
-isSession ws =
+unfoldable pub is_session : List ℕ → Bool
+is_session ws =
     leb 73 (length ws) && (leb (length ws) 74 && (leb (get_or ws 6 0) 1 && (leb (get_or ws 8 0) 1 && leb (get_or ws 9 0) 1)))
 
 -- "0 WPB, 1 WPR, 2 K, 3 SPACE, 4 CONTROL, 5 N", and 73 FORM; 73 words mean the first block form [K1]
-unfoldable pub parametersIn : List ℕ → Description
-parametersIn ws = record {
+unfoldable pub parameters_in : List ℕ → Description
+parameters_in ws = record {
   wpb = get_or ws 0 0;
   wpr = get_or ws 1 0;
   k = get_or ws 2 0;
@@ -23,9 +23,9 @@ parametersIn ws = record {
 }
 
 -- the session that the words are
-unfoldable pub sessionOf : List ℕ → Session
-sessionOf ws = record {
-  desc = parametersIn ws;
+unfoldable pub session_of : List ℕ → Session
+session_of ws = record {
+  desc = parameters_in ws;
   opened = eqb (get_or ws 6 0) 1;
   current = get_or ws 7 0;
   flag = eqb (get_or ws 8 0) 1;
@@ -38,18 +38,18 @@ abbrev pub bit : Bool → ℕ
 bit x = cond x 1 0
 
 -- word 73, where words like ws have one: FORM [K1]
-abbrev pub formWord : List ℕ → ℕ → List ℕ
-formWord ws form = cond (eqb (length ws) 74) (form ∷ []) []
+abbrev pub form_word : List ℕ → ℕ → List ℕ
+form_word ws form = cond (eqb (length ws) 74) (form ∷ []) []
 
 -- the words of a session, as many as were lent: its 73 words, and the form behind them
 unfoldable pub words_of : List ℕ → Session → List ℕ
 words_of ws s =
     s.desc.wpb ∷ s.desc.wpr ∷ s.desc.k ∷ s.desc.space ∷ s.desc.control ∷ s.desc.n
-    ∷ bit s.opened ∷ s.current ∷ bit s.flag ∷ bit s.placed ∷ (s.position ++ formWord ws s.desc.form)
+    ∷ bit s.opened ∷ s.current ∷ bit s.flag ∷ bit s.placed ∷ (s.position ++ form_word ws s.desc.form)
 
 -- the most that a 32-bit word can be
-abbrev pub mostWord : ℕ
-mostWord = 4294967295
+abbrev pub most_word : ℕ
+most_word = 4294967295
 
 -- "Each function returns a 64-bit number: transfers times 2^32, plus the number."
 unfoldable pub packed : ℕ → ℕ → ℕ

@@ -1,6 +1,6 @@
 // The copying call for programs in other languages.
 ghost use Rattle.std.specs.Prelude.{◌≡◌};
-ghost use Rattle.capi.specs.Copying.{returnedCopy, calledCopy};
+ghost use Rattle.capi.specs.Copying.{returned_copy, called_copy};
 ghost use Rattle.words.specs.Slices.{was, became};
 
 use super::session::{is_session, packed, session_of};
@@ -15,8 +15,8 @@ pub extern "C" fn nasturakh_copy(
     control: usize,
     marks: &mut [u8],
 ) -> u64
-    ensures { returnedCopy result (was session) (was file) (became second) (became marks)
-        ≡ calledCopy (was session) (was file) (was second) control (was marks) }
+    ensures { returned_copy result (was session) (was file) (became second) (became marks)
+        ≡ called_copy (was session) (was file) (was second) control (was marks) }
 {
     if !is_session(session) {
         return packed(0, WRONG_SIZE);

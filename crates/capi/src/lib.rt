@@ -19,9 +19,9 @@ ghost use Rattle.rules.specs.Dlete.{dlete};
 ghost use Rattle.rules.specs.XtendDone.{xtend};
 ghost use Rattle.rules.specs.Seek.{seek, updat};
 ghost use Rattle.searchfile.specs.Promise.{creating};
-ghost use Rattle.capi.specs.Calls.{returned, called, marked, calledOpen};
+ghost use Rattle.capi.specs.Calls.{returned, called, marked, called_open};
 ghost use Rattle.capi.specs.View.{viewed};
-ghost use Rattle.capi.specs.Plan.{mostIn};
+ghost use Rattle.capi.specs.Plan.{most_in};
 ghost use Rattle.words.specs.Slices.{was, became};
 
 use numbers::WRONG_SIZE;
@@ -50,7 +50,7 @@ pub extern "C" fn nasturakh_open(
     marks: &mut [u8],
 ) -> u64
     ensures { marked (returned result (became session) (was file) (was buffer) []) (became marks)
-        ≡ calledOpen (was session) (was file) (was buffer) (was marks) }
+        ≡ called_open (was session) (was file) (was buffer) (was marks) }
 {
     if !is_session(session) {
         return packed(0, WRONG_SIZE);
@@ -195,7 +195,7 @@ pub extern "C" fn nasturakh_view(session: &[u32], file: &[u32], buffer: &[u32], 
 // The most transfers that a planned session can cost; 2^64 - 1 where there is no session or no plan.
 #[unsafe(no_mangle)]
 pub extern "C" fn nasturakh_most_transfers(session: &[u32], plan: &[u32]) -> u64
-    ensures { result ≡ mostIn (was session) (was plan) }
+    ensures { result ≡ most_in (was session) (was plan) }
 {
     if !is_session(session) {
         return NO_PLAN;

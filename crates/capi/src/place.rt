@@ -1,8 +1,8 @@
 // Where the current text of a block lies, as one 64-bit number: 0 nowhere, 2^32 plus a word offset in the file, 2^33 in the buffer.
 ghost use Rattle.std.specs.Prelude.{◌≡◌, true, [], ◌+◌, ◌≤◌};
-ghost use Rattle.drum.specs.Params.{goodParams, start};
+ghost use Rattle.drum.specs.Params.{good_params, start};
 ghost use Rattle.searchfile.specs.Promise.{given};
-ghost use Rattle.capi.specs.View.{inFile, place_of};
+ghost use Rattle.capi.specs.View.{in_file, place_of};
 ghost use Rattle.words.specs.Slices.{was};
 
 use drum::Description;
@@ -14,8 +14,8 @@ const IN_BUFFER: u64 = 8589934592;
 
 // The number for a block that lies in the file.
 fn in_file(p: Description, b: usize) -> u64
-    requires { (goodParams p ≡ true) × (1 ≤ b) × (b ≤ p.n) }
-    ensures { result ≡ inFile + start p b }
+    requires { (good_params p ≡ true) × (1 ≤ b) × (b ≤ p.n) }
+    ensures { result ≡ in_file + start p b }
 {
     IN_FILE + (p.start(b) as u64)
 }

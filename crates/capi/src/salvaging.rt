@@ -1,7 +1,7 @@
 // Salvage, for programs in other languages. The sum of the transfers may need more than 32 bits, so the number is returned alone and the two figures go to
 // words that are lent for them.
 ghost use Rattle.std.specs.Prelude.{◌≡◌};
-ghost use Rattle.capi.specs.Salvage.{returnedSalvage, calledSalvage};
+ghost use Rattle.capi.specs.Salvage.{returned_salvage, called_salvage};
 ghost use Rattle.words.specs.Slices.{was, became};
 
 use super::session::{is_session, parameters_in, wide};
@@ -20,8 +20,8 @@ pub extern "C" fn nasturakh_salvage(
     report: &mut [u32],
     told: &mut [u64],
 ) -> u64
-    ensures { returnedSalvage result (became fresh) (became buffer) (became report) (became told)
-        ≡ calledSalvage (was session) (was copy) (was fresh) (was buffer) (was report) (was told) }
+    ensures { returned_salvage result (became fresh) (became buffer) (became report) (became told)
+        ≡ called_salvage (was session) (was copy) (was fresh) (was buffer) (was report) (was told) }
 {
     if !is_session(session) {
         return wide(WRONG_SIZE);

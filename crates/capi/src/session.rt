@@ -1,7 +1,7 @@
 // A session as 73 words, or 74 with its block form, and an answer as one 64-bit number.
 ghost use Rattle.std.specs.Prelude.{◌≡◌, ◌≤◌, length, get_or, set};
 ghost use Rattle.searchfile.specs.Promise.{held};
-ghost use Rattle.capi.specs.Words.{isSession, parametersIn, sessionOf, words_of, mostWord, bit as bit_of, packed as packedNumber};
+ghost use Rattle.capi.specs.Words.{is_session, parameters_in, session_of, words_of, most_word, bit as bit_of, packed as packed_number};
 ghost use Rattle.capi.specs.Calls.{Writable, Tellable};
 ghost use Rattle.words.specs.Slices.{was, became};
 
@@ -17,7 +17,7 @@ const FORM_PLACE: usize = 73;
 
 // Whether the words are a session's.
 pub fn is_session(words: &[u32]) -> bool
-    ensures { result ≡ isSession (was words) }
+    ensures { result ≡ is_session (was words) }
 {
     if words.len() < SESSION_WORDS {
         return false;
@@ -47,7 +47,7 @@ fn form_in(words: &[u32]) -> usize
 // The parameters that stand in a session's words.
 pub fn parameters_in(words: &[u32]) -> Description
     requires { 73 ≤ length words.now }
-    ensures { result ≡ parametersIn (was words) }
+    ensures { result ≡ parameters_in (was words) }
 {
     let wpb = words::word_at(words, 0);
     let wpr = words::word_at(words, 1);
@@ -69,7 +69,7 @@ pub fn parameters_in(words: &[u32]) -> Description
 // The session that the words are.
 pub fn session_of(words: &[u32]) -> Session
     requires { 73 ≤ length words.now }
-    ensures { held result ≡ sessionOf (was words) }
+    ensures { held result ≡ session_of (was words) }
 {
     let mut position = [0; 63];
     words::copy_words(&mut position, 0, words, 10, 63);
@@ -105,7 +105,7 @@ pub fn put_session(words: &mut [u32], s: Session)
 
 // Writes another block form.
 pub fn put_form(words: &mut [u32], form: usize)
-    requires { (length words.old ≡ 74) × (form ≤ mostWord) }
+    requires { (length words.old ≡ 74) × (form ≤ most_word) }
     ensures { became words ≡ set (was words) 73 form }
 {
     words[FORM_PLACE] = form as u32;
@@ -120,7 +120,7 @@ pub fn wide(x: u32) -> u64
 // "transfers times 2^32, plus the number".
 pub fn packed(transfers: usize, number: u32) -> u64
     requires { transfers ≤ 16 }
-    ensures { result ≡ packedNumber transfers number }
+    ensures { result ≡ packed_number transfers number }
 {
     (transfers as u64) * 4294967296 + wide(number)
 }
@@ -128,7 +128,7 @@ pub fn packed(transfers: usize, number: u32) -> u64
 // Tells what a session call answered: its session over the words, its number and transfers as the result.
 pub fn told(words: &mut [u32], a: Answer) -> u64
     requires { Tellable words.old a }
-    ensures { (result ≡ packedNumber a.transfers a.number) × (became words ≡ words_of (was words) (held a.session)) }
+    ensures { (result ≡ packed_number a.transfers a.number) × (became words ≡ words_of (was words) (held a.session)) }
 {
     put_session(words, a.session);
     packed(a.transfers, a.number)

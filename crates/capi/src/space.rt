@@ -1,7 +1,7 @@
 // The space of so many names for programs in other languages: what a planner asks before a file is made.
 ghost use Rattle.std.specs.Prelude.{◌≡◌};
-ghost use Rattle.demands.specs.Space.{mostSections, mostBlocks};
-ghost use Rattle.capi.specs.Space.{spaceIn};
+ghost use Rattle.demands.specs.Space.{most_sections, most_blocks};
+ghost use Rattle.capi.specs.Space.{space_in};
 ghost use Rattle.words.specs.Slices.{was};
 
 use super::plan::NO_PLAN;
@@ -10,7 +10,7 @@ use super::session::{is_session, parameters_in};
 // The most blocks that so many names take, put in by NSERT in any order; 2^64 - 1 where there is no session.
 #[unsafe(no_mangle)]
 pub extern "C" fn nasturakh_most_blocks(session: &[u32], names: u32) -> u64
-    ensures { result ≡ spaceIn mostBlocks (was session) names }
+    ensures { result ≡ space_in most_blocks (was session) names }
 {
     if !is_session(session) {
         return NO_PLAN;
@@ -25,7 +25,7 @@ pub extern "C" fn nasturakh_most_blocks(session: &[u32], names: u32) -> u64
 // The most sections that they take; 2^64 - 1 where there is no session.
 #[unsafe(no_mangle)]
 pub extern "C" fn nasturakh_most_sections(session: &[u32], names: u32) -> u64
-    ensures { result ≡ spaceIn mostSections (was session) names }
+    ensures { result ≡ space_in most_sections (was session) names }
 {
     if !is_session(session) {
         return NO_PLAN;

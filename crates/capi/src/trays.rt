@@ -1,7 +1,7 @@
 // A tray of records put in by one call, for programs in other languages. The sum of the transfers may need more than 32 bits, so the number is
 // returned alone and the two figures go to words that are lent for them.
 ghost use Rattle.std.specs.Prelude.{◌≡◌};
-ghost use Rattle.capi.specs.Tray.{returnedTray, calledTray};
+ghost use Rattle.capi.specs.Tray.{returned_tray, called_tray};
 ghost use Rattle.words.specs.Slices.{was, became};
 
 use super::session::{is_session, put_session, session_of, wide};
@@ -18,8 +18,8 @@ pub extern "C" fn nasturakh_nsert_tray(
     tray: &[u32],
     told: &mut [u64],
 ) -> u64
-    ensures { returnedTray result (became session) (became file) (became buffer) (became told)
-        ≡ calledTray (was session) (was file) (was buffer) (was tray) (was told) }
+    ensures { returned_tray result (became session) (became file) (became buffer) (became told)
+        ≡ called_tray (was session) (was file) (was buffer) (was tray) (was told) }
 {
     if !is_session(session) {
         return wide(WRONG_SIZE);

@@ -12,20 +12,20 @@ use lib.Seq.{take_all}
 use Rattle.words.specs.Words.{part, put, zeros}
 use Rattle.words.proofs.Parts.{length_part, put-after, put_all}
 use Rattle.drum.specs.declared.Description.{Description}
-use Rattle.drum.specs.Params.{goodParams, masterSize, fileSize}
+use Rattle.drum.specs.Params.{good_params, master_size, file_size}
 use Rattle.drum.specs.Blocks.{sections}
 use Rattle.drum.proofs.Good.{caps}
 use Rattle.layout.specs.Inspected.{Fit}
-use Rattle.layout.specs.Copied.{underControl, entriesEnd, copied}
+use Rattle.layout.specs.Copied.{under_control, entries_end, copied}
 use Rattle.copy.specs.Fits.{CopyFits}
 use Rattle.copy.proofs.Sizes.{controlled, under-is}
 
 -- the master's words in use, where no more sections are than CONTROL allows
-module _ (p : Description) (good : goodParams p ≡ true) (f : List ℕ) where
-  pub end-within : (c : ℕ) → goodParams (underControl c p) ≡ true → sections f ≤ c → entriesEnd p f ≤ masterSize (underControl c p)
-  unfolding entriesEnd underControl
+module _ (p : Description) (good : good_params p ≡ true) (f : List ℕ) where
+  pub end-within : (c : ℕ) → good_params (under_control c p) ≡ true → sections f ≤ c → entries_end p f ≤ master_size (under_control c p)
+  unfolding entries_end under_control
   end-within c g h =
-      let k = caps (underControl c p) g in
+      let k = caps (under_control c p) g in
       let l = mul-le-mul_right (p.k + 1) h in
       omega arith
 
@@ -52,41 +52,41 @@ module _ (p : Description) (f : List ℕ) (n : ℕ) (e : n ≡ sections f) (w : 
   pub entries-add : Fits w64 (3 + n * (p.k + 1))
   entries-add = omega (arith, entries-most)
 
-  pub end_is : 3 + n * (p.k + 1) ≡ entriesEnd p f
-  unfolding entriesEnd
+  pub end_is : 3 + n * (p.k + 1) ≡ entries_end p f
+  unfolding entries_end
   end_is = rw e
 
 -- the new master's size, as the code finds it
-pub new_is : (c : ℕ) (p q : Description) (m : ℕ) → q ≡ controlled c p → m ≡ masterSize q → m ≡ masterSize (underControl c p)
-new_is c p q m d e = e ∙ ap masterSize (under-is c p q d)
+pub new_is : (c : ℕ) (p q : Description) (m : ℕ) → q ≡ controlled c p → m ≡ master_size q → m ≡ master_size (under_control c p)
+new_is c p q m d e = e ∙ ap master_size (under-is c p q d)
 
-pub new-good : (c : ℕ) (p q : Description) → q ≡ controlled c p → goodParams (underControl c p) ≡ true → goodParams q ≡ true
-new-good c p q d g = ap goodParams (under-is c p q d) ∙ g
+pub new-good : (c : ℕ) (p q : Description) → q ≡ controlled c p → good_params (under_control c p) ≡ true → good_params q ≡ true
+new-good c p q d g = ap good_params (under-is c p q d) ∙ g
 
 module _ (p : Description) (c : ℕ) (f s : List ℕ) (w : CopyFits p c f s) where
-  pub used-old : entriesEnd p f ≤ masterSize p
-  unfolding entriesEnd
+  pub used-old : entries_end p f ≤ master_size p
+  unfolding entries_end
   used-old =
       let k = caps p w.good in
       let l = mul-le-mul_right (p.k + 1) w.few in
       omega arith
 
-  pub used-new : entriesEnd p f ≤ masterSize (underControl c p)
+  pub used-new : entries_end p f ≤ master_size (under_control c p)
   used-new = end-within p w.good f c w.again w.room
 
-  pub file-behind : length f ≡ masterSize p + p.n * p.wpb
-  unfolding fileSize
+  pub file-behind : length f ≡ master_size p + p.n * p.wpb
+  unfolding file_size
   file-behind = w.file-is
 
-  pub second-behind : length s ≡ masterSize (underControl c p) + p.n * p.wpb
-  unfolding fileSize underControl
+  pub second-behind : length s ≡ master_size (under_control c p) + p.n * p.wpb
+  unfolding file_size under_control
   second-behind = w.second_is
 
   pub copy-fit : Fit p f
   copy-fit = record { good = w.good; size = w.file-is }
 
   -- the words that are written, u in use, the old master o and the new one m: each write lies in the second file, and what it copies in the first
-  module _ (u m : ℕ) (eu : u ≡ entriesEnd p f) (em : m ≡ masterSize (underControl c p)) where
+  module _ (u m : ℕ) (eu : u ≡ entries_end p f) (em : m ≡ master_size (under_control c p)) where
     pub master-within : u ≤ m
     master-within = let a = used-new in omega arith
 
@@ -99,14 +99,14 @@ module _ (p : Description) (c : ℕ) (f s : List ℕ) (w : CopyFits p c f s) whe
         let b = file-behind in
         omega arith
 
-  module _ (o : ℕ) (eo : o ≡ masterSize p) where
+  module _ (o : ℕ) (eo : o ≡ master_size p) where
     pub blocks_from : o ≤ length f
     blocks_from = let a = file-behind in omega arith
 
     pub blocks-whole : o + (length f - o) ≤ length f
     blocks-whole = let a = file-behind in omega arith
 
-    pub blocks-lie : (m : ℕ) (s₁ : List ℕ) → length s₁ ≡ length s → m ≡ masterSize (underControl c p) → m + (length f - o) ≤ length s₁
+    pub blocks-lie : (m : ℕ) (s₁ : List ℕ) → length s₁ ≡ length s → m ≡ master_size (under_control c p) → m + (length f - o) ≤ length s₁
     blocks-lie m s₁ k em =
         let a = file-behind in
         let b = second-behind in
@@ -127,7 +127,7 @@ filled s x z m lx lz =
 
 -- they fill the second file with the copy
 pub copy-laid : (p : Description) (c : ℕ) (f s s₁ s₂ : List ℕ) (u o m : ℕ) → CopyFits p c f s → s₂ ≡ put s₁ m (part o (length f - o) f)
-    → s₁ ≡ put s 0 (part 0 u f ++ zeros (m - u)) → u ≡ entriesEnd p f → o ≡ masterSize p → m ≡ masterSize (underControl c p)
+    → s₁ ≡ put s 0 (part 0 u f ++ zeros (m - u)) → u ≡ entries_end p f → o ≡ master_size p → m ≡ master_size (under_control c p)
     → s₂ ≡ copied c p f
 unfolding copied
 copy-laid p c f s s₁ s₂ u o m w e₂ e₁ eu eo em =
@@ -142,4 +142,4 @@ copy-laid p c f s s₁ s₂ u o m w e₂ e₁ eu eo em =
     let lb : length (part o (length f - o) f) ≡ length f - o = length_part o (length f - o) f (omega arith) in
     let rest : part o (length f - o) f ≡ drop o f = unfold part in take_all (length f - o) (drop o f) (simp length-drop (omega arith)) in
     rw (e₂, e₁, filled s x (part o (length f - o) f) m lx (omega arith), rest, eu, eo, em)
-    (append_assoc (part 0 (entriesEnd p f) f) (zeros (masterSize (underControl c p) - entriesEnd p f)) (drop (masterSize p) f))
+    (append_assoc (part 0 (entries_end p f) f) (zeros (master_size (under_control c p) - entries_end p f)) (drop (master_size p) f))

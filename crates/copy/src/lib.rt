@@ -1,11 +1,11 @@
 // The copying call: a file into a second one with another CONTROL. Nothing is written before the sizes, the session and the file are found right.
 ghost use Rattle.std.specs.Prelude.{◌≡◌, true, ◌&&◌, ◌++◌, ◌-◌, ◌≤◌, eqb, length};
 ghost use Rattle.words.specs.Words.{part, put, zeros};
-ghost use Rattle.drum.specs.Params.{goodParams, masterSize, fileSize};
+ghost use Rattle.drum.specs.Params.{good_params, master_size, file_size};
 ghost use Rattle.drum.specs.Blocks.{sections};
 ghost use Rattle.layout.specs.Inspected.{Fit};
-ghost use Rattle.layout.specs.Copied.{underControl, entriesEnd, copied};
-ghost use Rattle.rules.specs.Copy.{copyLeft, copySizes, copy};
+ghost use Rattle.layout.specs.Copied.{under_control, entries_end, copied};
+ghost use Rattle.rules.specs.Copy.{copy_left, copy_sizes, copy};
 ghost use Rattle.words.specs.Slices.{was, became};
 ghost use Rattle.copy.specs.Fits.{CopyFits};
 
@@ -14,7 +14,7 @@ use numbers::{ALREADY_OPEN, BAD_FILE, DONE, WRONG_SIZE};
 
 // Whether the parameters are good and a file of that length is theirs.
 fn is_file(p: Description, file: usize) -> bool
-    ensures { result ≡ (goodParams p && eqb file (fileSize p)) }
+    ensures { result ≡ (good_params p && eqb file (file_size p)) }
 {
     if !p.is_good() {
         return false;
@@ -24,7 +24,7 @@ fn is_file(p: Description, file: usize) -> bool
 
 // Whether parameters, lengths and the new CONTROL are right. Word 0 of the file is taken as it stands: nobody has inspected the file yet.
 fn is_sized(p: Description, control: usize, file: &[u32], second: usize, marks: usize) -> bool
-    ensures { result ≡ copySizes p control (was file) second marks }
+    ensures { result ≡ copy_sizes p control (was file) second marks }
 {
     if !is_file(p, file.len()) {
         return false;
@@ -47,7 +47,7 @@ fn is_sized(p: Description, control: usize, file: &[u32], second: usize, marks: 
 fn entries_end(p: Description, file: &[u32]) -> usize
     requires fit { Fit p file.now }
     requires file_bound { sections file.now ≤ p.control }
-    ensures { result ≡ entriesEnd p (was file) }
+    ensures { result ≡ entries_end p (was file) }
 {
     let sections = words::word_at(file, 0);
     3 + sections * (p.k + 1)
@@ -55,16 +55,16 @@ fn entries_end(p: Description, file: &[u32]) -> usize
 
 // The words of the master, of good parameters.
 fn master_of(p: Description) -> usize
-    requires { goodParams p ≡ true }
-    ensures { result ≡ masterSize p }
+    requires { good_params p ≡ true }
+    ensures { result ≡ master_size p }
 {
     p.master_size()
 }
 
 // The words of the master with the new CONTROL.
 fn new_master(p: Description, control: usize) -> usize
-    requires { goodParams (underControl control p) ≡ true }
-    ensures { result ≡ masterSize (underControl control p) }
+    requires { good_params (under_control control p) ≡ true }
+    ensures { result ≡ master_size (under_control control p) }
 {
     let q = p.with_control(control);
     master_of(q)
@@ -100,7 +100,7 @@ pub fn copy_file(
     second: &mut [u32],
     marks: &mut [u8],
 ) -> u32
-    ensures { copyLeft result (became second) (became marks) ≡ copy p opened control (was file) (was second) (was marks) }
+    ensures { copy_left result (became second) (became marks) ≡ copy p opened control (was file) (was second) (was marks) }
 {
     if !is_sized(p, control, file, second.len(), marks.len()) {
         return WRONG_SIZE;

@@ -10,28 +10,28 @@ use lib.Dec.{eqb}
 use lib.ListN.{length, get_or}
 use mir.Syntax.{w32}
 use mir.Val.{Fits}
-use Rattle.numbers.specs.Numbers.{wrongSize, isClosed, readingOnly}
+use Rattle.numbers.specs.Numbers.{wrong_size, is_closed, reading_only}
 use Rattle.numbers.specs.Checked.{Checked, passed, refused, ◌>>◌, require}
 use Rattle.words.proofs.All.{and_both}
 use Rattle.drum.specs.Params.{sized}
-use Rattle.rules.specs.State.{Session, State, Outcome, desc, lent, atRest, unchanged, settle}
-use Rattle.rules.specs.Checks.{sizesOk, workOk, isOpen}
-use Rattle.rules.specs.Open.{openChecks, openLayout}
+use Rattle.rules.specs.State.{Session, State, Outcome, desc, lent, at_rest, unchanged, settle}
+use Rattle.rules.specs.Checks.{sizes_ok, work_ok, is_open}
+use Rattle.rules.specs.Open.{open_checks, open_layout}
 use Rattle.searchfile.specs.declared.Session as code
 use Rattle.searchfile.specs.Promise.{held}
 use Rattle.searchfile.specs.Promise as full
-use Rattle.face.specs.Counted.{CountedOpen, counted, countedOpen}
+use Rattle.face.specs.Counted.{CountedOpen, counted, counted_open}
 use Rattle.reading.specs.declared.ReadingSession.{ReadingSession}
 use Rattle.reading.specs.declared.Answer.{Answer}
-use Rattle.reading.specs.Finished.{finishedMarks}
-use Rattle.reading.specs.Reading.{oneSection, asSession, given, answered, answeredOpen, profile, altering, readOpen, readOpenDone}
-use Rattle.capi.specs.Words.{isSession, parametersIn, sessionOf, words_of, packed}
-use Rattle.capi.specs.Calls.{Tellable, returned, toldInWords, toldOpen, marked}
+use Rattle.reading.specs.Finished.{finished_marks}
+use Rattle.reading.specs.Reading.{one_section, as_session, given, answered, answered_open, profile, altering, read_open, read_open_done}
+use Rattle.capi.specs.Words.{is_session, parameters_in, session_of, words_of, packed}
+use Rattle.capi.specs.Calls.{Tellable, returned, told_in_words, told_open, marked}
 use Rattle.capi.specs.View.{place_of}
 use Rattle.capi.proofs.Words.{session-facts}
 use Rattle.capi.proofs.Outcomes.{Telling}
 use Rattle.capi.proofs.Told.{tellable}
-use Rattle.creading.specs.Calls.{isReading, calledReading, calledReadingOpen, viewedReading, wholeSession, wholeAnswer}
+use Rattle.creading.specs.Calls.{is_reading, called_reading, called_reading_open, viewed_reading, whole_session, whole_answer}
 
 -- ---- what a call of the profile can be told of
 
@@ -40,13 +40,13 @@ none_told st n = record { same-parameters = refl; current-most = λ h. h; few = 
 
 pub profile-telling : (call : State → Outcome) → ((st : State) → Telling st (call st)) → (st : State) → Telling st (profile call st)
 unfolding profile
-profile-telling call tells st = go (oneSection (desc st))
+profile-telling call tells st = go (one_section (desc st))
   where
-    go : (t : Bool) → Telling st (cond t (call st) (unchanged st wrongSize))
+    go : (t : Bool) → Telling st (cond t (call st) (unchanged st wrong_size))
     go true = tells st
-    go false = none_told st wrongSize
+    go false = none_told st wrong_size
 
-alter-by : (st : State) (a b c : Bool) → Telling st (settle st (require a wrongSize >> (require b wrongSize >> (require c isClosed >> refused readingOnly))))
+alter-by : (st : State) (a b c : Bool) → Telling st (settle st (require a wrong_size >> (require b wrong_size >> (require c is_closed >> refused reading_only))))
 unfolding settle
 alter-by st true true true = none_told st _
 alter-by st true true false = none_told st _
@@ -54,40 +54,40 @@ alter-by st true false c = none_told st _
 alter-by st false b c = none_told st _
 
 pub alter-telling : (st : State) → Telling st (altering st)
-unfolding altering sizesOk workOk isOpen
+unfolding altering sizes_ok work_ok is_open
 alter-telling st =
     alter-by st (sized (desc st) (length st.file) (length st.buffer)) (eqb (length st.work) (desc st).wpr) st.session.opened
 
-layout-telling : (st : State) (c : Checked (List ℕ)) → Telling st (openLayout st c).outcome
-unfolding openLayout atRest
+layout-telling : (st : State) (c : Checked (List ℕ)) → Telling st (open_layout st c).outcome
+unfolding open_layout at_rest
 layout-telling st (refused n) = none_told st n
 layout-telling st (passed m) = record { same-parameters = refl; current-most = λ h. omega arith; few = omega arith }
 
-pub open-telling : (marks : List ℕ) (st : State) → Telling st (readOpen st marks).outcome
-unfolding readOpen readOpenDone
-open-telling marks st = go (require (oneSection (desc st)) wrongSize >> openChecks st marks)
+pub open-telling : (marks : List ℕ) (st : State) → Telling st (read_open st marks).outcome
+unfolding read_open read_open_done
+open-telling marks st = go (require (one_section (desc st)) wrong_size >> open_checks st marks)
   where
-    go : (c : Checked Bool) → Telling st (readOpenDone st marks c).outcome
+    go : (c : Checked Bool) → Telling st (read_open_done st marks c).outcome
     go (refused n) = none_told st n
-    go (passed x) = layout-telling st (finishedMarks (desc st) st.file)
+    go (passed x) = layout-telling st (finished_marks (desc st) st.file)
 
 -- ---- the words of a reading session
 
-pub word-there : (ws : List ℕ) (t : Bool) → t ≡ isSession ws → not t ≡ false → 8 < length ws
+pub word-there : (ws : List ℕ) (t : Bool) → t ≡ is_session ws → not t ≡ false → 8 < length ws
 word-there ws t e h = omega (arith, (session-facts ws (sym e ∙ not-false t h)).whole)
 
-pub reading-none : (ws : List ℕ) (t : Bool) → t ≡ isSession ws → not t ≡ true → false ≡ isReading ws
-unfolding isReading
+pub reading-none : (ws : List ℕ) (t : Bool) → t ≡ is_session ws → not t ≡ true → false ≡ is_reading ws
+unfolding is_reading
 reading-none ws t e h = simp (sym e ∙ not-true t h)
 
-pub reading-off : (ws : List ℕ) (t : Bool) → t ≡ isSession ws → not t ≡ false → eqb (get_or ws 8 0) 0 ≡ isReading ws
-unfolding isReading
+pub reading-off : (ws : List ℕ) (t : Bool) → t ≡ is_session ws → not t ≡ false → eqb (get_or ws 8 0) 0 ≡ is_reading ws
+unfolding is_reading
 reading-off ws t e h = simp (sym e ∙ not-false t h)
 
-module _ (ws : List ℕ) (t : Bool) (e : t ≡ isReading ws) (h : not t ≡ false) where
-  parts : (isSession ws ≡ true) × (eqb (get_or ws 8 0) 0 ≡ true)
-  unfolding isReading
-  parts = and_both (isSession ws) (eqb (get_or ws 8 0) 0) (sym e ∙ not-false t h)
+module _ (ws : List ℕ) (t : Bool) (e : t ≡ is_reading ws) (h : not t ≡ false) where
+  parts : (is_session ws ≡ true) × (eqb (get_or ws 8 0) 0 ≡ true)
+  unfolding is_reading
+  parts = and_both (is_session ws) (eqb (get_or ws 8 0) 0) (sym e ∙ not-false t h)
 
   pub asked-whole : 73 ≤ length ws
   asked-whole = (session-facts ws parts.0).whole
@@ -96,10 +96,10 @@ module _ (ws : List ℕ) (t : Bool) (e : t ≡ isReading ws) (h : not t ≡ fals
   asked-off = eqb-true _ _ parts.1
 
 -- the session read from them, without its flag
-pub reading-by : (ws : List ℕ) (s : code.Session) → held s ≡ sessionOf ws → get_or ws 8 0 ≡ 0
+pub reading-by : (ws : List ℕ) (s : code.Session) → held s ≡ session_of ws → get_or ws 8 0 ≡ 0
     → ◌≡◌ {A = Session}
-    (record { desc = s.desc; opened = s.opened; current = s.current; flag = false; placed = s.placed; position = s.position }) (sessionOf ws)
-unfolding sessionOf
+    (record { desc = s.desc; opened = s.opened; current = s.current; flag = false; placed = s.placed; position = s.position }) (session_of ws)
+unfolding session_of
 reading-by ws s e z =
     let off : s.flag ≡ false = ap (λ (x : Session). x.flag) e ∙ ap (λ (n : ℕ). eqb n 1) z in
     (λ i. record { desc = s.desc; opened = s.opened; current = s.current; flag = sym off i; placed = s.placed; position = s.position }) ∙ e
@@ -107,68 +107,68 @@ reading-by ws s e z =
 -- ---- the calls
 
 -- words that are no reading session's
-module _ (ws : List ℕ) (t : Bool) (r : ℕ) (e : t ≡ isReading ws) (h : not t ≡ true) (p : r ≡ packed 0 wrongSize) where
-  pub called-none : (call : State → Outcome) (f b w : List ℕ) → returned r ws f b w ≡ calledReading call ws f b w
-  unfolding calledReading
+module _ (ws : List ℕ) (t : Bool) (r : ℕ) (e : t ≡ is_reading ws) (h : not t ≡ true) (p : r ≡ packed 0 wrong_size) where
+  pub called-none : (call : State → Outcome) (f b w : List ℕ) → returned r ws f b w ≡ called_reading call ws f b w
+  unfolding called_reading
   called-none call f b w = simp (sym e ∙ not-true t h) (λ j. returned (p j) ws f b w)
 
-  pub open_none : (f b m : List ℕ) → marked (returned r ws f b []) m ≡ calledReadingOpen ws f b m
-  unfolding calledReadingOpen
+  pub open_none : (f b m : List ℕ) → marked (returned r ws f b []) m ≡ called_reading_open ws f b m
+  unfolding called_reading_open
   open_none f b m = simp (sym e ∙ not-true t h) (λ j. marked (returned (p j) ws f b []) m)
 
-  pub view-none : (f b : List ℕ) (block : ℕ) → r ≡ viewedReading ws f b block
-  unfolding viewedReading
+  pub view-none : (f b : List ℕ) (block : ℕ) → r ≡ viewed_reading ws f b block
+  unfolding viewed_reading
   view-none f b block = simp (sym e ∙ not-true t h) p
 
 -- words that are one's: the answer is told
 module _ (ws : List ℕ) (t : Bool) (s : ReadingSession) (a : Answer) where
   pub call-told : (call : State → Outcome) (f b w b₁ w₁ us : List ℕ) (r : ℕ) → answered a f b₁ w₁ ≡ counted (call (given s f b w))
-      → asSession s ≡ sessionOf ws → (r ≡ packed a.transfers a.number) × (us ≡ words_of ws (asSession a.session))
-      → t ≡ isReading ws → not t ≡ false → returned r us f b₁ w₁ ≡ calledReading call ws f b w
-  unfolding calledReading
+      → as_session s ≡ session_of ws → (r ≡ packed a.transfers a.number) × (us ≡ words_of ws (as_session a.session))
+      → t ≡ is_reading ws → not t ≡ false → returned r us f b₁ w₁ ≡ called_reading call ws f b w
+  unfolding called_reading
   call-told call f b w b₁ w₁ us r e same p x h =
       simp (sym x ∙ not-false t h)
       ((λ j. returned (p.0 j) (p.1 j) f b₁ w₁)
-      ∙ ap (toldInWords ws) e
-      ∙ ap (λ (z : Session). toldInWords ws (counted (call (lent z f b w)))) same)
+      ∙ ap (told_in_words ws) e
+      ∙ ap (λ (z : Session). told_in_words ws (counted (call (lent z f b w)))) same)
 
-  pub open_told : (f b m m₁ us : List ℕ) (r : ℕ) → answeredOpen a f b m₁ ≡ countedOpen (readOpen (given s f b []) m)
-      → asSession s ≡ sessionOf ws → (r ≡ packed a.transfers a.number) × (us ≡ words_of ws (asSession a.session))
-      → t ≡ isReading ws → not t ≡ false → marked (returned r us f b []) m₁ ≡ calledReadingOpen ws f b m
-  unfolding calledReadingOpen
+  pub open_told : (f b m m₁ us : List ℕ) (r : ℕ) → answered_open a f b m₁ ≡ counted_open (read_open (given s f b []) m)
+      → as_session s ≡ session_of ws → (r ≡ packed a.transfers a.number) × (us ≡ words_of ws (as_session a.session))
+      → t ≡ is_reading ws → not t ≡ false → marked (returned r us f b []) m₁ ≡ called_reading_open ws f b m
+  unfolding called_reading_open
   open_told f b m m₁ us r e same p x h =
       simp (sym x ∙ not-false t h)
       ((λ j. marked (returned (p.0 j) (p.1 j) f b []) m₁)
-      ∙ ap (toldOpen ws) e
-      ∙ ap (λ (z : Session). toldOpen ws (countedOpen (readOpen (lent z f b []) m))) same)
+      ∙ ap (told_open ws) e
+      ∙ ap (λ (z : Session). told_open ws (counted_open (read_open (lent z f b []) m))) same)
 
 -- and it can be told
 pub can-tell : (call : State → Outcome) → ((st : State) → Telling st (call st))
     → (ws : List ℕ) (t : Bool) (s : ReadingSession) (a : Answer) (f b w b₁ w₁ : List ℕ)
     → answered a f b₁ w₁ ≡ counted (call (given s f b w))
-    → asSession s ≡ sessionOf ws → t ≡ isReading ws → not t ≡ false → ((i : ℕ) → Fits w32 (get_or ws i 0)) → Tellable ws (wholeAnswer a)
+    → as_session s ≡ session_of ws → t ≡ is_reading ws → not t ≡ false → ((i : ℕ) → Fits w32 (get_or ws i 0)) → Tellable ws (whole_answer a)
 can-tell call tells ws t s a f b w b₁ w₁ e same x h word =
-    tellable call tells ws true (wholeSession s) (wholeAnswer a) f b w f b₁ w₁ e same (sym (parts ws t x h).0) refl word
+    tellable call tells ws true (whole_session s) (whole_answer a) f b w f b₁ w₁ e same (sym (parts ws t x h).0) refl word
 
 pub can-tell-open : (ws : List ℕ) (t : Bool) (s : ReadingSession) (a : Answer) (f b m m₁ : List ℕ)
-    → answeredOpen a f b m₁ ≡ countedOpen (readOpen (given s f b []) m)
-    → asSession s ≡ sessionOf ws → t ≡ isReading ws → not t ≡ false → ((i : ℕ) → Fits w32 (get_or ws i 0)) → Tellable ws (wholeAnswer a)
+    → answered_open a f b m₁ ≡ counted_open (read_open (given s f b []) m)
+    → as_session s ≡ session_of ws → t ≡ is_reading ws → not t ≡ false → ((i : ℕ) → Fits w32 (get_or ws i 0)) → Tellable ws (whole_answer a)
 can-tell-open ws t s a f b m m₁ e =
-    can-tell (λ st. (readOpen st m).outcome) (open-telling m) ws t s a f b [] b [] (ap (λ (o : CountedOpen). o.outcome) e)
+    can-tell (λ st. (read_open st m).outcome) (open-telling m) ws t s a f b [] b [] (ap (λ (o : CountedOpen). o.outcome) e)
 
 -- ---- VIEW
 
-module _ (ws f b : List ℕ) (block : ℕ) (t : Bool) (s : code.Session) (same : held s ≡ sessionOf ws) (e : t ≡ isReading ws) (h : not t ≡ false) where
-  control : s.desc.control ≡ (parametersIn ws).control
-  unfolding sessionOf
+module _ (ws f b : List ℕ) (block : ℕ) (t : Bool) (s : code.Session) (same : held s ≡ session_of ws) (e : t ≡ is_reading ws) (h : not t ≡ false) where
+  control : s.desc.control ≡ (parameters_in ws).control
+  unfolding session_of
   control = ap (λ (x : Session). x.desc.control) same
 
-  pub view-many : (s.desc.control ≡ 1 → ⊥) → 0 ≡ viewedReading ws f b block
-  unfolding viewedReading
-  view-many n = simp (sym e ∙ not-false t h, ne_eqb (parametersIn ws).control 1 (λ x. n (control ∙ x)))
+  pub view-many : (s.desc.control ≡ 1 → ⊥) → 0 ≡ viewed_reading ws f b block
+  unfolding viewed_reading
+  view-many n = simp (sym e ∙ not-false t h, ne_eqb (parameters_in ws).control 1 (λ x. n (control ∙ x)))
 
-  pub view-told : (r : ℕ) → r ≡ place_of (full.given s f b []) block → s.desc.control ≡ 1 → r ≡ viewedReading ws f b block
-  unfolding viewedReading
+  pub view-told : (r : ℕ) → r ≡ place_of (full.given s f b []) block → s.desc.control ≡ 1 → r ≡ viewed_reading ws f b block
+  unfolding viewed_reading
   view-told r q one =
-      simp (sym e ∙ not-false t h, eq-eqb (parametersIn ws).control 1 (sym control ∙ one))
+      simp (sym e ∙ not-false t h, eq-eqb (parameters_in ws).control 1 (sym control ∙ one))
       (q ∙ ap (λ (x : Session). place_of (lent x f b []) block) same)

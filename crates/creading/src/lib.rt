@@ -3,9 +3,9 @@
 mod session;
 
 ghost use Rattle.std.specs.Prelude.{◌≡◌, []};
-ghost use Rattle.reading.specs.Reading.{readClose, readSeek, readAdv, readAlter};
+ghost use Rattle.reading.specs.Reading.{read_close, read_seek, read_adv, read_alter};
 ghost use Rattle.capi.specs.Calls.{returned, marked};
-ghost use Rattle.creading.specs.Calls.{calledReading, calledReadingOpen, viewedReading};
+ghost use Rattle.creading.specs.Calls.{called_reading, called_reading_open, viewed_reading};
 ghost use Rattle.words.specs.Slices.{was, became};
 
 use capi::place::place_of;
@@ -22,7 +22,7 @@ pub extern "C" fn nasturakh_reading_open(
     marks: &mut [u8],
 ) -> u64
     ensures { marked (returned result (became session) (was file) (was buffer) []) (became marks)
-        ≡ calledReadingOpen (was session) (was file) (was buffer) (was marks) }
+        ≡ called_reading_open (was session) (was file) (was buffer) (was marks) }
 {
     if !is_reading(session) {
         return packed(0, WRONG_SIZE);
@@ -35,7 +35,7 @@ pub extern "C" fn nasturakh_reading_open(
 #[unsafe(no_mangle)]
 pub extern "C" fn nasturakh_reading_close(session: &mut [u32], file: &[u32], buffer: &[u32]) -> u64
     ensures { returned result (became session) (was file) (was buffer) []
-        ≡ calledReading readClose (was session) (was file) (was buffer) [] }
+        ≡ called_reading read_close (was session) (was file) (was buffer) [] }
 {
     if !is_reading(session) {
         return packed(0, WRONG_SIZE);
@@ -53,7 +53,7 @@ pub extern "C" fn nasturakh_reading_seek(
     work: &mut [u32],
 ) -> u64
     ensures { returned result (became session) (was file) (became buffer) (became work)
-        ≡ calledReading readSeek (was session) (was file) (was buffer) (was work) }
+        ≡ called_reading read_seek (was session) (was file) (was buffer) (was work) }
 {
     if !is_reading(session) {
         return packed(0, WRONG_SIZE);
@@ -71,7 +71,7 @@ pub extern "C" fn nasturakh_reading_adv(
     work: &mut [u32],
 ) -> u64
     ensures { returned result (became session) (was file) (became buffer) (became work)
-        ≡ calledReading readAdv (was session) (was file) (was buffer) (was work) }
+        ≡ called_reading read_adv (was session) (was file) (was buffer) (was work) }
 {
     if !is_reading(session) {
         return packed(0, WRONG_SIZE);
@@ -89,7 +89,7 @@ pub extern "C" fn nasturakh_reading_nsert(
     work: &[u32],
 ) -> u64
     ensures { returned result (became session) (was file) (was buffer) (was work)
-        ≡ calledReading readAlter (was session) (was file) (was buffer) (was work) }
+        ≡ called_reading read_alter (was session) (was file) (was buffer) (was work) }
 {
     if !is_reading(session) {
         return packed(0, WRONG_SIZE);
@@ -107,7 +107,7 @@ pub extern "C" fn nasturakh_reading_dlete(
     work: &[u32],
 ) -> u64
     ensures { returned result (became session) (was file) (was buffer) (was work)
-        ≡ calledReading readAlter (was session) (was file) (was buffer) (was work) }
+        ≡ called_reading read_alter (was session) (was file) (was buffer) (was work) }
 {
     if !is_reading(session) {
         return packed(0, WRONG_SIZE);
@@ -125,7 +125,7 @@ pub extern "C" fn nasturakh_reading_updat(
     work: &[u32],
 ) -> u64
     ensures { returned result (became session) (was file) (was buffer) (was work)
-        ≡ calledReading readAlter (was session) (was file) (was buffer) (was work) }
+        ≡ called_reading read_alter (was session) (was file) (was buffer) (was work) }
 {
     if !is_reading(session) {
         return packed(0, WRONG_SIZE);
@@ -143,7 +143,7 @@ pub extern "C" fn nasturakh_reading_xtend(
     work: &[u32],
 ) -> u64
     ensures { returned result (became session) (was file) (was buffer) (was work)
-        ≡ calledReading readAlter (was session) (was file) (was buffer) (was work) }
+        ≡ called_reading read_alter (was session) (was file) (was buffer) (was work) }
 {
     if !is_reading(session) {
         return packed(0, WRONG_SIZE);
@@ -160,7 +160,7 @@ pub extern "C" fn nasturakh_reading_view(
     buffer: &[u32],
     block: usize,
 ) -> u64
-    ensures { result ≡ viewedReading (was session) (was file) (was buffer) block }
+    ensures { result ≡ viewed_reading (was session) (was file) (was buffer) block }
 {
     if !is_reading(session) {
         return packed(0, WRONG_SIZE);

@@ -7,87 +7,87 @@ use mathlib.Core.List.{List, [], ◌∷◌, ◌++◌, append_assoc}
 use native.Mathlib.Omega.{arith}
 use lib.ListN.{length, length-append, take-append-drop}
 use Rattle.drum.specs.declared.Description.{Description}
-use Rattle.drum.specs.Params.{I, masterSize, fileSize}
+use Rattle.drum.specs.Params.{I, master_size, file_size}
 use Rattle.drum.specs.Blocks.{Transfer, block_at, written, text_of}
 use Rattle.rules.specs.declared.Way.{Way}
-use Rattle.rules.specs.State.{State, desc, texts, keyIn, outcome}
+use Rattle.rules.specs.State.{State, desc, texts, key_in, outcome}
 use Rattle.rules.specs.Lookup.{reached, landing}
-use Rattle.rules.specs.Free.{withFree}
+use Rattle.rules.specs.Free.{with_free}
 use Rattle.demands.proofs.Scene.{scene}
 use Rattle.demands.proofs.Lists.{All, all_append, all_left, all_right, which}
 use Rattle.demands.proofs.Order.{Asc}
-use Rattle.demands.proofs.Cells.{Cell, is, is-self, weigh, cellTimes, SameCells, wrotes}
+use Rattle.demands.proofs.Cells.{Cell, is, is-self, weigh, cell_times, SameCells, wrotes}
 use Rattle.layout.specs.Tree.{Leaf, Section}
-use Rattle.demands.proofs.Trees.{leavesIn, leavesIn-append, recordsIn, key, leafCell}
-use Rattle.demands.proofs.Holds.{Free, HoldsCells, LeafFits, masterFor, head_or, lastBound, freeCells}
+use Rattle.demands.proofs.Trees.{leaves_in, leaves_in-append, records_in, key, leaf_cell}
+use Rattle.demands.proofs.Holds.{Free, HoldsCells, LeafFits, master_for, head_or, last_bound, free_cells}
 use Rattle.demands.proofs.Steps.{sec, lf, ix, lower, upper, split-leaf, split-both}
-use Rattle.demands.proofs.Places.{Place, tree_of, treeWith, olds, lo, hi, Spot, sec-ok, lastBound-append, lastBound-any, master-same, leaf-in, index_in}
-use Rattle.demands.proofs.Blocks.{masterOf, behind, behind-length, master-first, master-put, cellsWritten, Fits, written-master}
+use Rattle.demands.proofs.Places.{Place, tree_of, tree_with, olds, lo, hi, Spot, sec-ok, last_bound-append, last_bound-any, master-same, leaf-in, index_in}
+use Rattle.demands.proofs.Blocks.{master_of, behind, behind-length, master-first, master-put, cells_written, Fits, written-master}
 use Rattle.demands.proofs.Entries.{file-is, master-long, index-long}
 use Rattle.demands.proofs.Masters.{with-free}
-use Rattle.demands.proofs.Frees.{next, freeCount, taken, firstText, take-block, taken-numbers, taken-count}
+use Rattle.demands.proofs.Frees.{next, free_count, taken, first_text, take-block, taken-numbers, taken-count}
 use Rattle.demands.proofs.Sound.{Key, Ended, Sound, way-fits, way-covers, acted, leaf-length}
 use Rattle.demands.proofs.Answers.{Gives, effect-gives}
 use Rattle.demands.proofs.Reach.{At}
 use Rattle.demands.proofs.Growth.{Growth, Grows}
 
 -- a list of transfers leaves the master's words
-pub written_is : (p : Description) (ms : List Transfer) (m rest : List ℕ) → length m ≡ masterSize p → length (m ++ rest) ≡ fileSize p
-    → All (Fits p) (cellsWritten ms)
+pub written_is : (p : Description) (ms : List Transfer) (m rest : List ℕ) → length m ≡ master_size p → length (m ++ rest) ≡ file_size p
+    → All (Fits p) (cells_written ms)
     → written p ms (m ++ rest) ≡ m ++ behind p (written p ms (m ++ rest))
-unfolding masterOf behind
+unfolding master_of behind
 written_is p ms m rest lm le fit =
-    sym (take-append-drop (masterSize p) (written p ms (m ++ rest)))
+    sym (take-append-drop (master_size p) (written p ms (m ++ rest)))
     ∙ ap (λ (z : List ℕ). z ++ behind p (written p ms (m ++ rest))) (written-master p ms (m ++ rest) le fit ∙ master-put p m rest lm)
 
-module _ (st : State) (ss : List Section) (f : Free) (h : Sound st ss f) (o : st.session.opened ≡ true) (kw : Key (desc st) (keyIn (desc st) st.work))
+module _ (st : State) (ss : List Section) (f : Free) (h : Sound st ss f) (o : st.session.opened ≡ true) (kw : Key (desc st) (key_in (desc st) st.work))
     (a : Place) (way : Way) (A : At (texts st) st.session.flag ss f a way) where
   open scene st ss use {p, v}
 
   -- all the transfers of a call whose own are ms
-  abbrev pub allMoves : List Transfer → List Transfer
-  allMoves ms = (reached v st.session.flag way).moves ++ ms
+  abbrev pub all_moves : List Transfer → List Transfer
+  all_moves ms = (reached v st.session.flag way).moves ++ ms
 
   abbrev Left : List Section → List ℕ → ℕ → List ℕ → Type 0
   Left ss' file' d b = ((d ≡ 0) × (length b ≡ p.wpb)) ⊎ (Spot ss' d × (b ≡ block_at p file' d))
 
   -- the blocks ws are written; the detail block is one of them
-  module _ (ms : List Transfer) (ws : List Cell) (ms-is : cellsWritten ms ≡ ws) (fit : All (Fits p) ws) (old : 1 ≤ cellTimes a.leaf.block ws) (f' : Free)
+  module _ (ms : List Transfer) (ws : List Cell) (ms-is : cells_written ms ≡ ws) (fit : All (Fits p) ws) (old : 1 ≤ cell_times a.leaf.block ws) (f' : Free)
       (file₁ : List ℕ)
-      (e₁ : file₁ ≡ masterFor p (tree_of a) f' ++ behind p st.file) where
-    long₁ : length (masterFor p (tree_of a) f') ≡ masterSize p
+      (e₁ : file₁ ≡ master_for p (tree_of a) f' ++ behind p st.file) where
+    long₁ : length (master_for p (tree_of a) f') ≡ master_size p
     long₁ = master-long p h.kept.good (tree_of a) f' A.held.sized A.held.sections
 
-    fits : All (Fits p) (cellsWritten (allMoves ms))
+    fits : All (Fits p) (cells_written (all_moves ms))
     fits = way-fits v st.session.flag ss f h.kept way ms (rw ms-is fit)
 
     -- the master has changed only in words 1 and 2
-    pub same-file : (ss' : List Section) → masterFor p ss' f' ≡ masterFor p (tree_of a) f'
-        → written p (allMoves ms) file₁ ≡ masterFor p ss' f' ++ behind p (written p (allMoves ms) file₁)
+    pub same-file : (ss' : List Section) → master_for p ss' f' ≡ master_for p (tree_of a) f'
+        → written p (all_moves ms) file₁ ≡ master_for p ss' f' ++ behind p (written p (all_moves ms) file₁)
     same-file ss' e =
-        let le : length (masterFor p (tree_of a) f' ++ behind p st.file) ≡ fileSize p
-        = rw (length-append (masterFor p (tree_of a) f') (behind p st.file), long₁, behind-length p st.file h.kept.file-length)
+        let le : length (master_for p (tree_of a) f' ++ behind p st.file) ≡ file_size p
+        = rw (length-append (master_for p (tree_of a) f') (behind p st.file), long₁, behind-length p st.file h.kept.file-length)
         (omega (arith, master-first p)) in
-        rw (e₁, e) (written_is p (allMoves ms) (masterFor p (tree_of a) f') (behind p st.file) long₁ le fits)
+        rw (e₁, e) (written_is p (all_moves ms) (master_for p (tree_of a) f') (behind p st.file) long₁ le fits)
 
-    pub act-gives : (ss' : List Section) (file' : List ℕ) → file' ≡ masterFor p ss' f' ++ behind p (written p (allMoves ms) file₁)
-        → HoldsCells p (masterFor p ss' f') (wrotes (text_of v) ws) ss' f' → (new : List (List ℕ)) → recordsIn (leavesIn ss') ≡ new → Ended p new
+    pub act-gives : (ss' : List Section) (file' : List ℕ) → file' ≡ master_for p ss' f' ++ behind p (written p (all_moves ms) file₁)
+        → HoldsCells p (master_for p ss' f') (wrotes (text_of v) ws) ss' f' → (new : List (List ℕ)) → records_in (leaves_in ss') ≡ new → Ended p new
         → (d : ℕ) (b : List ℕ) → Left ss' file' d b → (n : ℕ) (tr : List Transfer) (most : ℕ) → length tr ≤ most → (brought : Growth) → Grows p ss ss' brought
         → Gives st ss (outcome st.session (record { number = n; transfers = tr; current = d; flag = false; keyed = true; file = file'; buffer = b; work = st.work })) n most new brought ss' f'
     act-gives ss' file' e' hold new c z d b s n tr most cost brought grew =
-        let cover : (x : ℕ) → 1 ≤ x → wrotes (block_at p st.file) (cellsWritten (allMoves ms)) x ≡ wrotes (text_of v) ws x
+        let cover : (x : ℕ) → 1 ≤ x → wrotes (block_at p st.file) (cells_written (all_moves ms)) x ≡ wrotes (text_of v) ws x
         = λ x l. way-covers v st.session.flag ss f h.kept way ms (λ w g. rw (A.here-is w, ms-is) old) x l
         ∙ ap (λ (y : List Cell). wrotes (text_of v) y x) ms-is in
         effect-gives st ss f h o
         (record { number = n; transfers = tr; current = d; flag = false; keyed = true; file = file'; buffer = b; work = st.work }) ss' f'
-        (acted v st.session.flag ss f h.kept (allMoves ms) ws file₁ (masterFor p (tree_of a) f') e₁ long₁ fits cover ss' f' file' e'
+        (acted v st.session.flag ss f h.kept (all_moves ms) ws file₁ (master_for p (tree_of a) f') e₁ long₁ fits cover ss' f' file' e'
         (master-long p h.kept.good ss' f' hold.sized hold.sections) hold (rw c z) d b s)
         most cost brought grew n new refl c (λ q. kw)
 
   -- words 1 and 2 of the file
-  pub freed : (f' : Free) → withFree (head_or f'.chain 0) f'.lowest st.file ≡ masterFor p (tree_of a) f' ++ behind p st.file
+  pub freed : (f' : Free) → with_free (head_or f'.chain 0) f'.lowest st.file ≡ master_for p (tree_of a) f' ++ behind p st.file
   freed f' =
-      ap (withFree (head_or f'.chain 0) f'.lowest) (file-is p st.file (tree_of a) f A.held.master-is A.held.sized)
+      ap (with_free (head_or f'.chain 0) f'.lowest) (file-is p st.file (tree_of a) f A.held.master-is A.held.sized)
       ∙ with-free p (tree_of a) f f' (behind p st.file)
 
   -- ---- a leaf becomes two: the rows up to x, and those after it in a new block
@@ -112,51 +112,51 @@ module _ (st : State) (ss : List Section) (f : Free) (h : Sound st ss f) (o : st
     news-length = rw (length-append a.low (l₁ ∷ (l₂ ∷ a.high)), length-append a.low (a.leaf ∷ a.high)) (omega arith)
 
     pub low_fits : Fits p (lf p l₁)
-    unfolding leafCell
+    unfolding leaf_cell
     low_fits = let i = leaf-in p a f _ _ A.held in (i.0, i.1, leaf-length p (xs ++ x ∷ []) h.kept.good ok₁.rows ok₁.room)
 
     pub high_fits : (1 ≤ nb) × (nb ≤ p.n) → Fits p (lf p l₂)
-    unfolding leafCell
+    unfolding leaf_cell
     high_fits i = (i.0, i.1, leaf-length p ys h.kept.good ok₂.rows ok₂.room)
 
     pub index-fits : (ls : List Leaf) → All (LeafFits p) ls → length ls ≤ I p → Fits p (a.index, ix p ls)
     index-fits ls ok l = let i = index_in p a f _ _ A.held in (i.0, i.1, index-long p h.kept.good ls ok l)
 
-    pub new-spot : Spot (treeWith a (l₁ ∷ (l₂ ∷ []))) nb
+    pub new-spot : Spot (tree_with a (l₁ ∷ (l₂ ∷ []))) nb
     new-spot = record {
       place = record { before = a.before; index = a.index; low = a.low ++ (l₁ ∷ []); leaf = l₂; high = a.high; behind = a.behind };
       is = ap (λ (z : List Leaf). a.before ++ (sec a.index z ∷ a.behind)) (sym (append_assoc a.low (l₁ ∷ []) (l₂ ∷ a.high)));
       block = refl;
     }
 
-    pub old-spot : Spot (treeWith a (l₁ ∷ (l₂ ∷ []))) a.leaf.block
+    pub old-spot : Spot (tree_with a (l₁ ∷ (l₂ ∷ []))) a.leaf.block
     old-spot = record { place = record { before = a.before; index = a.index; low = a.low; leaf = l₁; high = l₂ ∷ a.high; behind = a.behind }; is = refl; block = refl }
 
-    pub two-spot : (t : Bool) → Spot (treeWith a (l₁ ∷ (l₂ ∷ []))) (cond t a.leaf.block nb)
+    pub two-spot : (t : Bool) → Spot (tree_with a (l₁ ∷ (l₂ ∷ []))) (cond t a.leaf.block nb)
     two-spot true = old-spot
     two-spot false = new-spot
 
     -- the index block has room for the new entry
-    pub two-gives : nb ≡ next f → 1 ≤ freeCount f → length (olds a) < I p
-        → (ms : List Transfer) (ws : List Cell) → cellsWritten ms ≡ ws → All (Fits p) ws → SameCells ws (lf p l₁ ∷ (lf p l₂ ∷ ((a.index, ix p news) ∷ [])))
-        → (new : List (List ℕ)) → recordsIn (leavesIn (treeWith a (l₁ ∷ (l₂ ∷ [])))) ≡ new → Ended p new
-        → (d : ℕ) → Spot (treeWith a (l₁ ∷ (l₂ ∷ []))) d → (n most : ℕ) → length (allMoves ms) ≤ most
-        → (brought : Growth) → Grows p ss (treeWith a (l₁ ∷ (l₂ ∷ []))) brought
-        → Gives st ss (outcome st.session (landing p n st.work (allMoves ms) d
-        (written p (allMoves ms) (withFree (head_or (taken f).chain 0) (taken f).lowest st.file)))) n most new brought (treeWith a (l₁ ∷ (l₂ ∷ [])))
+    pub two-gives : nb ≡ next f → 1 ≤ free_count f → length (olds a) < I p
+        → (ms : List Transfer) (ws : List Cell) → cells_written ms ≡ ws → All (Fits p) ws → SameCells ws (lf p l₁ ∷ (lf p l₂ ∷ ((a.index, ix p news) ∷ [])))
+        → (new : List (List ℕ)) → records_in (leaves_in (tree_with a (l₁ ∷ (l₂ ∷ [])))) ≡ new → Ended p new
+        → (d : ℕ) → Spot (tree_with a (l₁ ∷ (l₂ ∷ []))) d → (n most : ℕ) → length (all_moves ms) ≤ most
+        → (brought : Growth) → Grows p ss (tree_with a (l₁ ∷ (l₂ ∷ []))) brought
+        → Gives st ss (outcome st.session (landing p n st.work (all_moves ms) d
+        (written p (all_moves ms) (with_free (head_or (taken f).chain 0) (taken f).lowest st.file)))) n most new brought (tree_with a (l₁ ∷ (l₂ ∷ [])))
         (taken f)
-    unfolding landing cellTimes weigh leafCell
+    unfolding landing cell_times weigh leaf_cell
     two-gives nx some room ms ws ms-is fit order new c z d s n most cost brought grew =
-        let file₁ : List ℕ = withFree (head_or (taken f).chain 0) (taken f).lowest st.file in
-        let F : List ℕ = written p (allMoves ms) file₁ in
-        let ss' : List Section = treeWith a (l₁ ∷ (l₂ ∷ [])) in
-        let old : 1 ≤ cellTimes a.leaf.block ws = rw (order (λ c. is c.0 a.leaf.block)) (omega (arith, is-self a.leaf.block)) in
-        let cells : freeCells p f ≡ (nb, firstText p f.chain) ∷ freeCells p (taken f) = rw nx (take-block p f some) in
+        let file₁ : List ℕ = with_free (head_or (taken f).chain 0) (taken f).lowest st.file in
+        let F : List ℕ = written p (all_moves ms) file₁ in
+        let ss' : List Section = tree_with a (l₁ ∷ (l₂ ∷ [])) in
+        let old : 1 ≤ cell_times a.leaf.block ws = rw (order (λ c. is c.0 a.leaf.block)) (omega (arith, is-self a.leaf.block)) in
+        let cells : free_cells p f ≡ (nb, first_text p f.chain) ∷ free_cells p (taken f) = rw nx (take-block p f some) in
         act-gives ms ws ms-is fit old (taken f) file₁ (freed (taken f)) ss' F
         (same-file ms ws ms-is fit old (taken f) file₁ (freed (taken f)) ss' (master-same p a (taken f) (l₁ ∷ (l₂ ∷ [])) (λ d. refl)))
-        (split-leaf p a.before a.index a.low a.leaf a.high a.behind f _ _ A.held (taken f) nb (firstText p f.chain) cells
+        (split-leaf p a.before a.index a.low a.leaf a.high a.behind f _ _ A.held (taken f) nb (first_text p f.chain) cells
         (taken-numbers f some) xs x ys asc room ok₁ ok₂ ws order)
-        new c z d (block_at p F d) (inr (s, refl)) n (allMoves ms) most cost brought grew
+        new c z d (block_at p F d) (inr (s, refl)) n (all_moves ms) most cost brought grew
 
     -- ---- and the section two: the entries as', and the entries bs' in a new index block; `op` changes the master
 
@@ -165,11 +165,11 @@ module _ (st : State) (ss : List Section) (f : Free) (h : Sound st ss f) (o : st
       abbrev pub tree₂ : List Section
       tree₂ = a.before ++ (sec a.index as' ∷ (sec nib bs' ∷ a.behind))
 
-      pub leaves-cut : leavesIn tree₂ ≡ leavesIn (treeWith a (l₁ ∷ (l₂ ∷ [])))
+      pub leaves-cut : leaves_in tree₂ ≡ leaves_in (tree_with a (l₁ ∷ (l₂ ∷ [])))
       leaves-cut =
           rw
-          (leavesIn-append a.before (sec a.index as' ∷ (sec nib bs' ∷ a.behind)), leavesIn-append a.before (sec a.index news ∷ a.behind), ← cut)
-          (ap (λ (z : List Leaf). leavesIn a.before ++ z) (sym (append_assoc as' bs' (leavesIn a.behind))))
+          (leaves_in-append a.before (sec a.index as' ∷ (sec nib bs' ∷ a.behind)), leaves_in-append a.before (sec a.index news ∷ a.behind), ← cut)
+          (ap (λ (z : List Leaf). leaves_in a.before ++ z) (sym (append_assoc as' bs' (leaves_in a.behind))))
 
       -- each leaf of the old section is in one of the two
       pub spot-cut : (m : List Leaf) (l : Leaf) (n : List Leaf) → as' ++ bs' ≡ m ++ l ∷ n → Spot tree₂ l.block
@@ -193,33 +193,33 @@ module _ (st : State) (ss : List Section) (f : Free) (h : Sound st ss f) (o : st
       half-spot false = spot-cut (a.low ++ (l₁ ∷ [])) l₂ a.high (cut ∙ sym (append_assoc a.low (l₁ ∷ []) (l₂ ∷ a.high)))
 
       -- the new section ends in the old one's bound
-      pub last-cut : lastBound [] bs' ≡ lastBound [] (olds a)
+      pub last-cut : last_bound [] bs' ≡ last_bound [] (olds a)
       last-cut =
-          lastBound-any [] (lastBound [] as') bs' b₁ ∙ sym (lastBound-append [] as' bs') ∙ ap (lastBound []) cut
-          ∙ rw (lastBound-append [] a.low (l₁ ∷ (l₂ ∷ a.high)), lastBound-append [] a.low (a.leaf ∷ a.high))
+          last_bound-any [] (last_bound [] as') bs' b₁ ∙ sym (last_bound-append [] as' bs') ∙ ap (last_bound []) cut
+          ∙ rw (last_bound-append [] a.low (l₁ ∷ (l₂ ∷ a.high)), last_bound-append [] a.low (a.leaf ∷ a.high))
 
-      pub four-gives : nb ≡ next f → nib ≡ next (taken f) → 2 ≤ freeCount f → length (tree_of a) < p.control
-          → (ms : List Transfer) (ws : List Cell) → cellsWritten ms ≡ ws → All (Fits p) ws
+      pub four-gives : nb ≡ next f → nib ≡ next (taken f) → 2 ≤ free_count f → length (tree_of a) < p.control
+          → (ms : List Transfer) (ws : List Cell) → cells_written ms ≡ ws → All (Fits p) ws
           → SameCells ws (lf p l₁ ∷ (lf p l₂ ∷ ((a.index, ix p as') ∷ ((nib, ix p bs') ∷ []))))
-          → (op : List ℕ → List ℕ) → ((rest : List ℕ) → op (masterFor p (tree_of a) (taken (taken f)) ++ rest) ≡ masterFor p tree₂ (taken (taken f)) ++ rest)
-          → (new : List (List ℕ)) → recordsIn (leavesIn tree₂) ≡ new → Ended p new → (d : ℕ) → Spot tree₂ d → (n most : ℕ) → length (allMoves ms) ≤ most
+          → (op : List ℕ → List ℕ) → ((rest : List ℕ) → op (master_for p (tree_of a) (taken (taken f)) ++ rest) ≡ master_for p tree₂ (taken (taken f)) ++ rest)
+          → (new : List (List ℕ)) → records_in (leaves_in tree₂) ≡ new → Ended p new → (d : ℕ) → Spot tree₂ d → (n most : ℕ) → length (all_moves ms) ≤ most
           → (brought : Growth) → Grows p ss tree₂ brought
-          → Gives st ss (outcome st.session (landing p n st.work (allMoves ms) d
-          (op (written p (allMoves ms) (withFree (head_or (taken (taken f)).chain 0) (taken (taken f)).lowest st.file))))) n most new brought tree₂
+          → Gives st ss (outcome st.session (landing p n st.work (all_moves ms) d
+          (op (written p (all_moves ms) (with_free (head_or (taken (taken f)).chain 0) (taken (taken f)).lowest st.file))))) n most new brought tree₂
           (taken (taken f))
-      unfolding landing cellTimes weigh leafCell
+      unfolding landing cell_times weigh leaf_cell
       four-gives nx nx₂ two room ms ws ms-is fit order op law new c z d s n most cost brought grew =
-          let file₁ : List ℕ = withFree (head_or (taken (taken f)).chain 0) (taken (taken f)).lowest st.file in
-          let some : 1 ≤ freeCount f = omega arith in
-          let some₂ : 1 ≤ freeCount (taken f) = omega (arith, taken-count f some) in
-          let old : 1 ≤ cellTimes a.leaf.block ws = rw (order (λ c. is c.0 a.leaf.block)) (omega (arith, is-self a.leaf.block)) in
-          let cells : freeCells p f ≡ (nb, firstText p f.chain) ∷ ((nib, firstText p (taken f).chain) ∷ freeCells p (taken (taken f)))
-          = rw (nx, nx₂) (take-block p f some ∙ ap (λ (z : List Cell). (next f, firstText p f.chain) ∷ z) (take-block p (taken f) some₂)) in
-          let F : List ℕ = written p (allMoves ms) file₁ in
-          let F-is : F ≡ masterFor p (tree_of a) (taken (taken f)) ++ behind p F
+          let file₁ : List ℕ = with_free (head_or (taken (taken f)).chain 0) (taken (taken f)).lowest st.file in
+          let some : 1 ≤ free_count f = omega arith in
+          let some₂ : 1 ≤ free_count (taken f) = omega (arith, taken-count f some) in
+          let old : 1 ≤ cell_times a.leaf.block ws = rw (order (λ c. is c.0 a.leaf.block)) (omega (arith, is-self a.leaf.block)) in
+          let cells : free_cells p f ≡ (nb, first_text p f.chain) ∷ ((nib, first_text p (taken f).chain) ∷ free_cells p (taken (taken f)))
+          = rw (nx, nx₂) (take-block p f some ∙ ap (λ (z : List Cell). (next f, first_text p f.chain) ∷ z) (take-block p (taken f) some₂)) in
+          let F : List ℕ = written p (all_moves ms) file₁ in
+          let F-is : F ≡ master_for p (tree_of a) (taken (taken f)) ++ behind p F
           = same-file ms ws ms-is fit old (taken (taken f)) file₁ (freed (taken (taken f))) (tree_of a) refl in
           act-gives ms ws ms-is fit old (taken (taken f)) file₁ (freed (taken (taken f))) tree₂ (op F) (ap op F-is ∙ law (behind p F))
-          (split-both p a.before a.index a.low a.leaf a.high a.behind f _ _ A.held (taken (taken f)) nb nib (firstText p f.chain)
-          (firstText p (taken f).chain) cells
+          (split-both p a.before a.index a.low a.leaf a.high a.behind f _ _ A.held (taken (taken f)) nb nib (first_text p f.chain)
+          (first_text p (taken f).chain) cells
           (taken-numbers (taken f) some₂ ∙ taken-numbers f some) xs x ys asc ok₁ ok₂ as' bs' cut a₁ a₂ b₁ b₂ room ws order)
-          new c z d (block_at p (op F) d) (inr (s, refl)) n (allMoves ms) most cost brought grew
+          new c z d (block_at p (op F) d) (inr (s, refl)) n (all_moves ms) most cost brought grew

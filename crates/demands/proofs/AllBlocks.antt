@@ -8,9 +8,9 @@ use lib.ListN.{length, length-append, length-map}
 use borrow.Author.Tests.{le-leb}
 use Rattle.drum.specs.declared.Description.{Description}
 use Rattle.layout.specs.Tree.{Section}
-use Rattle.demands.proofs.Cells.{Cell, is, is-self, is_same, is-not, weigh, cellTimes}
-use Rattle.demands.proofs.Trees.{leavesIn, leafCell, indexText, cells_of}
-use Rattle.demands.proofs.Holds.{Free, HoldsCells, inside, inside-le, chainCells, freshCells, freeCells}
+use Rattle.demands.proofs.Cells.{Cell, is, is-self, is_same, is-not, weigh, cell_times}
+use Rattle.demands.proofs.Trees.{leaves_in, leaf_cell, index_text, cells_of}
+use Rattle.demands.proofs.Holds.{Free, HoldsCells, inside, inside-le, chain_cells, fresh_cells, free_cells}
 use Rattle.demands.proofs.Places.{inside-low}
 
 -- a number of each block 1..n, summed
@@ -66,8 +66,8 @@ over-inside n zero l = refl
 over-inside n (suc m) l = omega (arith, over-inside n m (omega arith), inside_one n (suc m) (omega arith) l)
 
 -- each cell of a block of the file is counted once
-over-times : (n : ℕ) (cs : List Cell) → ((b : ℕ) → 1 ≤ cellTimes b cs → 1 ≤ inside n b) → over (λ b. cellTimes b cs) n ≡ length cs
-unfolding cellTimes weigh
+over-times : (n : ℕ) (cs : List Cell) → ((b : ℕ) → 1 ≤ cell_times b cs → 1 ≤ inside n b) → over (λ b. cell_times b cs) n ≡ length cs
+unfolding cell_times weigh
 over-times n [] h = over_zero n
 over-times n (c ∷ cs) h =
     let one : inside n c.0 ≡ 1 = let l : 1 ≤ inside n c.0 = h c.0 (omega (arith, is-self c.0)) in omega (arith, inside-le n c.0) in
@@ -75,35 +75,35 @@ over-times n (c ∷ cs) h =
 
 -- ---- so there are N cells
 
-chain_length : (p : Description) (cs : List ℕ) → length (chainCells p cs) ≡ length cs
+chain_length : (p : Description) (cs : List ℕ) → length (chain_cells p cs) ≡ length cs
 chain_length p [] = refl
 chain_length p (c ∷ cs) = ap suc (chain_length p cs)
 
-fresh-length : (p : Description) (b n : ℕ) → length (freshCells p b n) ≡ n
+fresh-length : (p : Description) (b n : ℕ) → length (fresh_cells p b n) ≡ n
 fresh-length p b zero = refl
 fresh-length p b (suc n) = ap suc (fresh-length p (b + 1) n)
 
-cells-length : (p : Description) (ss : List Section) → length (cells_of p ss) ≡ length ss + length (leavesIn ss)
+cells-length : (p : Description) (ss : List Section) → length (cells_of p ss) ≡ length ss + length (leaves_in ss)
 unfolding cells_of
 cells-length p [] = refl
 cells-length p (s ∷ ss) =
-    let here : List Cell = (s.block, indexText p s.leaves) ∷ map (leafCell p) s.leaves in
-    omega (arith, length-append here (cells_of p ss), length-map s.leaves (leafCell p), cells-length p ss, length-append s.leaves (leavesIn ss))
+    let here : List Cell = (s.block, index_text p s.leaves) ∷ map (leaf_cell p) s.leaves in
+    omega (arith, length-append here (cells_of p ss), length-map s.leaves (leaf_cell p), cells-length p ss, length-append s.leaves (leaves_in ss))
 
 -- every block below word 2 is in use or on the chain
 pub below-lowest : (p : Description) (master : List ℕ) (text : ℕ → List ℕ) (ss : List Section) (f : Free) → HoldsCells p master text ss f
-    → f.lowest ≡ 1 + (length (leavesIn ss) + length ss) + length f.chain
-unfolding freeCells
+    → f.lowest ≡ 1 + (length (leaves_in ss) + length ss) + length f.chain
+unfolding free_cells
 below-lowest p master text ss f h =
-    let cs : List Cell = cells_of p ss ++ freeCells p f in
-    let all : over (λ b. cellTimes b cs) p.n ≡ length cs = over-times p.n cs (λ b l. omega (arith, h.once b)) in
-    let n : over (λ b. cellTimes b cs) p.n ≡ p.n
-    = over-ext (λ b. cellTimes b cs) (inside p.n) h.once p.n ∙ over-inside p.n p.n (omega arith) in
-    let free : length (freeCells p f) ≡ length f.chain + f.spare
+    let cs : List Cell = cells_of p ss ++ free_cells p f in
+    let all : over (λ b. cell_times b cs) p.n ≡ length cs = over-times p.n cs (λ b l. omega (arith, h.once b)) in
+    let n : over (λ b. cell_times b cs) p.n ≡ p.n
+    = over-ext (λ b. cell_times b cs) (inside p.n) h.once p.n ∙ over-inside p.n p.n (omega arith) in
+    let free : length (free_cells p f) ≡ length f.chain + f.spare
     = omega (
       arith,
-      length-append (chainCells p f.chain) (freshCells p f.lowest f.spare),
+      length-append (chain_cells p f.chain) (fresh_cells p f.lowest f.spare),
       chain_length p f.chain,
       fresh-length p f.lowest f.spare,
     ) in
-    omega (arith, h.numbers, all, n, length-append (cells_of p ss) (freeCells p f), cells-length p ss, free)
+    omega (arith, h.numbers, all, n, length-append (cells_of p ss) (free_cells p f), cells-length p ss, free)

@@ -9,10 +9,10 @@ use Rattle.drum.specs.Params.{FD, FI}
 use Rattle.rules.specs.State.{State, Outcome, desc, lent}
 use Rattle.rules.specs.Open.{create}
 use Rattle.rules.specs.Requests.{Request, opening, closing, seeking, advancing, inserting, deleting, updating, extending, lending, answer, tally}
-use Rattle.demands.specs.Formula.{hD, hI, detailBlocks, indexBlocks, newDetails, newIndexes, startsLast, ofNsert, ofXtend, splitOff, startedNew, M}
-use Rattle.demands.specs.Formula.{S, s, X, x, allTransfers, shares}
+use Rattle.demands.specs.Formula.{h_d, h_i, detail_blocks, index_blocks, new_details, new_indexes, starts_last, of_nsert, of_xtend, split_off, started_new, M}
+use Rattle.demands.specs.Formula.{S, s, X, x, all_transfers, shares}
 use Rattle.demands.specs.Formula.{Within}
-use Rattle.demands.specs.Routines.{tallyBy, MBy, SBy, sBy, XBy, xBy, transfersBy, sharesBy, WithinBy, Demand3By}
+use Rattle.demands.specs.Routines.{tally_by, MBy, SBy, s_by, XBy, x_by, transfers_by, shares_by, WithinBy, Demand3By}
 use Rattle.demands.specs.WrongRoutines.{RefusesEverything, refuser, PassesAlone}
 use Rattle.demands.proofs.Costs.{open_none}
 use Rattle.demands.proofs.Demands.{session-formula}
@@ -20,8 +20,8 @@ use Rattle.demands.proofs.Refused.{impossible}
 use Rattle.demands.proofs.WrongRoutines.{shuts-out}
 
 tally-none : (value : State → Request → Outcome → ℕ) → ((st : State) (q : Request) → value st q (refuser st q) ≡ 0) → (qs : List Request) (st : State)
-    → tallyBy refuser value st qs ≡ 0
-unfolding tallyBy
+    → tally_by refuser value st qs ≡ 0
+unfolding tally_by
 tally-none value h [] st = refl
 tally-none value h (q ∷ qs) st = omega (arith, h st q, tally-none value h qs (refuser st q).after)
 
@@ -42,8 +42,8 @@ none-either true n e = (refl, e)
 none-either false n e = (e, refl)
 
 module _ (m : State → ℕ) (same : (w : List ℕ) (st : State) → m (lending w st) ≡ m st) where
-  no-splits : (st : State) (q : Request) → splitOff (m (refuser st q).after - m st) q st (refuser st q).after ≡ 0
-  unfolding refuser splitOff ofNsert ofXtend
+  no-splits : (st : State) (q : Request) → split_off (m (refuser st q).after - m st) q st (refuser st q).after ≡ 0
+  unfolding refuser split_off of_nsert of_xtend
   no-splits st (opening marks) = refl
   no-splits st closing = refl
   no-splits st (seeking w) = refl
@@ -51,10 +51,10 @@ module _ (m : State → ℕ) (same : (w : List ℕ) (st : State) → m (lending 
   no-splits st (inserting w) = omega (arith, same w st)
   no-splits st (deleting w) = refl
   no-splits st (updating w) = refl
-  no-splits st (extending w) = omega (arith, (none-either (startsLast st (lending w st)) (m (lending w st) - m st) (omega (arith, same w st))).0)
+  no-splits st (extending w) = omega (arith, (none-either (starts_last st (lending w st)) (m (lending w st) - m st) (omega (arith, same w st))).0)
 
-  no-starts : (st : State) (q : Request) → startedNew (m (refuser st q).after - m st) q st (refuser st q).after ≡ 0
-  unfolding refuser startedNew ofXtend
+  no-starts : (st : State) (q : Request) → started_new (m (refuser st q).after - m st) q st (refuser st q).after ≡ 0
+  unfolding refuser started_new of_xtend
   no-starts st (opening marks) = refl
   no-starts st closing = refl
   no-starts st (seeking w) = refl
@@ -62,35 +62,35 @@ module _ (m : State → ℕ) (same : (w : List ℕ) (st : State) → m (lending 
   no-starts st (inserting w) = refl
   no-starts st (deleting w) = refl
   no-starts st (updating w) = refl
-  no-starts st (extending w) = (none-either (startsLast st (lending w st)) (m (lending w st) - m st) (omega (arith, same w st))).1
+  no-starts st (extending w) = (none-either (starts_last st (lending w st)) (m (lending w st) - m st) (omega (arith, same w st))).1
 
-details-lent : (w : List ℕ) (st : State) → detailBlocks (lending w st) ≡ detailBlocks st
-unfolding detailBlocks lending
+details-lent : (w : List ℕ) (st : State) → detail_blocks (lending w st) ≡ detail_blocks st
+unfolding detail_blocks lending
 details-lent w st = refl
 
-indexes-lent : (w : List ℕ) (st : State) → indexBlocks (lending w st) ≡ indexBlocks st
-unfolding indexBlocks lending
+indexes-lent : (w : List ℕ) (st : State) → index_blocks (lending w st) ≡ index_blocks st
+unfolding index_blocks lending
 indexes-lent w st = refl
 
 times_none : (n m : ℕ) → m ≡ 0 → n * m ≡ 0
 times_none n m e = rw e (omega arith)
 
 refuser-within : Demand3By refuser
-unfolding MBy SBy sBy XBy xBy transfersBy sharesBy newDetails newIndexes
+unfolding MBy SBy s_by XBy x_by transfers_by shares_by new_details new_indexes
 refuser-within session f buffer work marks c o qs = within (refuser (lent session (create session.desc f).file buffer work) (opening marks)).after
   where
     within : (st : State) → WithinBy refuser st qs
     within st =
-        let S : SBy refuser st qs ≡ 0 = tally-none _ (no-splits detailBlocks details-lent) qs st in
-        let s : sBy refuser st qs ≡ 0 = tally-none _ (no-splits indexBlocks indexes-lent) qs st in
-        let X : XBy refuser st qs ≡ 0 = tally-none _ (no-starts detailBlocks details-lent) qs st in
-        let x : xBy refuser st qs ≡ 0 = tally-none _ (no-starts indexBlocks indexes-lent) qs st in
-        let t : transfersBy refuser st qs ≡ 0 = tally-none _ no-transfers qs st in
+        let S : SBy refuser st qs ≡ 0 = tally-none _ (no-splits detail_blocks details-lent) qs st in
+        let s : s_by refuser st qs ≡ 0 = tally-none _ (no-splits index_blocks indexes-lent) qs st in
+        let X : XBy refuser st qs ≡ 0 = tally-none _ (no-starts detail_blocks details-lent) qs st in
+        let x : x_by refuser st qs ≡ 0 = tally-none _ (no-starts index_blocks indexes-lent) qs st in
+        let t : transfers_by refuser st qs ≡ 0 = tally-none _ no-transfers qs st in
         record {
-          splits = omega (arith, times_none (hD (desc st)) (SBy refuser st qs) S);
+          splits = omega (arith, times_none (h_d (desc st)) (SBy refuser st qs) S);
           starts = omega (arith, times_none (FD (desc st)) (XBy refuser st qs) X);
-          index-splits = omega (arith, times_none (hI (desc st)) (sBy refuser st qs) s);
-          index-starts = omega (arith, times_none (FI (desc st)) (xBy refuser st qs) x);
+          index-splits = omega (arith, times_none (h_i (desc st)) (s_by refuser st qs) s);
+          index-starts = omega (arith, times_none (FI (desc st)) (x_by refuser st qs) x);
           transfers = omega (arith, t);
         }
 
@@ -104,13 +104,13 @@ alone-passes = record { first = refuser-refuses; demand-3 = refuser-within; shut
 
 -- ---- demand 3 of `answer` is the session formula
 
-tally-is : (value : State → Request → Outcome → ℕ) (qs : List Request) (st : State) → tallyBy answer value st qs ≡ tally value st qs
-unfolding tallyBy tally
+tally-is : (value : State → Request → Outcome → ℕ) (qs : List Request) (st : State) → tally_by answer value st qs ≡ tally value st qs
+unfolding tally_by tally
 tally-is value [] st = refl
 tally-is value (q ∷ qs) st = ap (λ (n : ℕ). value st q (answer st q) + n) (tally-is value qs (answer st q).after)
 
 within-is : (qs : List Request) (st : State) → Within st qs → WithinBy answer st qs
-unfolding MBy SBy sBy XBy xBy transfersBy sharesBy M S s X x allTransfers shares
+unfolding MBy SBy s_by XBy x_by transfers_by shares_by M S s X x all_transfers shares
 within-is qs st w = record {
   splits = simp tally-is w.splits;
   starts = simp tally-is w.starts;

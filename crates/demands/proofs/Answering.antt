@@ -5,13 +5,13 @@ use mathlib.Core.Bool.{Bool, true, false, cond, ◌&&◌, ◌||◌}
 use lib.Dec.{eqb}
 use lib.ListN.{length}
 use Rattle.numbers.specs.Numbers as number_is
-use Rattle.drum.specs.Params.{goodParams, fileSize}
+use Rattle.drum.specs.Params.{good_params, file_size}
 use Rattle.layout.specs.Create.{created}
 use Rattle.rules.specs.State.{State, Outcome, outcome}
 use Rattle.rules.specs.Lookup.{Reached, stopping}
 use Rattle.rules.specs.Open.{Created, create}
 use Rattle.rules.specs.Requests.{opening, closing, seeking, advancing, inserting, deleting, updating, extending}
-use Rattle.demands.specs.Answering.{canAnswer, CanAnswer, CreateCan}
+use Rattle.demands.specs.Answering.{can_answer, CanAnswer, CreateCan}
 use Rattle.demands.proofs.Refused.{impossible}
 use Rattle.demands.proofs.Ends.{stopped, went}
 use Rattle.demands.proofs.Came.{CameTo, Rested, came, barred, ended, rested}
@@ -38,7 +38,7 @@ module _ (bar : ℕ → Bool) (st : State) where
   rests o (rested _ e p k) = or_right (bar o.number) (eqb o.number number_is.done) (rw e)
 
 pub can-answer : CanAnswer
-unfolding canAnswer
+unfolding can_answer
 can-answer st (opening marks) = rests _ _ _ (came st (opening marks))
 can-answer st closing = rests _ _ _ (came st closing)
 can-answer st (seeking w) = among _ _ _ _ _ (came st (seeking w))
@@ -50,10 +50,10 @@ can-answer st (extending w) = among _ _ _ _ _ (came st (extending w))
 
 pub create-can : CreateCan
 unfolding create
-create-can p f = go (goodParams p && eqb (length f) (fileSize p))
+create-can p f = go (good_params p && eqb (length f) (file_size p))
   where
     go : (t : Bool)
-        → let n = (cond {A = Created} t (record { number = number_is.done; file = created p }) (record { number = number_is.wrongSize; file = f })).number in
-        (eqb n number_is.wrongSize || eqb n number_is.done) ≡ true
+        → let n = (cond {A = Created} t (record { number = number_is.done; file = created p }) (record { number = number_is.wrong_size; file = f })).number in
+        (eqb n number_is.wrong_size || eqb n number_is.done) ≡ true
     go true = refl
     go false = refl

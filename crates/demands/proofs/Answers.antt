@@ -6,21 +6,21 @@ use mathlib.Core.List.{List}
 use native.Mathlib.Omega.{arith}
 use lib.ListN.{length, length-replicate}
 use borrow.Author.Tests.{eq-eqb, not-true}
-use Rattle.numbers.specs.Numbers.{wrongKey}
+use Rattle.numbers.specs.Numbers.{wrong_key}
 use Rattle.numbers.specs.Checked.{Checked, passed, ◌>>◌, require}
-use Rattle.words.specs.Words.{part, put, allWords, topWord}
-use Rattle.words.specs.Keys.{ones, isOnes, val}
+use Rattle.words.specs.Words.{part, put, all_words, top_word}
+use Rattle.words.specs.Keys.{ones, is_ones, val}
 use Rattle.words.proofs.Parts.{length_part, take_part, part-all, part-written, length-put}
-use Rattle.words.proofs.All.{and_both, allWords-take, allWords-replicate, below-ones}
-use Rattle.words.proofs.Values.{keyLt-val-lt}
+use Rattle.words.proofs.All.{and_both, all_words-take, all_words-replicate, below-ones}
+use Rattle.words.proofs.Values.{key_lt-val-lt}
 use Rattle.drum.specs.declared.Description.{Description}
-use Rattle.drum.specs.Params.{every, sized, fileSize}
+use Rattle.drum.specs.Params.{every, sized, file_size}
 use Rattle.drum.specs.Blocks.{seen}
 use Rattle.drum.proofs.Good.{Good, good-facts}
-use Rattle.rules.specs.State.{Session, State, Outcome, Effect, desc, lent, keyIn, recordIn, holding, positioned, outcome, settle}
-use Rattle.rules.specs.Checks.{sizesOk, workOk, isOpen, keyOk}
+use Rattle.rules.specs.State.{Session, State, Outcome, Effect, desc, lent, key_in, record_in, holding, positioned, outcome, settle}
+use Rattle.rules.specs.Checks.{sizes_ok, work_ok, is_open, key_ok}
 use Rattle.layout.specs.Tree.{Section}
-use Rattle.demands.proofs.Trees.{leavesIn, recordsIn, key}
+use Rattle.demands.proofs.Trees.{leaves_in, records_in, key}
 use Rattle.demands.proofs.Holds.{Free, RowOk}
 use Rattle.demands.proofs.Sound.{Key, KeptTree, Sound, no-true-false}
 use Rattle.demands.proofs.Growth.{Growth, Grows}
@@ -30,57 +30,57 @@ pub record Ready (reads : ℕ) (st : State) (ss : List Section) (f : Free) : Typ
   pub sound : Sound st ss f
   pub opened : st.session.opened ≡ true
   pub work-length : length st.work ≡ (desc st).wpr
-  pub asked : keyOk reads st ≡ passed true
+  pub asked : key_ok reads st ≡ passed true
 
 pub required : (t : Bool) (n : ℕ) → require t n ≡ passed true → t ≡ true
 required true n e = refl
 required false n e = absurd (let z : ◌≡◌ {A = ℕ} 0 1 = cc in omega arith)
 
 module _ (reads : ℕ) (st : State) (ss : List Section) (f : Free) (r : Ready reads st ss f) where
-  words_of : (allWords (part 0 reads st.work) ≡ true) × (not (isOnes (keyIn (desc st) st.work)) ≡ true)
-  unfolding keyOk
-  words_of = and_both _ _ (required (allWords (part 0 reads st.work) && not (isOnes (keyIn (desc st) st.work))) wrongKey r.asked)
+  words_of : (all_words (part 0 reads st.work) ≡ true) × (not (is_ones (key_in (desc st) st.work)) ≡ true)
+  unfolding key_ok
+  words_of = and_both _ _ (required (all_words (part 0 reads st.work) && not (is_ones (key_in (desc st) st.work))) wrong_key r.asked)
 
-  pub key_of : (desc st).k ≤ reads → reads ≤ (desc st).wpr → Key (desc st) (keyIn (desc st) st.work)
+  pub key_of : (desc st).k ≤ reads → reads ≤ (desc st).wpr → Key (desc st) (key_in (desc st) st.work)
   key_of l u =
       let k : ℕ = (desc st).k in
-      let w : List ℕ = keyIn (desc st) st.work in
+      let w : List ℕ = key_in (desc st) st.work in
       let long : length w ≡ k = length_part 0 k st.work (omega (arith, r.work-length)) in
-      let wide : allWords w ≡ true = ap allWords (sym (take_part 0 k reads st.work l)) ∙ allWords-take k (part 0 reads st.work) words_of.0 in
+      let wide : all_words w ≡ true = ap all_words (sym (take_part 0 k reads st.work l)) ∙ all_words-take k (part 0 reads st.work) words_of.0 in
       record {
         long = long;
         wide = wide;
-        below = keyLt-val-lt w (ones k) wide (allWords-replicate k topWord (omega arith)) (long ∙ sym (length-replicate {A = ℕ} k topWord))
+        below = key_lt-val-lt w (ones k) wide (all_words-replicate k top_word (omega arith)) (long ∙ sym (length-replicate {A = ℕ} k top_word))
             (below-ones k w long wide (not-true _ words_of.1));
       }
 
 -- the record in the workspace, where the call reads all of it
 module _ (st : State) (ss : List Section) (f : Free) (r : Ready (desc st).wpr st ss f) where
-  pub work-is : recordIn (desc st) st.work ≡ st.work
+  pub work-is : record_in (desc st) st.work ≡ st.work
   work-is = part-all (desc st).wpr st.work r.work-length
 
   pub work-ok : RowOk (desc st) st.work
-  work-ok = (r.work-length, ap allWords (sym work-is) ∙ (words_of (desc st).wpr st ss f r).0)
+  work-ok = (r.work-length, ap all_words (sym work-is) ∙ (words_of (desc st).wpr st ss f r).0)
 
-pub work-key : (p : Description) (work : List ℕ) → key p.k work ≡ val (keyIn p work)
+pub work-key : (p : Description) (work : List ℕ) → key p.k work ≡ val (key_in p work)
 unfolding key part
 work-key p work = refl
 
-pub sizes-pass : (st : State) (ss : List Section) (f : Free) → Sound st ss f → sizesOk st ≡ passed true
-unfolding sizesOk sized every
+pub sizes-pass : (st : State) (ss : List Section) (f : Free) → Sound st ss f → sizes_ok st ≡ passed true
+unfolding sizes_ok sized every
 sizes-pass st ss f h = simp (
   h.kept.good,
-  eq-eqb (length st.file) (fileSize (desc st)) h.kept.file-length,
+  eq-eqb (length st.file) (file_size (desc st)) h.kept.file-length,
   eq-eqb (length st.buffer)
       (desc st).wpb h.kept.buffer-length,
 )
 
-pub work-pass : (st : State) → length st.work ≡ (desc st).wpr → workOk st ≡ passed true
-unfolding workOk
+pub work-pass : (st : State) → length st.work ≡ (desc st).wpr → work_ok st ≡ passed true
+unfolding work_ok
 work-pass st e = simp (eq-eqb (length st.work) (desc st).wpr e)
 
-pub open-pass : (st : State) → st.session.opened ≡ true → isOpen st ≡ passed true
-unfolding isOpen
+pub open-pass : (st : State) → st.session.opened ≡ true → is_open st ≡ passed true
+unfolding is_open
 open-pass st e = simp e
 
 -- ---- the answer, where the tree was ss and is then ss' with the free blocks f': the number, how many transfers at most, a sound state of the
@@ -92,7 +92,7 @@ pub record Gives (st : State) (ss : List Section) (o : Outcome) (number : ℕ) (
   pub most-is : length o.transfers ≤ most
   pub desc-is : desc o.after ≡ desc st
   pub sound : Sound o.after ss' f'
-  pub contents-is : recordsIn (leavesIn ss') ≡ rows
+  pub contents-is : records_in (leaves_in ss') ≡ rows
   pub grows : Grows (desc st) ss ss' brought
 
 pub gives_more : (st : State) (ss : List Section) (o : Outcome) (n few most : ℕ) (rows : List (List ℕ)) (brought : Growth) (ss' : List Section) (f' : Free)
@@ -120,7 +120,7 @@ module _ (st : State) (ss : List Section) (f : Free) (h : Sound st ss f) (o : st
     (brought : Growth) (grew : Grows (desc st) ss ss' brought) where
   -- what it gives, of the session that it leaves
   leaving : (s : Session) → (outcome st.session e).after.session ≡ s → s.desc ≡ desc st → Sound (lent s e.file e.buffer e.work) ss' f'
-      → Gives st ss (outcome st.session e) e.number most (recordsIn (leavesIn ss')) brought ss' f'
+      → Gives st ss (outcome st.session e) e.number most (records_in (leaves_in ss')) brought ss' f'
   unfolding outcome
   leaving s q d z = record {
     number-is = refl;
@@ -132,19 +132,19 @@ module _ (st : State) (ss : List Section) (f : Free) (h : Sound st ss f) (o : st
   }
 
   -- position kept
-  plain : e.keyed ≡ false → Gives st ss (outcome st.session e) e.number most (recordsIn (leavesIn ss')) brought ss' f'
+  plain : e.keyed ≡ false → Gives st ss (outcome st.session e) e.number most (records_in (leaves_in ss')) brought ss' f'
   unfolding outcome holding
   plain q =
       let s : Session = holding e.current e.flag st.session in
-      leaving s (ap (λ (t : Bool). cond t (positioned (keyIn (desc st) e.work) s) s) q) refl
+      leaving s (ap (λ (t : Bool). cond t (positioned (key_in (desc st) e.work) s) s) q) refl
       (record { kept = k; position = h.position; placed = h.placed; resting = λ c. no-true-false o c })
 
   -- "position = key"
-  keyed : e.keyed ≡ true → Key (desc st) (keyIn (desc st) e.work)
-      → Gives st ss (outcome st.session e) e.number most (recordsIn (leavesIn ss')) brought ss' f'
+  keyed : e.keyed ≡ true → Key (desc st) (key_in (desc st) e.work)
+      → Gives st ss (outcome st.session e) e.number most (records_in (leaves_in ss')) brought ss' f'
   unfolding outcome holding positioned
   keyed q kw =
-      let key : List ℕ = keyIn (desc st) e.work in
+      let key : List ℕ = key_in (desc st) e.work in
       let g : Good (desc st) = good-facts (desc st) k.good in
       let s : Session = record { desc = desc st; opened = st.session.opened; current = e.current; flag = e.flag; placed = st.session.placed; position = st.session.position } in
       let t : Session = record { desc = desc st; opened = st.session.opened; current = e.current; flag = e.flag; placed = true; position = put st.session.position 0 key } in
@@ -158,20 +158,20 @@ module _ (st : State) (ss : List Section) (f : Free) (h : Sound st ss f) (o : st
       } in
       leaving t (ap (λ (b : Bool). cond b t s) q) refl z
 
-  pub effect-gives : (n : ℕ) (rows : List (List ℕ)) → e.number ≡ n → recordsIn (leavesIn ss') ≡ rows
-      → (e.keyed ≡ true → Key (desc st) (keyIn (desc st) e.work))
+  pub effect-gives : (n : ℕ) (rows : List (List ℕ)) → e.number ≡ n → records_in (leaves_in ss') ≡ rows
+      → (e.keyed ≡ true → Key (desc st) (key_in (desc st) e.work))
       → Gives st ss (outcome st.session e) n most rows brought ss' f'
   effect-gives n rows en er kw =
       subst (λ (m : ℕ). Gives st ss (outcome st.session e) m most rows brought ss' f') en
       (subst (λ (z : List (List ℕ)). Gives st ss (outcome st.session e) e.number most z brought ss' f') er (go e.keyed refl))
     where
-      go : (t : Bool) → e.keyed ≡ t → Gives st ss (outcome st.session e) e.number most (recordsIn (leavesIn ss')) brought ss' f'
+      go : (t : Bool) → e.keyed ≡ t → Gives st ss (outcome st.session e) e.number most (records_in (leaves_in ss')) brought ss' f'
       go true q = keyed q (kw q)
       go false q = plain q
 
 -- a call whose checks pass does what its steps come to
 module _ (st : State) (ss : List Section) (f : Free) (reads : ℕ) (r : Ready reads st ss f) (steps : Checked Effect) (e : Effect)
     (steps-are : steps ≡ passed e) where
-  pub ready-pass : settle st (sizesOk st >> (workOk st >> (isOpen st >> (keyOk reads st >> steps)))) ≡ outcome st.session e
+  pub ready-pass : settle st (sizes_ok st >> (work_ok st >> (is_open st >> (key_ok reads st >> steps)))) ≡ outcome st.session e
   unfolding settle
   ready-pass = simp (sizes-pass st ss f r.sound, work-pass st r.work-length, open-pass st r.opened, r.asked, steps-are)

@@ -6,9 +6,9 @@ use mathlib.Core.List.{List, [], ◌∷◌}
 use native.Mathlib.Omega.{arith}
 use lib.ListN.{length, take}
 use borrow.Author.Tests.{le-ltb}
-use Rattle.words.specs.Keys.{keyLt, keyLe, val}
-use Rattle.words.proofs.Keys.{keyLe-yes}
-use Rattle.words.proofs.Values.{keyLt-val, val-lt-keyLt}
+use Rattle.words.specs.Keys.{key_lt, key_le, val}
+use Rattle.words.proofs.Keys.{key_le-yes}
+use Rattle.words.proofs.Values.{key_lt-val, val-lt-key_lt}
 use Rattle.drum.specs.declared.Description.{Description}
 use Rattle.layout.specs.Tree.{Leaf}
 use Rattle.layout.specs.Holds as lay
@@ -22,11 +22,11 @@ module _ (p : Description) (kr : p.k ≤ p.wpr) where
   abbrev K : List ℕ → ℕ
   K = key p.k
 
-  lt-key : (a b : List ℕ) → WideKey p a → WideKey p b → val a < val b → keyLt a b ≡ true
-  lt-key a b ha hb l = val-lt-keyLt a b ha.1 hb.1 (ha.0 ∙ sym hb.0) l
+  lt-key : (a b : List ℕ) → WideKey p a → WideKey p b → val a < val b → key_lt a b ≡ true
+  lt-key a b ha hb l = val-lt-key_lt a b ha.1 hb.1 (ha.0 ∙ sym hb.0) l
 
-  le-key : (a b : List ℕ) → WideKey p a → WideKey p b → val a ≤ val b → keyLe a b ≡ true
-  le-key a b ha hb l = keyLe-yes a b (keyLt-val b a hb.1 ha.1 (hb.0 ∙ sym ha.0) ∙ le-ltb (val b) (val a) l)
+  le-key : (a b : List ℕ) → WideKey p a → WideKey p b → val a ≤ val b → key_le a b ≡ true
+  le-key a b ha hb l = key_le-yes a b (key_lt-val b a hb.1 ha.1 (hb.0 ∙ sym ha.0) ∙ le-ltb (val b) (val a) l)
 
   up-after : (b : List ℕ) (hi : ℕ) → WideKey p b → (rs : List (List ℕ)) → All (held.RowOk p) rs → Asc K (suc (val b)) rs hi
       → lay.ascending (b ∷ lay.keys_of p rs) ≡ true
@@ -41,7 +41,7 @@ module _ (p : Description) (kr : p.k ≤ p.wpr) where
   up_first hi (r ∷ rs) ok a = up-after (take p.k r) hi (key-long p kr r ok.0) rs ok.1 a.1
 
   bounded : (lo : ℕ) (bound : List ℕ) → WideKey p bound → (rs : List (List ℕ)) → All (held.RowOk p) rs → Asc K lo rs (suc (val bound))
-      → lay.All (λ k. keyLe k bound ≡ true) (lay.keys_of p rs)
+      → lay.All (λ k. key_le k bound ≡ true) (lay.keys_of p rs)
   unfolding lay.All key
   bounded lo bound hb [] ok a = tt
   bounded lo bound hb (r ∷ rs) ok a = (

@@ -8,12 +8,12 @@ use Rattle.numbers.specs.Numbers as number_is
 use Rattle.numbers.specs.Numbers.{accepted}
 use Rattle.numbers.specs.Checked.{Checked, passed, refused, ◌>>=◌, ◌>>◌}
 use Rattle.numbers.proofs.Passed.{Passed, chain}
-use Rattle.layout.specs.Inspect.{layoutMarks}
-use Rattle.rules.specs.State.{Session, State, Outcome, Effect, desc, texts, keyIn, holding, positioned, atRest, outcome, unchanged, settle}
-use Rattle.rules.specs.Checks.{sizesOk, workOk, isOpen, keyOk, keyedCall}
+use Rattle.layout.specs.Inspect.{layout_marks}
+use Rattle.rules.specs.State.{Session, State, Outcome, Effect, desc, texts, key_in, holding, positioned, at_rest, outcome, unchanged, settle}
+use Rattle.rules.specs.Checks.{sizes_ok, work_ok, is_open, key_ok, keyed_call}
 use Rattle.rules.specs.Lookup.{Reached}
-use Rattle.rules.specs.Open.{openChecks, openLayout, openDone, openFile}
-use Rattle.rules.specs.Close.{closeChecks, closeDone, close}
+use Rattle.rules.specs.Open.{open_checks, open_layout, open_done, open_file}
+use Rattle.rules.specs.Close.{close_checks, close_done, close}
 use Rattle.rules.specs.Seek.{seek, updat}
 use Rattle.rules.specs.Adv.{adv}
 use Rattle.rules.specs.NsertDone.{nsert}
@@ -21,7 +21,7 @@ use Rattle.rules.specs.Dlete.{dlete}
 use Rattle.rules.specs.XtendDone.{xtend}
 use Rattle.rules.specs.Requests.{Request, opening, closing, seeking, advancing, inserting, deleting, updating, extending, answer, given, lending}
 use Rattle.demands.specs.Refusals.{stops}
-use Rattle.demands.specs.Answering.{openRefuses, plainRefuses, keyedRefuses, finds, advances, inserts, extends}
+use Rattle.demands.specs.Answering.{open_refuses, plain_refuses, keyed_refuses, finds, advances, inserts, extends}
 use Rattle.demands.proofs.Refused.{Refuses, refusing}
 use Rattle.demands.proofs.BadFile.{IsBad, seek-bad, updat-bad, adv-bad, nsert-bad, dlete-bad, xtend-bad, walk-bad}
 use Rattle.demands.proofs.Ends.{Ends, LookedUp, Lasted, Never, seek-ends, updat-ends, adv-ends, nsert-ends, dlete-ends, xtend-ends}
@@ -36,7 +36,7 @@ bars : (bar : ℕ → Bool) (n : ℕ) → bar n ≡ true → accepted n ≡ fals
 bars bar n e a s = record { is = e; other = a; plain = s }
 
 -- steps that refuse with 070003 alone
-bad-bars : {A : Type 0} (bar : ℕ → Bool) (c : Checked A) → Refuses IsBad c → Bars bar number_is.badFile → Refuses (Bars bar) c
+bad-bars : {A : Type 0} (bar : ℕ → Bool) (c : Checked A) → Refuses IsBad c → Bars bar number_is.bad_file → Refuses (Bars bar) c
 bad-bars bar c b h = record { number = λ n e. rw (b.number n e) h }
 
 -- a call with steps
@@ -51,22 +51,22 @@ pub data Rested (bar : ℕ → Bool) (st : State) : Outcome → Type 0 where
 
 -- what SEEK, UPDAT, NSERT and DLETE reach
 abbrev pub SoughtKey : State → Reached → Type 0
-SoughtKey st = LookedUp (texts st) st.session.flag (keyIn (desc st) st.work)
+SoughtKey st = LookedUp (texts st) st.session.flag (key_in (desc st) st.work)
 
 -- what XTEND reaches
 abbrev pub SoughtLast : State → Reached → Type 0
-SoughtLast st = Lasted (texts st) st.session.flag (keyIn (desc st) st.work)
+SoughtLast st = Lasted (texts st) st.session.flag (key_in (desc st) st.work)
 
 -- by the call
 abbrev pub CallResult : Request → State → Outcome → Type 0
-CallResult (opening marks) st = Rested openRefuses st
-CallResult closing st = Rested plainRefuses st
-CallResult (seeking w) st = CameTo keyedRefuses finds (SoughtKey st) st
-CallResult (advancing w) st = CameTo plainRefuses advances Never st
-CallResult (inserting w) st = CameTo keyedRefuses inserts (SoughtKey st) st
-CallResult (deleting w) st = CameTo keyedRefuses finds (SoughtKey st) st
-CallResult (updating w) st = CameTo keyedRefuses finds (SoughtKey st) st
-CallResult (extending w) st = CameTo keyedRefuses extends (SoughtLast st) st
+CallResult (opening marks) st = Rested open_refuses st
+CallResult closing st = Rested plain_refuses st
+CallResult (seeking w) st = CameTo keyed_refuses finds (SoughtKey st) st
+CallResult (advancing w) st = CameTo plain_refuses advances Never st
+CallResult (inserting w) st = CameTo keyed_refuses inserts (SoughtKey st) st
+CallResult (deleting w) st = CameTo keyed_refuses finds (SoughtKey st) st
+CallResult (updating w) st = CameTo keyed_refuses finds (SoughtKey st) st
+CallResult (extending w) st = CameTo keyed_refuses extends (SoughtLast st) st
 
 module _ (st : State) where
   module _ (ok : ℕ → Bool) (R : Reached → Type 0) where
@@ -76,35 +76,35 @@ module _ (st : State) where
     settled bar (passed e) r p = ended e (p.holds e refl)
 
     -- the refusals of a keyed call, and then its steps; of ADV, and then its steps
-    keyed : (reads : ℕ) (c : Checked Effect) → Refuses IsBad c → Passed (Ends ok R st.work) c → CameTo keyedRefuses ok R st (keyedCall reads st c)
-    unfolding sizesOk workOk isOpen keyOk keyedRefuses stops
-    keyed reads c b p = settled keyedRefuses _ (search (refusing, bars, bad-bars) depth 9) (search chain depth 9)
+    keyed : (reads : ℕ) (c : Checked Effect) → Refuses IsBad c → Passed (Ends ok R st.work) c → CameTo keyed_refuses ok R st (keyed_call reads st c)
+    unfolding sizes_ok work_ok is_open key_ok keyed_refuses stops
+    keyed reads c b p = settled keyed_refuses _ (search (refusing, bars, bad-bars) depth 9) (search chain depth 9)
 
-    unkeyed : (c : Checked Effect) → Refuses IsBad c → Passed (Ends ok R st.work) c → CameTo plainRefuses ok R st (settle st do
-      sizesOk st
-      workOk st
-      isOpen st
+    unkeyed : (c : Checked Effect) → Refuses IsBad c → Passed (Ends ok R st.work) c → CameTo plain_refuses ok R st (settle st do
+      sizes_ok st
+      work_ok st
+      is_open st
       c)
-    unfolding sizesOk workOk isOpen plainRefuses stops
-    unkeyed c b p = settled plainRefuses _ (search (refusing, bars, bad-bars) depth 9) (search chain depth 9)
+    unfolding sizes_ok work_ok is_open plain_refuses stops
+    unkeyed c b p = settled plain_refuses _ (search (refusing, bars, bad-bars) depth 9) (search chain depth 9)
 
-  open-came : (marks : List ℕ) → Rested openRefuses st (openFile st marks).outcome
-  unfolding openFile openDone openLayout openChecks sizesOk atRest openRefuses stops
-  open-came marks = go (openChecks st marks) (search (refusing, bars) depth 9)
+  open-came : (marks : List ℕ) → Rested open_refuses st (open_file st marks).outcome
+  unfolding open_file open_done open_layout open_checks sizes_ok at_rest open_refuses stops
+  open-came marks = go (open_checks st marks) (search (refusing, bars) depth 9)
     where
-      walk : (c : Checked (List ℕ)) → Refuses (Bars openRefuses) c → Rested openRefuses st (openLayout st c).outcome
+      walk : (c : Checked (List ℕ)) → Refuses (Bars open_refuses) c → Rested open_refuses st (open_layout st c).outcome
       walk (refused n) r = barred n (r.number n refl)
       walk (passed ms) r = rested _ refl refl refl
 
-      go : (c : Checked Bool) → Refuses (Bars openRefuses) c → Rested openRefuses st (openDone st marks c).outcome
+      go : (c : Checked Bool) → Refuses (Bars open_refuses) c → Rested open_refuses st (open_done st marks c).outcome
       go (refused n) r = barred n (r.number n refl)
-      go (passed t) r = walk (layoutMarks (desc st) st.file) (bad-bars openRefuses _ (walk-bad (desc st) st.file) (bars _ _ refl refl refl))
+      go (passed t) r = walk (layout_marks (desc st) st.file) (bad-bars open_refuses _ (walk-bad (desc st) st.file) (bars _ _ refl refl refl))
 
-  close-came : Rested plainRefuses st (close st)
-  unfolding close closeDone closeChecks sizesOk isOpen atRest plainRefuses stops
-  close-came = go (closeChecks st) (search (refusing, bars) depth 9)
+  close-came : Rested plain_refuses st (close st)
+  unfolding close close_done close_checks sizes_ok is_open at_rest plain_refuses stops
+  close-came = go (close_checks st) (search (refusing, bars) depth 9)
     where
-      go : (c : Checked Bool) → Refuses (Bars plainRefuses) c → Rested plainRefuses st (closeDone st c)
+      go : (c : Checked Bool) → Refuses (Bars plain_refuses) c → Rested plain_refuses st (close_done st c)
       go (refused n) r = barred n (r.number n refl)
       go (passed t) r = rested _ refl refl refl
 
@@ -135,7 +135,7 @@ outcome-stays s e = go e.keyed
     held : Session
     held = holding e.current e.flag s
 
-    go : (t : Bool) → Stays s (cond t (positioned (keyIn s.desc e.work) held) held)
+    go : (t : Bool) → Stays s (cond t (positioned (key_in s.desc e.work) held) held)
     go true = record { described = refl; opened = refl }
     go false = record { described = refl; opened = refl }
 

@@ -7,26 +7,26 @@ use native.Mathlib.Omega.{arith}
 use lib.Dec.{eqb}
 use lib.ListN.{length}
 use borrow.Author.Tests.{eqb-true, not-true}
-use Rattle.numbers.specs.Numbers.{done, wrongSize, alreadyOpen}
+use Rattle.numbers.specs.Numbers.{done, wrong_size, already_open}
 use Rattle.numbers.specs.Checked.{◌>>◌, require}
 use Rattle.drum.specs.declared.Description.{Description}
-use Rattle.drum.specs.Params.{goodParams, fileSize, sized}
+use Rattle.drum.specs.Params.{good_params, file_size, sized}
 use Rattle.drum.proofs.Good.{Sized, sized-facts}
 use Rattle.layout.specs.Create.{created}
-use Rattle.layout.specs.Tree.{Tree, Section, freshTree, freshSection, freshLeaf}
+use Rattle.layout.specs.Tree.{Tree, Section, fresh_tree, fresh_section, fresh_leaf}
 use Rattle.layout.specs.Tree as lay
 use Rattle.layout.specs.Holds.{Holds}
 use Rattle.layout.proofs.Made.{create-opens}
 use Rattle.layout.proofs.Unique.{one-tree}
-use Rattle.rules.specs.State.{Session, State, desc, keyIn, lent}
-use Rattle.rules.specs.Checks.{sizesOk}
-use Rattle.rules.specs.Open.{Created, create, openChecks, openDone, openFile}
-use Rattle.rules.specs.Requests.{Request, answer, opening as openingWith}
+use Rattle.rules.specs.State.{Session, State, desc, key_in, lent}
+use Rattle.rules.specs.Checks.{sizes_ok}
+use Rattle.rules.specs.Open.{Created, create, open_checks, open_done, open_file}
+use Rattle.rules.specs.Requests.{Request, answer, opening as opening_with}
 use Rattle.demands.specs.Formula.{Within, AfterCreate, Demand3, CallWithin}
 use Rattle.demands.specs.Nearest.{Nearest, NeverMet}
-use Rattle.demands.specs.History.{FoundExactly, events, standing, withKey}
+use Rattle.demands.specs.History.{FoundExactly, events, standing, with_key}
 use Rattle.demands.proofs.Came.{same-parameters}
-use Rattle.demands.proofs.Trees.{leavesIn, recordsIn}
+use Rattle.demands.proofs.Trees.{leaves_in, records_in}
 use Rattle.demands.proofs.Holds.{Free}
 use Rattle.demands.proofs.Sound.{Sound}
 use Rattle.demands.proofs.Opens.{Opens, open-right}
@@ -47,65 +47,65 @@ record Opening (st : State) (marks : List ℕ) : Type 0 where
   was-closed : st.session.opened ≡ false
 
 opening-by : (st : State) (marks : List ℕ) (a b c : Bool)
-    → (openDone st marks (require a wrongSize >> (require b wrongSize >> require c alreadyOpen))).outcome.number ≡ done → (a ≡ true) × (b ≡ true) × (c ≡ true)
-unfolding openDone
+    → (open_done st marks (require a wrong_size >> (require b wrong_size >> require c already_open))).outcome.number ≡ done → (a ≡ true) × (b ≡ true) × (c ≡ true)
+unfolding open_done
 opening-by st marks true true true e = (refl, refl, refl)
 opening-by st marks true true false e = absurd (omega arith)
 opening-by st marks true false c e = absurd (omega arith)
 opening-by st marks false b c e = absurd (omega arith)
 
-opening : (st : State) (marks : List ℕ) → (openFile st marks).outcome.number ≡ done → Opening st marks
-unfolding openFile openChecks sizesOk
+opening : (st : State) (marks : List ℕ) → (open_file st marks).outcome.number ≡ done → Opening st marks
+unfolding open_file open_checks sizes_ok
 opening st marks e =
     let t = opening-by st marks (sized (desc st) (length st.file) (length st.buffer)) (eqb (length marks) (desc st).n) (not st.session.opened) e in
     record { sizes-are = sized-facts (desc st) (length st.file) (length st.buffer) t.0; marks-are = eqb-true _ _ t.1; was-closed = not-true _ t.2 }
 
-pub opens : (st : State) (marks : List ℕ) → (openFile st marks).outcome.number ≡ done → Opens st marks
+pub opens : (st : State) (marks : List ℕ) → (open_file st marks).outcome.number ≡ done → Opens st marks
 opens st marks e = let o = opening st marks e in open-right st marks o.sizes-are.good o.sizes-are.file-is o.sizes-are.buffer-is o.marks-are
     o.was-closed e
 
 -- it keeps the parameters
-pub opened-desc : (st : State) (marks : List ℕ) → (openFile st marks).outcome.number ≡ done → desc (openFile st marks).outcome.after ≡ desc st
+pub opened-desc : (st : State) (marks : List ℕ) → (open_file st marks).outcome.number ≡ done → desc (open_file st marks).outcome.after ≡ desc st
 unfolding answer
-opened-desc st marks o = same-parameters st (openingWith marks)
+opened-desc st marks o = same-parameters st (opening_with marks)
 
 -- ---- demand 3
 
 -- CREATE that answers 0 writes the file anew
 create-file : (p : Description) (f : List ℕ) → (create p f).number ≡ done → (create p f).file ≡ created p
 unfolding create
-create-file p f = go (goodParams p && eqb (length f) (fileSize p))
+create-file p f = go (good_params p && eqb (length f) (file_size p))
   where
-    go : (t : Bool) → (cond {A = Created} t (record { number = done; file = created p }) (record { number = wrongSize; file = f })).number ≡ done
-        → (cond {A = Created} t (record { number = done; file = created p }) (record { number = wrongSize; file = f })).file ≡ created p
+    go : (t : Bool) → (cond {A = Created} t (record { number = done; file = created p }) (record { number = wrong_size; file = f })).number ≡ done
+        → (cond {A = Created} t (record { number = done; file = created p }) (record { number = wrong_size; file = f })).file ≡ created p
     go true e = refl
     go false e = absurd (omega arith)
 
-pub fresh-counts : (p : Description) → (counts (leavesIn (freshTree p).sections) ≡ 1 ∷ []) × (sizes (freshTree p).sections ≡ 1 ∷ [])
-unfolding counts sizes freshTree freshSection freshLeaf
+pub fresh-counts : (p : Description) → (counts (leaves_in (fresh_tree p).sections) ≡ 1 ∷ []) × (sizes (fresh_tree p).sections ≡ 1 ∷ [])
+unfolding counts sizes fresh_tree fresh_section fresh_leaf
 fresh-counts p = (refl, refl)
 
 -- the tree that stands in a file just made
 pub made-fresh : (session : Session) (f buffer work marks : List ℕ) → (create session.desc f).number ≡ done
-    → (o : (openFile (lent session (create session.desc f).file buffer work) marks).outcome.number ≡ done)
-    → (opens (lent session (create session.desc f).file buffer work) marks o).tree ≡ freshTree session.desc
+    → (o : (open_file (lent session (create session.desc f).file buffer work) marks).outcome.number ≡ done)
+    → (opens (lent session (create session.desc f).file buffer work) marks o).tree ≡ fresh_tree session.desc
 made-fresh session f buffer work marks c o =
     let st : State = lent session (create session.desc f).file buffer work in
     let z : Opens st marks = opens st marks o in
     let p : Description = session.desc in
-    let good : goodParams p ≡ true = (opening st marks o).sizes-are.good in
-    one-tree p (created p) z.tree (freshTree p) good (subst (λ (x : List ℕ). Holds p x z.tree) (create-file p f c) z.stands) (create-opens p good)
+    let good : good_params p ≡ true = (opening st marks o).sizes-are.good in
+    one-tree p (created p) z.tree (fresh_tree p) good (subst (λ (x : List ℕ). Holds p x z.tree) (create-file p f c) z.stands) (create-opens p good)
 
 -- what holds of a run that began with nothing brought
 pub after-create : (P : State → List Request → Type 0) → ((st : State) (qs : List Request) → formula.Ran (desc st) st qs nothing → P st qs) → AfterCreate P
 after-create =
     formula.within-create stepped λ session f buffer work marks c o.
     let z : Opens _ marks = opens (lent session (create session.desc f).file buffer work) marks o in
-    let is : z.tree ≡ freshTree session.desc = made-fresh session f buffer work marks c o in (
+    let is : z.tree ≡ fresh_tree session.desc = made-fresh session f buffer work marks c o in (
       z.tree.sections,
       _,
       z.sound,
-      ap (λ (t : Tree). counts (leavesIn t.sections)) is ∙ (fresh-counts session.desc).0,
+      ap (λ (t : Tree). counts (leaves_in t.sections)) is ∙ (fresh-counts session.desc).0,
       ap (λ (t : Tree). sizes t.sections) is ∙ (fresh-counts session.desc).1,
     )
 
@@ -121,10 +121,10 @@ pub found-after-open : FoundExactly
 found-after-open st marks o t h qs w u =
     let z : Opens st marks = opens st marks o in
     let p : Description = desc st in
-    let good : goodParams p ≡ true = (opening st marks o).sizes-are.good in
+    let good : good_params p ≡ true = (opening st marks o).sizes-are.good in
     let is : z.tree ≡ t = one-tree p st.file z.tree t good z.stands h in
-    let c : recordsIn (leavesIn z.tree.sections) ≡ lay.contents t = ap lay.contents is in
-    let s : State = (openFile st marks).outcome.after in
+    let c : records_in (leaves_in z.tree.sections) ≡ lay.contents t = ap lay.contents is in
+    let s : State = (open_file st marks).outcome.after in
     found s z.tree.sections _ z.sound qs w u
-    ∙ ap (λ (d : Description). standing d (keyIn d w) (events s qs) (withKey d (keyIn d w) (recordsIn (leavesIn z.tree.sections)))) (opened-desc st marks o)
-    ∙ ap (λ (rows : List (List ℕ)). standing p (keyIn p w) (events s qs) (withKey p (keyIn p w) rows)) c
+    ∙ ap (λ (d : Description). standing d (key_in d w) (events s qs) (with_key d (key_in d w) (records_in (leaves_in z.tree.sections)))) (opened-desc st marks o)
+    ∙ ap (λ (rows : List (List ℕ)). standing p (key_in p w) (events s qs) (with_key p (key_in p w) rows)) c

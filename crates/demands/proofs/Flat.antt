@@ -6,7 +6,7 @@ use lib.ListN.{length, take, length-append, length-replicate, replicate-append-r
 use native.Mathlib.Omega.{arith}
 use Rattle.words.specs.Words.{zeros}
 use Rattle.table.specs.declared.Shape.{Shape}
-use Rattle.table.specs.Tables.{count, key_at, blockIn, inserted, removed, replaced}
+use Rattle.table.specs.Tables.{count, key_at, block_in, inserted, removed, replaced}
 use Rattle.table.specs.Splits.{entered}
 use Rattle.table.specs.Rows.{encode}
 use Rattle.table.proofs.Rows.{key-encode, entry-block}
@@ -50,7 +50,7 @@ module _ (h : Shape) (front : List ℕ) (eb : h.base ≡ suc (length front)) (pl
 
   -- entries: a key, and the block that it bounds
   module _ (w : List ℕ) (b : ℕ) (hw : length w ≡ h.width) (cs : List (List ℕ)) (z : ℕ) (rest : List ℕ) where
-    pub block-tab : h.stride ≡ h.width + 1 → blockIn h (tab front (bs ++ (w ++ (b ∷ [])) ∷ cs) z rest) (length bs) ≡ b
+    pub block-tab : h.stride ≡ h.width + 1 → block_in h (tab front (bs ++ (w ++ (b ∷ [])) ∷ cs) z rest) (length bs) ≡ b
     unfolding tab encode
     block-tab hs = entry-block h (length (bs ++ (w ++ (b ∷ [])) ∷ cs) ∷ front) eb hs bs hb w hw b cs (zeros z ++ rest)
 

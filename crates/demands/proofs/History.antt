@@ -113,10 +113,10 @@ module _ {A : Type 0} (key : A → ℕ) where
   happened-append (e ∷ es) gs c = happened-append es gs (happen e c)
 
   -- what stands at the key k, where d stood: none, or the record last put in under it
-  unfoldable pub lastPut : ℕ → List (Change A) → List A → List A
-  lastPut k [] d = d
-  lastPut k (puts r ∷ es) d = lastPut k es (cond (eqb (key r) k) (r ∷ []) d)
-  lastPut k (drops x ∷ es) d = lastPut k es (cond (eqb x k) [] d)
+  unfoldable pub last_put : ℕ → List (Change A) → List A → List A
+  last_put k [] d = d
+  last_put k (puts r ∷ es) d = last_put k es (cond (eqb (key r) k) (r ∷ []) d)
+  last_put k (drops x ∷ es) d = last_put k es (cond (eqb x k) [] d)
 
   -- no event is at the key `top` or above it
   abbrev pub KeyedBy : ℕ → List (Change A) → Type 0
@@ -141,12 +141,12 @@ module _ {A : Type 0} (key : A → ℕ) where
 
   -- after any events what is found at a key is what stands there
   pub found-exactly : (top : ℕ) (es : List (Change A)) (c : List A) → Asc key 0 c top → KeyedBy top es
-      → (k : ℕ) → k < top → hit key k (happened es c) ≡ lastPut k es (hit key k c)
-  unfolding happened lastPut happen
+      → (k : ℕ) → k < top → hit key k (happened es c) ≡ last_put k es (hit key k c)
+  unfolding happened last_put happen
   found-exactly top [] c h ok k v = refl
   found-exactly top (puts r ∷ es) c h ok k v =
       found-exactly top es (upd key r c) (asc-upd key 0 r c top h (omega arith) ok.0) ok.1 k v
-      ∙ ap (lastPut k es) (at_stored top k r c h ok.0 v)
+      ∙ ap (last_put k es) (at_stored top k r c h ok.0 v)
   found-exactly top (drops x ∷ es) c h ok k v =
       found-exactly top es (del key x c) (asc-del key 0 x c top h (omega arith) ok.0) ok.1 k v
-      ∙ ap (lastPut k es) (at-removed top k x c h ok.0 v)
+      ∙ ap (last_put k es) (at-removed top k x c h ok.0 v)

@@ -7,15 +7,15 @@ use native.Mathlib.Omega.{arith}
 use lib.Dec.{leb}
 use lib.ListN.{length}
 use Rattle.drum.specs.declared.Description.{Description}
-use Rattle.drum.specs.Blocks.{freeText}
-use Rattle.drum.specs.Params.{D, I, masterSize}
+use Rattle.drum.specs.Blocks.{free_text}
+use Rattle.drum.specs.Params.{D, I, master_size}
 use Rattle.words.specs.Keys.{ones, val}
-use Rattle.words.specs.Words.{zeros, allWords}
+use Rattle.words.specs.Words.{zeros, all_words}
 use Rattle.demands.proofs.Lists.{All, all_append, all_left, all_right}
 use Rattle.demands.proofs.Rows.{tab}
-use Rattle.demands.proofs.Cells.{Cell, bit, weigh-append, SameCells, cellTimes, Agree, wrotes, rewrite-agree, rewrite-times}
+use Rattle.demands.proofs.Cells.{Cell, bit, weigh-append, SameCells, cell_times, Agree, wrotes, rewrite-agree, rewrite-times}
 use Rattle.layout.specs.Tree.{Leaf, Section}
-use Rattle.demands.proofs.Trees.{leavesIn, leavesIn-append, reach, Ranged, ranged-swap, reach-swap, cells_of, cells-append}
+use Rattle.demands.proofs.Trees.{leaves_in, leaves_in-append, reach, Ranged, ranged-swap, reach-swap, cells_of, cells-append}
 
 -- the blocks not in use: the chain, and the lowest number never used with how many there are from it on
 pub record Free : Type 0 where
@@ -27,9 +27,9 @@ abbrev pub head_or : List ℕ → ℕ → ℕ
 head_or [] d = d
 head_or (c ∷ cs) d = c
 
-abbrev pub lastBound : List ℕ → List Leaf → List ℕ
-lastBound d [] = d
-lastBound d (l ∷ ls) = lastBound l.bound ls
+abbrev pub last_bound : List ℕ → List Leaf → List ℕ
+last_bound d [] = d
+last_bound d (l ∷ ls) = last_bound l.bound ls
 
 -- 1 for the number of a block of the file, else 0
 unfoldable pub inside : ℕ → ℕ → ℕ
@@ -45,29 +45,29 @@ inside-le n b = go (leb 1 b && leb b n)
 
 -- "none is above 262143"
 abbrev pub Wide : List ℕ → Type 0
-Wide ws = allWords ws ≡ true
+Wide ws = all_words ws ≡ true
 
 module _ (p : Description) where
-  abbrev pub chainCells : List ℕ → List Cell
-  chainCells [] = []
-  chainCells (c ∷ cs) = (c, freeText p (head_or cs 0)) ∷ chainCells cs
+  abbrev pub chain_cells : List ℕ → List Cell
+  chain_cells [] = []
+  chain_cells (c ∷ cs) = (c, free_text p (head_or cs 0)) ∷ chain_cells cs
 
-  abbrev pub freshCells : ℕ → ℕ → List Cell
-  freshCells f zero = []
-  freshCells f (suc n) = (f, zeros p.wpb) ∷ freshCells (f + 1) n
+  abbrev pub fresh_cells : ℕ → ℕ → List Cell
+  fresh_cells f zero = []
+  fresh_cells f (suc n) = (f, zeros p.wpb) ∷ fresh_cells (f + 1) n
 
-  unfoldable pub freeCells : Free → List Cell
-  freeCells f = chainCells f.chain ++ freshCells f.lowest f.spare
+  unfoldable pub free_cells : Free → List Cell
+  free_cells f = chain_cells f.chain ++ fresh_cells f.lowest f.spare
 
-  unfoldable pub masterEntry : Section → List ℕ
-  masterEntry s = lastBound [] s.leaves ++ (s.block ∷ [])
+  unfoldable pub master_entry : Section → List ℕ
+  master_entry s = last_bound [] s.leaves ++ (s.block ∷ [])
 
   -- the master's words: of the entries, and of words 1 and 2
-  unfoldable pub masterWords : List (List ℕ) → ℕ → ℕ → List ℕ
-  masterWords rows head lowest = tab (head ∷ lowest ∷ []) rows (masterSize p - (3 + length rows * (p.k + 1))) []
+  unfoldable pub master_words : List (List ℕ) → ℕ → ℕ → List ℕ
+  master_words rows head lowest = tab (head ∷ lowest ∷ []) rows (master_size p - (3 + length rows * (p.k + 1))) []
 
-  unfoldable pub masterFor : List Section → Free → List ℕ
-  masterFor ss f = masterWords (map masterEntry ss) (head_or f.chain 0) f.lowest
+  unfoldable pub master_for : List Section → Free → List ℕ
+  master_for ss f = master_words (map master_entry ss) (head_or f.chain 0) f.lowest
 
   abbrev pub RowOk : List ℕ → Type 0
   RowOk r = (length r ≡ p.wpr) × Wide r
@@ -85,11 +85,11 @@ module _ (p : Description) where
     pub leaves : All LeafFits s.leaves
 
   pub record HoldsCells (master : List ℕ) (text : ℕ → List ℕ) (ss : List Section) (f : Free) : Type 0 where
-    pub master-is : master ≡ masterFor ss f
-    pub agree : Agree text (cells_of p ss ++ freeCells f)
-    pub once : (b : ℕ) → cellTimes b (cells_of p ss ++ freeCells f) ≡ inside p.n b
-    pub ranged : Ranged p.k 0 (leavesIn ss)
-    pub top : reach p.k 0 (leavesIn ss) ≡ suc (val (ones p.k))
+    pub master-is : master ≡ master_for ss f
+    pub agree : Agree text (cells_of p ss ++ free_cells f)
+    pub once : (b : ℕ) → cell_times b (cells_of p ss ++ free_cells f) ≡ inside p.n b
+    pub ranged : Ranged p.k 0 (leaves_in ss)
+    pub top : reach p.k 0 (leaves_in ss) ≡ suc (val (ones p.k))
     pub sized : All SectionOk ss
     pub sections : length ss ≤ p.control
     pub numbers : f.lowest + f.spare ≡ suc p.n
@@ -98,27 +98,27 @@ module _ (p : Description) where
 
   module _ (bs ms cs : List Section) (f : Free) (master : List ℕ) (text : ℕ → List ℕ) (h : HoldsCells master text (bs ++ (ms ++ cs)) f) where
     pub region : (ms' : List Section) (f' : Free) (old keep ws : List Cell)
-        → SameCells (cells_of p ms ++ freeCells f) (old ++ keep) → SameCells (cells_of p ms' ++ freeCells f') (ws ++ keep)
-        → ((b : ℕ) → cellTimes b ws ≡ cellTimes b old)
-        → Ranged p.k (reach p.k 0 (leavesIn bs)) (leavesIn ms')
-        → reach p.k (reach p.k 0 (leavesIn bs)) (leavesIn ms') ≡ reach p.k (reach p.k 0 (leavesIn bs)) (leavesIn ms)
+        → SameCells (cells_of p ms ++ free_cells f) (old ++ keep) → SameCells (cells_of p ms' ++ free_cells f') (ws ++ keep)
+        → ((b : ℕ) → cell_times b ws ≡ cell_times b old)
+        → Ranged p.k (reach p.k 0 (leaves_in bs)) (leaves_in ms')
+        → reach p.k (reach p.k 0 (leaves_in bs)) (leaves_in ms') ≡ reach p.k (reach p.k 0 (leaves_in bs)) (leaves_in ms)
         → All SectionOk ms' → length (bs ++ (ms' ++ cs)) ≤ p.control → f'.lowest + f'.spare ≡ f.lowest + f.spare
-        → HoldsCells (masterFor (bs ++ (ms' ++ cs)) f') (wrotes text ws) (bs ++ (ms' ++ cs)) f'
+        → HoldsCells (master_for (bs ++ (ms' ++ cs)) f') (wrotes text ws) (bs ++ (ms' ++ cs)) f'
     region ms' f' old keep ws was will moved g e ok sec num =
         let W : Description = p in
         let others : List Cell = cells_of W bs ++ cells_of W cs in
-        let now : SameCells (cells_of W (bs ++ (ms ++ cs)) ++ freeCells f) (old ++ (keep ++ others))
-        = λ w. simp (cells-append, weigh-append) (omega (arith, weigh-append w (cells_of W ms) (freeCells f), weigh-append w old keep, was w)) in
-        let then : SameCells (cells_of W (bs ++ (ms' ++ cs)) ++ freeCells f') (ws ++ (keep ++ others))
-        = λ w. simp (cells-append, weigh-append) (omega (arith, weigh-append w (cells_of W ms') (freeCells f'), weigh-append w ws keep, will w)) in
-        let split : leavesIn (bs ++ (ms ++ cs)) ≡ leavesIn bs ++ (leavesIn ms ++ leavesIn cs) = simp leavesIn-append in
-        let split' : leavesIn (bs ++ (ms' ++ cs)) ≡ leavesIn bs ++ (leavesIn ms' ++ leavesIn cs) = simp leavesIn-append in
+        let now : SameCells (cells_of W (bs ++ (ms ++ cs)) ++ free_cells f) (old ++ (keep ++ others))
+        = λ w. simp (cells-append, weigh-append) (omega (arith, weigh-append w (cells_of W ms) (free_cells f), weigh-append w old keep, was w)) in
+        let then : SameCells (cells_of W (bs ++ (ms' ++ cs)) ++ free_cells f') (ws ++ (keep ++ others))
+        = λ w. simp (cells-append, weigh-append) (omega (arith, weigh-append w (cells_of W ms') (free_cells f'), weigh-append w ws keep, will w)) in
+        let split : leaves_in (bs ++ (ms ++ cs)) ≡ leaves_in bs ++ (leaves_in ms ++ leaves_in cs) = simp leaves_in-append in
+        let split' : leaves_in (bs ++ (ms' ++ cs)) ≡ leaves_in bs ++ (leaves_in ms' ++ leaves_in cs) = simp leaves_in-append in
         record {
           master-is = refl;
           agree = rewrite-agree text _ _ old (keep ++ others) ws now then moved (λ b. omega (arith, h.once b, inside-le p.n b)) h.agree;
           once = λ b. rewrite-times text _ _ old (keep ++ others) ws now then moved b ∙ h.once b;
-          ranged = rw split' (ranged-swap p.k 0 (leavesIn bs) (leavesIn ms) (leavesIn ms') (leavesIn cs) (rw split at h.ranged) g e);
-          top = rw split' (reach-swap p.k 0 (leavesIn bs) (leavesIn ms) (leavesIn ms') (leavesIn cs) e ∙ rw split at h.top);
+          ranged = rw split' (ranged-swap p.k 0 (leaves_in bs) (leaves_in ms) (leaves_in ms') (leaves_in cs) (rw split at h.ranged) g e);
+          top = rw split' (reach-swap p.k 0 (leaves_in bs) (leaves_in ms) (leaves_in ms') (leaves_in cs) e ∙ rw split at h.top);
           sized =
               all_append SectionOk bs _ (all_left SectionOk bs _ h.sized)
               (all_append SectionOk ms' _ ok (all_right SectionOk ms _ (all_right SectionOk bs _ h.sized)));

@@ -13,12 +13,12 @@ use Rattle.words.proofs.Parts.{length_part, length-put}
 use Rattle.drum.specs.Blocks.{writes, block_at, Fitting, Block}
 use Rattle.drum.proofs.Good.{caps, sized-facts}
 use Rattle.drum.proofs.Written.{length-written, only-written}
-use Rattle.layout.specs.Inspect.{layoutMarks}
-use Rattle.rules.specs.State.{Session, State, Outcome, Effect, desc, texts, keyIn, holding, positioned, atRest, outcome, unchanged, settle}
-use Rattle.rules.specs.Checks.{sizesOk, workOk, isOpen, keyedCall}
-use Rattle.rules.specs.Lookup.{flushOk, flushMoves}
-use Rattle.rules.specs.Open.{openChecks, openLayout, openDone, openFile}
-use Rattle.rules.specs.Close.{closeChecks, closeDone, close}
+use Rattle.layout.specs.Inspect.{layout_marks}
+use Rattle.rules.specs.State.{Session, State, Outcome, Effect, desc, texts, key_in, holding, positioned, at_rest, outcome, unchanged, settle}
+use Rattle.rules.specs.Checks.{sizes_ok, work_ok, is_open, keyed_call}
+use Rattle.rules.specs.Lookup.{flush_ok, flush_moves}
+use Rattle.rules.specs.Open.{open_checks, open_layout, open_done, open_file}
+use Rattle.rules.specs.Close.{close_checks, close_done, close}
 use Rattle.rules.specs.Seek.{seek, updat}
 use Rattle.rules.specs.Adv.{adv}
 use Rattle.rules.specs.NsertDone.{nsert}
@@ -50,21 +50,21 @@ record Held (st : State) (e : Effect) : Type 0 where
   file : length e.file ≡ length st.file
   buffer : length e.buffer ≡ length st.buffer
   work : length e.work ≡ length st.work
-  key : length st.session.position ≡ 63 → length (put st.session.position 0 (keyIn (desc st) e.work)) ≡ 63
+  key : length st.session.position ≡ 63 → length (put st.session.position 0 (key_in (desc st) e.work)) ≡ 63
   only : (b : ℕ) → Block (desc st) b → writes e.transfers b ≡ false → block_at (desc st) e.file b ≡ block_at (desc st) st.file b
 
 abbrev Fits : State → Type 0
 Fits st = Fitting (desc st) st.file st.buffer
 
-fitting : (st : State) (a : Bool) → sizesOk st ≡ passed a → Fits st
-unfolding sizesOk
+fitting : (st : State) (a : Bool) → sizes_ok st ≡ passed a → Fits st
+unfolding sizes_ok
 fitting st a e =
-    let s = sized-facts (desc st) (length st.file) (length st.buffer) (required _ number_is.wrongSize a e) in
+    let s = sized-facts (desc st) (length st.file) (length st.buffer) (required _ number_is.wrong_size a e) in
     record { good = s.good; file-is = s.file-is; buffer-is = s.buffer-is }
 
-lent-work : (st : State) (a : Bool) → workOk st ≡ passed a → length st.work ≡ (desc st).wpr
-unfolding workOk
-lent-work st a e = eqb-true (length st.work) (desc st).wpr (required _ number_is.wrongSize a e)
+lent-work : (st : State) (a : Bool) → work_ok st ≡ passed a → length st.work ≡ (desc st).wpr
+unfolding work_ok
+lent-work st a e = eqb-true (length st.work) (desc st).wpr (required _ number_is.wrong_size a e)
 
 module _ (st : State) where
   held : (e : Effect) → Fits st → length st.work ≡ (desc st).wpr → Kept (texts st) e → Held st e
@@ -76,7 +76,7 @@ module _ (st : State) where
         let g = (caps (desc st) f.good).facts in
         let x = k.work-is in
         let l = length_part 0 (desc st).k e.work (omega arith) in
-        length-put st.session.position 0 (keyIn (desc st) e.work) (omega arith) ∙ h;
+        length-put st.session.position 0 (key_in (desc st) e.work) (omega arith) ∙ h;
     only = k.only;
   }
 
@@ -88,7 +88,7 @@ module _ (st : State) where
       buffer = h.buffer;
       work = h.work;
       position =
-          λ l. go e.keyed (positioned (keyIn (desc st) e.work) (holding e.current e.flag st.session))
+          λ l. go e.keyed (positioned (key_in (desc st) e.work) (holding e.current e.flag st.session))
           (holding e.current e.flag st.session) (h.key l) l;
     };
     only = h.only;
@@ -105,67 +105,67 @@ module _ (st : State) where
 
   -- the steps, behind the refusals
   module _ (c : Checked Effect) (steps : Fits st → length st.work ≡ (desc st).wpr → Passed (Kept (texts st)) c) where
-    after : (a b : Bool) → sizesOk st ≡ passed a → workOk st ≡ passed b → Passed (Held st) c
+    after : (a b : Bool) → sizes_ok st ≡ passed a → work_ok st ≡ passed b → Passed (Held st) c
     after a b e g =
         let f = fitting st a e in
         let w = lent-work st b g in
         record { holds = λ x q. held x f w ((steps f w).holds x q) }
 
-    keyed : (reads : ℕ) → Sure st (keyedCall reads st c)
+    keyed : (reads : ℕ) → Sure st (keyed_call reads st c)
     keyed reads = settled _ (search (chain, after) depth 9)
 
     unkeyed : Sure st (settle st do
-      sizesOk st
-      workOk st
-      isOpen st
+      sizes_ok st
+      work_ok st
+      is_open st
       c)
     unkeyed = settled _ (search (chain, after) depth 9)
 
-  open-sure : (marks : List ℕ) → Sure st (openFile st marks).outcome
-  unfolding openFile openDone openLayout atRest
-  open-sure marks = go (openChecks st marks)
+  open-sure : (marks : List ℕ) → Sure st (open_file st marks).outcome
+  unfolding open_file open_done open_layout at_rest
+  open-sure marks = go (open_checks st marks)
     where
-      walk : (c : Checked (List ℕ)) → Sure st (openLayout st c).outcome
+      walk : (c : Checked (List ℕ)) → Sure st (open_layout st c).outcome
       walk (refused n) = sure-refused st n
       walk (passed ms) =
           record { lengths = record { file = refl; buffer = refl; work = refl; position = λ e. length-replicate {A = ℕ} 63 0 }; only = λ b k e. refl }
 
-      go : (c : Checked Bool) → Sure st (openDone st marks c).outcome
+      go : (c : Checked Bool) → Sure st (open_done st marks c).outcome
       go (refused n) = sure-refused st n
-      go (passed x) = walk (layoutMarks (desc st) st.file)
+      go (passed x) = walk (layout_marks (desc st) st.file)
 
   -- what CLOSE has passed
   record Closing (x : Bool) : Type 0 where
     fits : Fits st
     due : FlushFits (texts st) st.session.flag
 
-  closing-fits : (a x : Bool) → sizesOk st ≡ passed a → require (flushOk (texts st) st.session.flag) number_is.badFile ≡ passed x → Closing x
+  closing-fits : (a x : Bool) → sizes_ok st ≡ passed a → require (flush_ok (texts st) st.session.flag) number_is.bad_file ≡ passed x → Closing x
   closing-fits a x e g = record { fits = fitting st a e; due = flush-due (texts st) st.session.flag x g }
 
-  close-checked : Passed Closing (closeChecks st)
-  unfolding closeChecks
+  close-checked : Passed Closing (close_checks st)
+  unfolding close_checks
   close-checked = search (chain, last)
     where
-      last : (a : Bool) → sizesOk st ≡ passed a → Passed Closing (require (flushOk (texts st) st.session.flag) number_is.badFile)
+      last : (a : Bool) → sizes_ok st ≡ passed a → Passed Closing (require (flush_ok (texts st) st.session.flag) number_is.bad_file)
       last a e = record { holds = λ x h. closing-fits a x e h }
 
   close-sure : Sure st (close st)
-  unfolding close closeDone atRest
-  close-sure = go (closeChecks st) close-checked
+  unfolding close close_done at_rest
+  close-sure = go (close_checks st) close-checked
     where
-      go : (c : Checked Bool) → Passed Closing c → Sure st (closeDone st c)
+      go : (c : Checked Bool) → Passed Closing c → Sure st (close_done st c)
       go (refused n) p = sure-refused st n
       go (passed x) p =
           let q = p.holds x refl in
           let m = flush-moves (texts st) q.fits st.session.flag q.due in
           record {
             lengths = record {
-              file = length-written (desc st) st.file q.fits.file-is (flushMoves (texts st) st.session.flag) m ∙ sym q.fits.file-is;
+              file = length-written (desc st) st.file q.fits.file-is (flush_moves (texts st) st.session.flag) m ∙ sym q.fits.file-is;
               buffer = refl;
               work = refl;
               position = λ e. length-replicate {A = ℕ} 63 0;
             };
-            only = only-written (desc st) st.file q.fits.file-is (flushMoves (texts st) st.session.flag) m;
+            only = only-written (desc st) st.file q.fits.file-is (flush_moves (texts st) st.session.flag) m;
           }
 
 -- every call, on every state

@@ -10,26 +10,26 @@ use lib.ListN.{length, length-append}
 use borrow.Author.Tests.{lt-ltb, le-ltb}
 use Rattle.numbers.specs.Checked.{Checked, passed, ◌>>=◌, ◌>>◌, within}
 use Rattle.words.specs.Keys.{val}
-use Rattle.table.specs.Tables.{count, rowWith}
+use Rattle.table.specs.Tables.{count, row_with}
 use Rattle.drum.specs.declared.Description.{Description}
-use Rattle.drum.specs.Params.{detailShape}
+use Rattle.drum.specs.Params.{detail_shape}
 use Rattle.drum.specs.Blocks.{Texts, text_of}
 use Rattle.drum.proofs.Good.{good-facts}
 use Rattle.rules.specs.declared.Way.{Way}
 use Rattle.rules.specs.declared.Way.TheVariants.{Here, By}
 use Rattle.rules.specs.declared.Look.TheVariants.{Found, Missing}
-use Rattle.rules.specs.Paths.{pathTo}
-use Rattle.rules.specs.Lookup.{onBuffer, inBuffer, lookOutside, look}
-use Rattle.demands.proofs.Rows.{firstIn}
+use Rattle.rules.specs.Paths.{path_to}
+use Rattle.rules.specs.Lookup.{on_buffer, in_buffer, look_outside, look}
+use Rattle.demands.proofs.Rows.{first_in}
 use Rattle.demands.proofs.Order.{Asc, asc-le, hit}
 use Rattle.layout.specs.Tree.{Section}
-use Rattle.demands.proofs.Trees.{leavesIn, recordsIn, key, bd, table}
+use Rattle.demands.proofs.Trees.{leaves_in, records_in, key, bd, table}
 use Rattle.demands.proofs.Holds.{Free, HoldsCells}
-use Rattle.demands.proofs.Locate.{Located, locate, covered, secBd}
+use Rattle.demands.proofs.Locate.{Located, locate, covered, sec_bd}
 use Rattle.demands.proofs.Places.{Place, tree_of, olds, lo, hi, Spot, leaf-text, leaf-ok, asc-leaf, hit-here}
 use Rattle.demands.proofs.Texts.{count-table}
-use Rattle.demands.proofs.Blocks.{masterOf, behind}
-use Rattle.demands.proofs.Paths.{pathOf, path-to}
+use Rattle.demands.proofs.Blocks.{master_of, behind}
+use Rattle.demands.proofs.Paths.{path_of, path-to}
 use Rattle.demands.proofs.Records.{AtKey, missing, present, at_key, cut-front, cut-back, hit-at}
 use Rattle.demands.proofs.Sound.{Key, KeptTree, buffer-leaf}
 use Rattle.demands.proofs.Reach.{some-leaves, At, buffer-none, buffer-some, flush-pass, at_here, at-by}
@@ -38,15 +38,15 @@ use Rattle.demands.proofs.Reach.{some-leaves, At, buffer-none, buffer-some, flus
 pub record Covers (v : Texts) (w : List ℕ) (a : Place) : Type 0 where
   pub above : lo v.desc a ≤ val w
   pub within : val w < hi v.desc a
-  pub path-is : pathTo v w ≡ passed (pathOf a)
+  pub path-is : path_to v w ≡ passed (path_of a)
 
 -- the key in the block that the lookup comes to, and in the contents
 pub data Looked (v : Texts) (flag : Bool) (w : List ℕ) (ss : List Section) (f : Free) : Type 0 where
-  absent : (a : Place) → At v flag ss f a (By (pathOf a)) → Covers v w a → hit (key v.desc.k) (val w) (recordsIn (leavesIn ss)) ≡ []
-      → hit (key v.desc.k) (val w) a.leaf.records ≡ [] → look v flag w ≡ passed (Missing (pathOf a)) → Looked v flag w ss f
+  absent : (a : Place) → At v flag ss f a (By (path_of a)) → Covers v w a → hit (key v.desc.k) (val w) (records_in (leaves_in ss)) ≡ []
+      → hit (key v.desc.k) (val w) a.leaf.records ≡ [] → look v flag w ≡ passed (Missing (path_of a)) → Looked v flag w ss f
   there : (a : Place) (way : Way) → At v flag ss f a way → Covers v w a → (bs : List (List ℕ)) (r : List ℕ) (cs : List (List ℕ))
       → a.leaf.records ≡ bs ++ r ∷ cs → key v.desc.k r ≡ val w
-      → hit (key v.desc.k) (val w) (recordsIn (leavesIn ss)) ≡ r ∷ [] → look v flag w ≡ passed (Found way (length bs)) → Looked v flag w ss f
+      → hit (key v.desc.k) (val w) (records_in (leaves_in ss)) ≡ r ∷ [] → look v flag w ≡ passed (Found way (length bs)) → Looked v flag w ss f
 
 module _ (v : Texts) (flag : Bool) (ss : List Section) (f : Free) (h : KeptTree v flag ss f) (w : List ℕ) (kw : Key v.desc w) where
   abbrev p : Description
@@ -55,18 +55,18 @@ module _ (v : Texts) (flag : Bool) (ss : List Section) (f : Free) (h : KeptTree 
   kr : p.k ≤ p.wpr
   kr = (good-facts p h.good).key
 
-  module _ (a : Place) (hz : HoldsCells p (masterOf p v.file) (text_of v) (tree_of a) f) where
+  module _ (a : Place) (hz : HoldsCells p (master_of p v.file) (text_of v) (tree_of a) f) where
     cover : lo p a ≤ val w → val w < hi p a → Covers v w a
     unfolding bd
     cover l u =
-        let places : (firstIn (λ s. leb (val w) (secBd p.k s)) (tree_of a) ≡ length a.before) ×
-        (firstIn (λ m. leb (val w) (bd p.k m)) (olds a) ≡ length a.low)
+        let places : (first_in (λ s. leb (val w) (sec_bd p.k s)) (tree_of a) ≡ length a.before) ×
+        (first_in (λ m. leb (val w) (bd p.k m)) (olds a) ≡ length a.low)
         = covered p.k a.before a.index a.low a.leaf a.high a.behind (val w) (some-leaves p (tree_of a) hz.sized) hz.ranged l
         (omega arith) in
         record { above = l; within = u; path-is = path-to v a f hz w kw.wide kw.long places.0 places.1 }
 
     -- the block's own search
-    search : AtKey p.k (val w) a.leaf.records (rowWith (detailShape p) w (table (detailShape p) p.wpb a.leaf.records))
+    search : AtKey p.k (val w) a.leaf.records (row_with (detail_shape p) w (table (detail_shape p) p.wpb a.leaf.records))
     search = at_key p kr a.leaf.records (leaf-ok p a f _ (text_of v) hz).rows w kw.wide kw.long
 
     hit-in : (bs : List (List ℕ)) (r : List ℕ) (cs : List (List ℕ)) → a.leaf.records ≡ bs ++ r ∷ cs → key p.k r ≡ val w
@@ -80,54 +80,54 @@ module _ (v : Texts) (flag : Bool) (ss : List Section) (f : Free) (h : KeptTree 
         )
 
   -- the block is brought
-  goes : Located p.k ss (val w) → inBuffer v w ≡ passed false → Looked v flag w ss f
-  unfolding look lookOutside
+  goes : Located p.k ss (val w) → in_buffer v w ≡ passed false → Looked v flag w ss f
+  unfolding look look_outside
   goes c e = go (search a hz)
     where
       a : Place
       a = record { before = c.before; index = c.index; low = c.low; leaf = c.leaf; high = c.high; behind = c.behind }
 
-      A : At v flag ss f a (By (pathOf a))
+      A : At v flag ss f a (By (path_of a))
       A = at-by v flag ss f h a c.is
 
-      hz : HoldsCells p (masterOf p v.file) (text_of v) (tree_of a) f
-      hz = subst (λ (z : List Section). HoldsCells p (masterOf p v.file) (text_of v) z f) c.is h.holds
+      hz : HoldsCells p (master_of p v.file) (text_of v) (tree_of a) f
+      hz = subst (λ (z : List Section). HoldsCells p (master_of p v.file) (text_of v) z f) c.is h.holds
 
       C : Covers v w a
       C = cover a hz c.above (omega (arith, c.within))
 
-      t : text_of v a.leaf.block ≡ table (detailShape p) p.wpb a.leaf.records
+      t : text_of v a.leaf.block ≡ table (detail_shape p) p.wpb a.leaf.records
       t = leaf-text p a f _ (text_of v) hz
 
-      whole : hit (key p.k) (val w) (recordsIn (leavesIn ss)) ≡ hit (key p.k) (val w) a.leaf.records
+      whole : hit (key p.k) (val w) (records_in (leaves_in ss)) ≡ hit (key p.k) (val w) a.leaf.records
       whole =
-          ap (λ (z : List Section). hit (key p.k) (val w) (recordsIn (leavesIn z))) c.is ∙ hit-here p a f _ (text_of v) hz (val w) C.above C.within
+          ap (λ (z : List Section). hit (key p.k) (val w) (records_in (leaves_in z))) c.is ∙ hit-here p a f _ (text_of v) hz (val w) C.above C.within
 
       place : ℕ
-      place = rowWith (detailShape p) w (table (detailShape p) p.wpb a.leaf.records)
+      place = row_with (detail_shape p) w (table (detail_shape p) p.wpb a.leaf.records)
 
-      looked : (b : Bool) → ltb place (length a.leaf.records) ≡ b → look v flag w ≡ passed (cond b (Found (By (pathOf a)) place) (Missing (pathOf a)))
+      looked : (b : Bool) → ltb place (length a.leaf.records) ≡ b → look v flag w ≡ passed (cond b (Found (By (path_of a)) place) (Missing (path_of a)))
       looked b g =
-          let i : ltb (rowWith (detailShape p) w (text_of v a.leaf.block)) (count (detailShape v.desc) (text_of v a.leaf.block)) ≡ b
-          = ap (λ (x : List ℕ). ltb (rowWith (detailShape p) w x) (count (detailShape p) x)) t ∙ ap (ltb place) (count-table (detailShape p) p.wpb a.leaf.records) ∙ g in
-          let j : rowWith (detailShape p) w (text_of v a.leaf.block) ≡ place = ap (rowWith (detailShape p) w) t in
+          let i : ltb (row_with (detail_shape p) w (text_of v a.leaf.block)) (count (detail_shape v.desc) (text_of v a.leaf.block)) ≡ b
+          = ap (λ (x : List ℕ). ltb (row_with (detail_shape p) w x) (count (detail_shape p) x)) t ∙ ap (ltb place) (count-table (detail_shape p) p.wpb a.leaf.records) ∙ g in
+          let j : row_with (detail_shape p) w (text_of v a.leaf.block) ≡ place = ap (row_with (detail_shape p) w) t in
           simp (e, C.path-is, flush-pass v flag ss f h)
-          (ap (λ (x : Bool). passed (cond x (Found (By (pathOf a)) (rowWith (detailShape p) w (text_of v a.leaf.block))) (Missing (pathOf a)))) i
-          ∙ ap (λ (n : ℕ). passed (cond b (Found (By (pathOf a)) n) (Missing (pathOf a)))) j)
+          (ap (λ (x : Bool). passed (cond x (Found (By (path_of a)) (row_with (detail_shape p) w (text_of v a.leaf.block))) (Missing (path_of a)))) i
+          ∙ ap (λ (n : ℕ). passed (cond b (Found (By (path_of a)) n) (Missing (path_of a)))) j)
 
       go : AtKey p.k (val w) a.leaf.records place → Looked v flag w ss f
       go (missing i n) = absent a A C (whole ∙ n) n (looked false (le-ltb place (length a.leaf.records) (omega arith)))
       go (present bs r cs q i k) =
-          there a (By (pathOf a)) A C bs r cs q k (whole ∙ (hit-in a hz bs r cs q k).2)
+          there a (By (path_of a)) A C bs r cs q k (whole ∙ (hit-in a hz bs r cs q k).2)
           (looked true (lt-ltb place (length a.leaf.records) (omega (arith, i, ap length q, length-append bs (r ∷ cs)))) ∙ ap
-          (λ (n : ℕ). passed (Found (By (pathOf a)) n)) i)
+          (λ (n : ℕ). passed (Found (By (path_of a)) n)) i)
 
   located : Located p.k ss (val w)
   located = locate p.k ss (val w) (some-leaves p ss h.holds.sized) (rw h.holds.top (omega (arith, kw.below)))
 
   -- the buffer has the key, or it has not
   tries : Spot ss v.current → Looked v flag w ss f
-  unfolding look inBuffer
+  unfolding look in_buffer
   tries s = go (search a hz)
     where
       A : At v flag ss f s.place Here
@@ -136,37 +136,37 @@ module _ (v : Texts) (flag : Bool) (ss : List Section) (f : Free) (h : KeptTree 
       a : Place
       a = s.place
 
-      hz : HoldsCells p (masterOf p v.file) (text_of v) (tree_of a) f
+      hz : HoldsCells p (master_of p v.file) (text_of v) (tree_of a) f
       hz = A.held
 
-      t : v.buffer ≡ table (detailShape p) p.wpb a.leaf.records
+      t : v.buffer ≡ table (detail_shape p) p.wpb a.leaf.records
       t = buffer-leaf v flag ss f h s
 
       place : ℕ
-      place = rowWith (detailShape p) w (table (detailShape p) p.wpb a.leaf.records)
+      place = row_with (detail_shape p) w (table (detail_shape p) p.wpb a.leaf.records)
 
-      tested : (b : Bool) → ltb place (length a.leaf.records) ≡ b → onBuffer v (ltb (rowWith (detailShape p) w v.buffer) (count (detailShape v.desc) v.buffer)) ≡ passed b
+      tested : (b : Bool) → ltb place (length a.leaf.records) ≡ b → on_buffer v (ltb (row_with (detail_shape p) w v.buffer) (count (detail_shape v.desc) v.buffer)) ≡ passed b
       tested b g =
-          buffer-some v flag ss f h s (ltb (rowWith (detailShape p) w v.buffer) (count (detailShape v.desc) v.buffer))
-          ∙ ap passed (ap (λ (x : List ℕ). ltb (rowWith (detailShape p) w x) (count (detailShape p) x)) t ∙ ap (ltb place) (count-table (detailShape p) p.wpb a.leaf.records) ∙ g)
+          buffer-some v flag ss f h s (ltb (row_with (detail_shape p) w v.buffer) (count (detail_shape v.desc) v.buffer))
+          ∙ ap passed (ap (λ (x : List ℕ). ltb (row_with (detail_shape p) w x) (count (detail_shape p) x)) t ∙ ap (ltb place) (count-table (detail_shape p) p.wpb a.leaf.records) ∙ g)
 
       go : AtKey p.k (val w) a.leaf.records place → Looked v flag w ss f
       go (missing i n) = goes located (tested false (le-ltb place (length a.leaf.records) (omega arith)))
       go (present bs r cs q i k) =
           let c : (lo p a ≤ val w) × (val w < hi p a) × (hit (key p.k) (val w) a.leaf.records ≡ r ∷ []) = hit-in a hz bs r cs q k in
           let C : Covers v w a = cover a hz c.0 c.1 in
-          let whole : hit (key p.k) (val w) (recordsIn (leavesIn ss)) ≡ hit (key p.k) (val w) a.leaf.records
-          = ap (λ (z : List Section). hit (key p.k) (val w) (recordsIn (leavesIn z))) s.is
+          let whole : hit (key p.k) (val w) (records_in (leaves_in ss)) ≡ hit (key p.k) (val w) a.leaf.records
+          = ap (λ (z : List Section). hit (key p.k) (val w) (records_in (leaves_in z))) s.is
           ∙ hit-here p a f _ (text_of v) hz (val w) C.above C.within in
           there a Here A C bs r cs q k (whole ∙ c.2)
-          (ap (λ (m : Checked Bool). m >>= (λ here. cond here (passed (Found Here (rowWith (detailShape p) w v.buffer))) (lookOutside v flag w)))
+          (ap (λ (m : Checked Bool). m >>= (λ here. cond here (passed (Found Here (row_with (detail_shape p) w v.buffer))) (look_outside v flag w)))
           (tested true (lt-ltb place (length a.leaf.records) (omega (arith, i, ap length q, length-append bs (r ∷ cs)))))
-          ∙ ap (λ (n : ℕ). passed (Found Here n)) (ap (rowWith (detailShape p) w) t ∙ i))
+          ∙ ap (λ (n : ℕ). passed (Found Here n)) (ap (row_with (detail_shape p) w) t ∙ i))
 
   pub looks : Looked v flag w ss f
-  unfolding inBuffer
+  unfolding in_buffer
   looks = go (ℕ_discrete v.current 0)
     where
       go : Dec (v.current ≡ 0) → Looked v flag w ss f
-      go (yes e) = goes located (buffer-none v flag ss f h e (ltb (rowWith (detailShape p) w v.buffer) (count (detailShape v.desc) v.buffer)))
+      go (yes e) = goes located (buffer-none v flag ss f h e (ltb (row_with (detail_shape p) w v.buffer) (count (detail_shape v.desc) v.buffer)))
       go (no n) = tries (h.current (omega arith))

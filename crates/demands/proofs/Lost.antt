@@ -7,7 +7,7 @@ use Rattle.numbers.specs.Checked.{Checked, passed, refused}
 use Rattle.numbers.proofs.Passed.{Passed, chain}
 use Rattle.drum.specs.Blocks.{Texts, Read, written}
 use Rattle.drum.proofs.Written.{written-append}
-use Rattle.layout.specs.Inspect.{layoutMarks}
+use Rattle.layout.specs.Inspect.{layout_marks}
 use Rattle.rules.specs.declared.Way.{Way}
 use Rattle.rules.specs.declared.Way.TheVariants.{Here, By}
 use Rattle.rules.specs.declared.Look.{Look}
@@ -20,16 +20,16 @@ use Rattle.rules.specs.declared.Delete.{Delete}
 use Rattle.rules.specs.declared.Delete.TheVariants as delete-is
 use Rattle.rules.specs.declared.Extend.{Extend}
 use Rattle.rules.specs.declared.Extend.TheVariants as extend-is
-use Rattle.rules.specs.State.{Session, State, Effect, desc, texts, keyIn, holding, positioned, atRest, outcome, settle}
-use Rattle.rules.specs.Checks.{keyedCall}
-use Rattle.rules.specs.Lookup.{flushMoves, bringing, reached, stopping, storing, landing}
-use Rattle.rules.specs.Open.{openChecks, openLayout, openDone, openFile}
-use Rattle.rules.specs.Close.{closeChecks, closeDone, close}
-use Rattle.rules.specs.Seek.{giving, seekDone, seekSteps, seek, updatDone, updatSteps, updat}
-use Rattle.rules.specs.Adv.{advGiving, advDone, advSteps, adv}
-use Rattle.rules.specs.NsertDone.{insertDone, nsertSteps, nsert}
-use Rattle.rules.specs.Dlete.{emptying, deleteDone, dleteSteps, dlete}
-use Rattle.rules.specs.XtendDone.{reading, listed, extendDone, xtendSteps, xtend}
+use Rattle.rules.specs.State.{Session, State, Effect, desc, texts, key_in, holding, positioned, at_rest, outcome, settle}
+use Rattle.rules.specs.Checks.{keyed_call}
+use Rattle.rules.specs.Lookup.{flush_moves, bringing, reached, stopping, storing, landing}
+use Rattle.rules.specs.Open.{open_checks, open_layout, open_done, open_file}
+use Rattle.rules.specs.Close.{close_checks, close_done, close}
+use Rattle.rules.specs.Seek.{giving, seek_done, seek_steps, seek, updat_done, updat_steps, updat}
+use Rattle.rules.specs.Adv.{adv_giving, adv_done, adv_steps, adv}
+use Rattle.rules.specs.NsertDone.{insert_done, nsert_steps, nsert}
+use Rattle.rules.specs.Dlete.{emptying, delete_done, dlete_steps, dlete}
+use Rattle.rules.specs.XtendDone.{reading, listed, extend_done, xtend_steps, xtend}
 use Rattle.rules.specs.Requests.{Request, opening, closing, seeking, advancing, inserting, deleting, updating, extending, lending, answer}
 use Rattle.demands.specs.Promises.{put_back}
 
@@ -37,16 +37,16 @@ use Rattle.demands.specs.Promises.{put_back}
 data LeftIn (v : Texts) (found : Bool) (flag : Bool) (file : List ℕ) : Type 0 where
   off : flag ≡ false → LeftIn v found flag file
   as-was : file ≡ v.file → LeftIn v found flag file
-  flushed : file ≡ written v.desc (flushMoves v found) v.file → LeftIn v found flag file
+  flushed : file ≡ written v.desc (flush_moves v found) v.file → LeftIn v found flag file
 
 abbrev Leaves : Texts → Bool → Effect → Type 0
 Leaves v found e = LeftIn v found e.flag e.file
 
 module _ (v : Texts) (flag : Bool) (work : List ℕ) where
   -- reading writes nothing
-  reads_two : (a b : ℕ) → written v.desc (flushMoves v flag ++ Read a ∷ Read b ∷ []) v.file ≡ written v.desc (flushMoves v flag) v.file
+  reads_two : (a b : ℕ) → written v.desc (flush_moves v flag ++ Read a ∷ Read b ∷ []) v.file ≡ written v.desc (flush_moves v flag) v.file
   unfolding written
-  reads_two a b = written-append v.desc (flushMoves v flag) (Read a ∷ Read b ∷ []) v.file
+  reads_two a b = written-append v.desc (flush_moves v flag) (Read a ∷ Read b ∷ []) v.file
 
   stop-leaves : (n : ℕ) (way : Way) → Leaves v flag (stopping n work (reached v flag way))
   unfolding stopping reached bringing
@@ -73,42 +73,42 @@ module _ (v : Texts) (flag : Bool) (work : List ℕ) where
   extend-leaves n x Here t = as-was refl
   extend-leaves n x (By w) t = flushed (reads_two w.index w.detail)
 
-  seek-done : (l : Look) → Passed (Leaves v flag) (seekDone v flag work l)
-  unfolding seekDone
+  seek-done : (l : Look) → Passed (Leaves v flag) (seek_done v flag work l)
+  unfolding seek_done
   seek-done look_is.Bad = search chain
   seek-done (look_is.Found way i) = search (chain, give-leaves)
   seek-done (look_is.Missing w) = search (chain, stop-leaves)
 
-  updat-done : (l : Look) → Passed (Leaves v flag) (updatDone v flag work l)
-  unfolding updatDone
+  updat-done : (l : Look) → Passed (Leaves v flag) (updat_done v flag work l)
+  unfolding updat_done
   updat-done look_is.Bad = search chain
   updat-done (look_is.Found way i) = search (chain, store-leaves)
   updat-done (look_is.Missing w) = search (chain, stop-leaves)
 
-  adv-done : (s : Step) → Passed (Leaves v flag) (advDone v flag s)
-  unfolding advDone advGiving giving bringing
+  adv-done : (s : Step) → Passed (Leaves v flag) (adv_done v flag s)
+  unfolding adv_done adv_giving giving bringing
   adv-done step_is.Bad = search chain
   adv-done (step_is.At way i) = search (chain, give-leaves)
   adv-done (step_is.Beyond w x i) = search (chain, off)
 
-  insert-done : (d : Insert) → Passed (Leaves v flag) (insertDone v flag work d)
-  unfolding insertDone landing
+  insert-done : (d : Insert) → Passed (Leaves v flag) (insert_done v flag work d)
+  unfolding insert_done landing
   insert-done insert-is.Bad = search chain
   insert-done (insert-is.Stop way n) = search (chain, stop-leaves)
   insert-done (insert-is.Room w i n) = search (chain, store-leaves)
   insert-done (insert-is.Split w i d n) = search (chain, off)
   insert-done (insert-is.Both w i b x n) = search (chain, off)
 
-  delete-done : (d : Delete) → Passed (Leaves v flag) (deleteDone v flag work d)
-  unfolding deleteDone emptying
+  delete-done : (d : Delete) → Passed (Leaves v flag) (delete_done v flag work d)
+  unfolding delete_done emptying
   delete-done delete-is.Bad = search chain
   delete-done (delete-is.Stop w) = search (chain, stop-leaves)
   delete-done (delete-is.Remove way i) = search (chain, store-leaves)
   delete-done (delete-is.Empty way w head) = search (chain, off)
   delete-done (delete-is.Both way w head) = search (chain, off)
 
-  extend-done : (d : Extend) → Passed (Leaves v flag) (extendDone v flag work d)
-  unfolding extendDone landing
+  extend-done : (d : Extend) → Passed (Leaves v flag) (extend_done v flag work d)
+  unfolding extend_done landing
   extend-done extend-is.Bad = search chain
   extend-done (extend-is.Stop way x n) = search (chain, last-leaves)
   extend-done (extend-is.Room way x n) = search (chain, extend-leaves)
@@ -116,7 +116,7 @@ module _ (v : Texts) (flag : Bool) (work : List ℕ) where
   extend-done (extend-is.Both way w b x n) = search (chain, off)
   extend-done (extend-is.Before way w d) = search (chain, as-insert)
     where
-      as-insert : (e t : Effect) → insertDone v flag work d ≡ passed e → Leaves v flag (listed ((reading w.index
+      as-insert : (e t : Effect) → insert_done v flag work d ≡ passed e → Leaves v flag (listed ((reading w.index
           (reached v flag way)).moves ++ t.transfers) e)
       as-insert e t h = unfold listed in (insert-done d).holds e h
 
@@ -134,7 +134,7 @@ module _ (st : State) where
       held : Session
       held = holding e.current e.flag st.session
 
-      go : (t : Bool) → (cond t (positioned (keyIn (desc st) e.work) held) held).flag ≡ e.flag
+      go : (t : Bool) → (cond t (positioned (key_in (desc st) e.work) held) held).flag ≡ e.flag
       go true = refl
       go false = refl
   effect-left e (as-was c) = same c
@@ -145,26 +145,26 @@ module _ (st : State) where
   settled-left (refused n) p = same refl
   settled-left (passed e) p = effect-left e (p.holds e refl)
 
-  keyed-left : (reads : ℕ) (c : Checked Effect) → Passed (Leaves (texts st) st.session.flag) c → LeftBy st (keyedCall reads st c).after
+  keyed-left : (reads : ℕ) (c : Checked Effect) → Passed (Leaves (texts st) st.session.flag) c → LeftBy st (keyed_call reads st c).after
   keyed-left reads c p = settled-left _ (search chain depth 9)
 
-  open-left : (marks : List ℕ) → LeftBy st (openFile st marks).outcome.after
-  unfolding openFile openDone openLayout
-  open-left marks = go (openChecks st marks)
+  open-left : (marks : List ℕ) → LeftBy st (open_file st marks).outcome.after
+  unfolding open_file open_done open_layout
+  open-left marks = go (open_checks st marks)
     where
-      tested : (c : Checked (List ℕ)) → LeftBy st (openLayout st c).outcome.after
+      tested : (c : Checked (List ℕ)) → LeftBy st (open_layout st c).outcome.after
       tested (refused n) = same refl
       tested (passed m) = same refl
 
-      go : (c : Checked Bool) → LeftBy st (openDone st marks c).outcome.after
+      go : (c : Checked Bool) → LeftBy st (open_done st marks c).outcome.after
       go (refused n) = same refl
-      go (passed t) = tested (layoutMarks (desc st) st.file)
+      go (passed t) = tested (layout_marks (desc st) st.file)
 
   close-left : LeftBy st (close st).after
-  unfolding close closeDone atRest
-  close-left = go (closeChecks st)
+  unfolding close close_done at_rest
+  close-left = go (close_checks st)
     where
-      go : (c : Checked Bool) → LeftBy st (closeDone st c).after
+      go : (c : Checked Bool) → LeftBy st (close_done st c).after
       go (refused n) = same refl
       go (passed t) = clean refl
 
@@ -176,13 +176,13 @@ relent st w (same c) = same c
 relent st w (put-back c) = put-back c
 
 -- every call
-pub left_by : (st : State) (q : Request) → LeftBy st (answer st q).after
-unfolding answer lending seek updat nsert dlete xtend adv seekSteps updatSteps nsertSteps dleteSteps xtendSteps advSteps
-left_by st (opening marks) = open-left st marks
-left_by st closing = close-left st
-left_by st (seeking w) = relent st w (keyed-left (lending w st) (desc st).k _ (search (chain, seek-done)))
-left_by st (advancing w) = relent st w (settled-left (lending w st) _ (search (chain, adv-done) depth 9))
-left_by st (inserting w) = relent st w (keyed-left (lending w st) (desc st).wpr _ (search (chain, insert-done)))
-left_by st (deleting w) = relent st w (keyed-left (lending w st) (desc st).k _ (search (chain, delete-done)))
-left_by st (updating w) = relent st w (keyed-left (lending w st) (desc st).wpr _ (search (chain, updat-done)))
-left_by st (extending w) = relent st w (keyed-left (lending w st) (desc st).wpr _ (search (chain, extend-done)))
+pub left_by_lem : (st : State) (q : Request) → LeftBy st (answer st q).after
+unfolding answer lending seek updat nsert dlete xtend adv seek_steps updat_steps nsert_steps dlete_steps xtend_steps adv_steps
+left_by_lem st (opening marks) = open-left st marks
+left_by_lem st closing = close-left st
+left_by_lem st (seeking w) = relent st w (keyed-left (lending w st) (desc st).k _ (search (chain, seek-done)))
+left_by_lem st (advancing w) = relent st w (settled-left (lending w st) _ (search (chain, adv-done) depth 9))
+left_by_lem st (inserting w) = relent st w (keyed-left (lending w st) (desc st).wpr _ (search (chain, insert-done)))
+left_by_lem st (deleting w) = relent st w (keyed-left (lending w st) (desc st).k _ (search (chain, delete-done)))
+left_by_lem st (updating w) = relent st w (keyed-left (lending w st) (desc st).wpr _ (search (chain, updat-done)))
+left_by_lem st (extending w) = relent st w (keyed-left (lending w st) (desc st).wpr _ (search (chain, extend-done)))

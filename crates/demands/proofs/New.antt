@@ -6,7 +6,7 @@ use mathlib.Core.Bool.{Bool, true, false, cond, not, ◌&&◌, ◌||◌}
 use mathlib.Core.List.{List, [], ◌∷◌, ◌++◌, append_assoc, append-nil}
 use lib.Dec.{eqb}
 use borrow.Author.Tests.{eq-eqb, eqb-true}
-use Rattle.numbers.specs.Numbers.{badFile}
+use Rattle.numbers.specs.Numbers.{bad_file}
 use Rattle.numbers.specs.Checked.{passed, require}
 use Rattle.table.specs.Tables.{laid}
 use Rattle.drum.specs.Params.{index_shape}
@@ -14,9 +14,9 @@ use Rattle.drum.specs.Blocks.{Transfer, Read, Write, Texts, text_of}
 use Rattle.rules.specs.declared.Path.{Path}
 use Rattle.rules.specs.declared.Way.{Way}
 use Rattle.rules.specs.declared.Way.TheVariants.{Here, By}
-use Rattle.rules.specs.State.{keyIn}
-use Rattle.rules.specs.Lookup.{flushMoves, bringing, reached}
-use Rattle.rules.specs.Free.{isNew}
+use Rattle.rules.specs.State.{key_in}
+use Rattle.rules.specs.Lookup.{flush_moves, bringing, reached}
+use Rattle.rules.specs.Free.{is_new}
 use Rattle.demands.specs.Names.{block_of, names, once}
 use Rattle.rules.specs.NsertDone as n
 use Rattle.rules.specs.Xtend.{last_of, apart}
@@ -105,30 +105,30 @@ of-buffer false false false = refl
 module _ (v : Texts) (w : Path) where
   -- NSERT's list but for the new blocks
   among-nsert : (flag : Bool) (b : ℕ) (t u : List ℕ)
-      → not (names ((reached v flag (By w)).moves ++ (Read w.index ∷ Write w.detail t ∷ Write w.index u ∷ [])) b) ≡ isNew v.current flag w b
-  unfolding names reached bringing flushMoves
+      → not (names ((reached v flag (By w)).moves ++ (Read w.index ∷ Write w.detail t ∷ Write w.index u ∷ [])) b) ≡ is_new v.current flag w b
+  unfolding names reached bringing flush_moves
   among-nsert true b t u = of-nsert (eqb b v.current) (eqb b w.index) (eqb b w.detail)
   among-nsert false b t u = of-nsert false (eqb b w.index) (eqb b w.detail)
 
   -- the new block of a split, and the two of a split with a full index, are named once in the whole list
   pub new_split : (flag : Bool) (i b : ℕ) (r : List ℕ)
-      → once ((reached v flag (By w)).moves ++ n.splitMoves v w i r b) b ≡ isNew v.current flag w b
-  unfolding n.splitMoves
+      → once ((reached v flag (By w)).moves ++ n.split_moves v w i r b) b ≡ is_new v.current flag w b
+  unfolding n.split_moves
   new_split flag i b r =
-      once-mid (reached v flag (By w)).moves (Read w.index ∷ Write w.detail (n.detailLow v w i r) ∷ []) (Write b (n.detailHigh v w i r))
-      (Write w.index (n.indexEntered v w i r b) ∷ [])
-      ∙ among-nsert flag b (n.detailLow v w i r) (n.indexEntered v w i r b)
+      once-mid (reached v flag (By w)).moves (Read w.index ∷ Write w.detail (n.detail_low v w i r) ∷ []) (Write b (n.detail_high v w i r))
+      (Write w.index (n.index_entered v w i r b) ∷ [])
+      ∙ among-nsert flag b (n.detail_low v w i r) (n.index_entered v w i r b)
 
   pub new-both : (flag : Bool) (i b x : ℕ) (r : List ℕ)
-      → (once ((reached v flag (By w)).moves ++ n.bothSplitMoves v w i r b x) b ≡ (not (eqb b x) && isNew v.current flag w b))
-      × (once ((reached v flag (By w)).moves ++ n.bothSplitMoves v w i r b x) x ≡ (not (eqb x b) && isNew v.current flag w x))
-  unfolding n.bothSplitMoves
+      → (once ((reached v flag (By w)).moves ++ n.both_split_moves v w i r b x) b ≡ (not (eqb b x) && is_new v.current flag w b))
+      × (once ((reached v flag (By w)).moves ++ n.both_split_moves v w i r b x) x ≡ (not (eqb x b) && is_new v.current flag w x))
+  unfolding n.both_split_moves
   new-both flag i b x r =
       let e =
-      two_in (reached v flag (By w)).moves (Read w.index ∷ Write w.detail (n.detailLow v w i r) ∷ [])
-      (Write w.index (n.indexLow v w i r b) ∷ []) (Write b (n.detailHigh v w i r)) (Write x (n.indexHigh v w i r b)) in (
-        e.0 ∙ ap (λ (z : Bool). not (eqb b x) && z) (among-nsert flag b (n.detailLow v w i r) (n.indexLow v w i r b)),
-        e.1 ∙ ap (λ (z : Bool). not (eqb x b) && z) (among-nsert flag x (n.detailLow v w i r) (n.indexLow v w i r b)),
+      two_in (reached v flag (By w)).moves (Read w.index ∷ Write w.detail (n.detail_low v w i r) ∷ [])
+      (Write w.index (n.index_low v w i r b) ∷ []) (Write b (n.detail_high v w i r)) (Write x (n.index_high v w i r b)) in (
+        e.0 ∙ ap (λ (z : Bool). not (eqb b x) && z) (among-nsert flag b (n.detail_low v w i r) (n.index_low v w i r b)),
+        e.1 ∙ ap (λ (z : Bool). not (eqb x b) && z) (among-nsert flag x (n.detail_low v w i r) (n.index_low v w i r b)),
       )
 
   -- XTEND's list but for the new blocks, whether the last block was in the buffer or is brought
@@ -136,12 +136,12 @@ module _ (v : Texts) (w : Path) where
   unfolding last_of
   at-current = search (chain, tested)
     where
-      tested : (u : Path) (a : Bool) → require (eqb u.detail v.current) badFile ≡ passed a → u.detail ≡ v.current
-      tested u a e = eqb-true u.detail v.current (required _ badFile a e)
+      tested : (u : Path) (a : Bool) → require (eqb u.detail v.current) bad_file ≡ passed a → u.detail ≡ v.current
+      tested u a e = eqb-true u.detail v.current (required _ bad_file a e)
 
   among-by : (flag : Bool) (b : ℕ) (t u : List ℕ)
-      → not (names ((reached v flag (By w)).moves ++ (Write w.detail t ∷ Read w.index ∷ Write w.index u ∷ [])) b) ≡ isNew v.current flag w b
-  unfolding names reached bringing flushMoves
+      → not (names ((reached v flag (By w)).moves ++ (Write w.detail t ∷ Read w.index ∷ Write w.index u ∷ [])) b) ≡ is_new v.current flag w b
+  unfolding names reached bringing flush_moves
   among-by true b t u = of-xtend (eqb b v.current) (eqb b w.index) (eqb b w.detail)
   among-by false b t u = of-xtend false (eqb b w.index) (eqb b w.detail)
 
@@ -150,36 +150,36 @@ module _ (v : Texts) (w : Path) where
   brought x e = cc
 
   among-xtend : (way : Way) (flag : Bool) (b : ℕ) (t u : List ℕ) → last_of v way ≡ passed w
-      → not (names ((reached v flag way).moves ++ (Write w.detail t ∷ Read w.index ∷ Write w.index u ∷ [])) b) ≡ isNew v.current flag w b
-  unfolding names reached bringing flushMoves
+      → not (names ((reached v flag way).moves ++ (Write w.detail t ∷ Read w.index ∷ Write w.index u ∷ [])) b) ≡ is_new v.current flag w b
+  unfolding names reached bringing flush_moves
   among-xtend Here flag b t u e =
       of-buffer flag (eqb b w.index) (eqb b w.detail)
       ∙ ap (λ (z : ℕ). not (eqb b w.index) && (not (eqb b w.detail) && not (flag && eqb b z))) (at-current.holds w e)
   among-xtend (By x) flag b t u e =
-      subst (λ (z : Path). not (names ((reached v flag (By z)).moves ++ (Write w.detail t ∷ Read w.index ∷ Write w.index u ∷ [])) b) ≡ isNew
+      subst (λ (z : Path). not (names ((reached v flag (By z)).moves ++ (Write w.detail t ∷ Read w.index ∷ Write w.index u ∷ [])) b) ≡ is_new
       v.current flag w b)
       (brought x e) (among-by flag b t u)
 
   -- the new block of XTEND, and the two where it starts a section
   pub new-extend : (way : Way) (flag : Bool) (work : List ℕ) (b : ℕ) → last_of v way ≡ passed w
-      → once ((reached v flag way).moves ++ x.newMoves v way w work b) b ≡ isNew v.current flag w b
-  unfolding x.newMoves
+      → once ((reached v flag way).moves ++ x.new_moves v way w work b) b ≡ is_new v.current flag w b
+  unfolding x.new_moves
   new-extend way flag work b e =
-      let old = x.oldText v way work in
-      let new = x.extended v.desc (index_shape v.desc) (keyIn v.desc work) b (text_of v w.index) in
-      once-mid (reached v flag way).moves (Write w.detail old ∷ Read w.index ∷ Write w.index new ∷ []) (Write b (x.endText v way)) []
+      let old = x.old_text v way work in
+      let new = x.extended v.desc (index_shape v.desc) (key_in v.desc work) b (text_of v w.index) in
+      once-mid (reached v flag way).moves (Write w.detail old ∷ Read w.index ∷ Write w.index new ∷ []) (Write b (x.end_text v way)) []
       ∙ among-xtend way flag b old new e
 
   pub new-section : (way : Way) (flag : Bool) (work : List ℕ) (b y : ℕ) → last_of v way ≡ passed w
-      → (once ((reached v flag way).moves ++ x.sectionMoves v way w work b y) b ≡ (not (eqb b y) && isNew v.current flag w b))
-      × (once ((reached v flag way).moves ++ x.sectionMoves v way w work b y) y ≡ (not (eqb y b) && isNew v.current flag w y))
-  unfolding x.sectionMoves
+      → (once ((reached v flag way).moves ++ x.section_moves v way w work b y) b ≡ (not (eqb b y) && is_new v.current flag w b))
+      × (once ((reached v flag way).moves ++ x.section_moves v way w work b y) y ≡ (not (eqb y b) && is_new v.current flag w y))
+  unfolding x.section_moves
   new-section way flag work b y e =
-      let old = x.oldText v way work in
-      let new = x.bounded (index_shape v.desc) (keyIn v.desc work) (text_of v w.index) in
+      let old = x.old_text v way work in
+      let new = x.bounded (index_shape v.desc) (key_in v.desc work) (text_of v w.index) in
       let g =
-      two_in (reached v flag way).moves (Write w.detail old ∷ Read w.index ∷ Write w.index new ∷ []) [] (Write b (x.endText v way))
-      (Write y (laid v.desc.wpb ((index_shape v.desc).tag + 1) (x.onesEntry v.desc b))) in (
+      two_in (reached v flag way).moves (Write w.detail old ∷ Read w.index ∷ Write w.index new ∷ []) [] (Write b (x.end_text v way))
+      (Write y (laid v.desc.wpb ((index_shape v.desc).tag + 1) (x.ones_entry v.desc b))) in (
         g.0 ∙ ap (λ (z : Bool). not (eqb b y) && z) (among-xtend way flag b old new e),
         g.1 ∙ ap (λ (z : Bool). not (eqb y b) && z)
             (among-xtend way flag y old new e),
@@ -225,21 +225,21 @@ module _ (v : Texts) (w q : Path) (some : eqb w.index 0 ≡ false) where
       or-none false = refl
 
   lead-by : (flag : Bool) (b : ℕ) → not (names (lead (By w) flag) b) ≡ (apart (By w) w b && not (flag && eqb b v.current))
-  unfolding x.reading apart reached bringing flushMoves names
+  unfolding x.reading apart reached bringing flush_moves names
   lead-by true b = rw some (of-lead (eqb b v.current) (eqb b w.index) (eqb b w.detail))
   lead-by false b = rw some (of-lead false (eqb b w.index) (eqb b w.detail))
 
   -- where it was in the buffer, that is as it was; where it was brought, a flagged buffer was written
   still : (flag : Bool) (b : ℕ)
-      → (not (names (lead Here flag) b) && isNew v.current (reached v flag Here).flag q b) ≡ (apart Here w b && isNew v.current flag q b)
+      → (not (names (lead Here flag) b) && is_new v.current (reached v flag Here).flag q b) ≡ (apart Here w b && is_new v.current flag q b)
   unfolding reached
-  still flag b = ap (λ (z : Bool). z && isNew v.current flag q b) (lead-here flag b)
+  still flag b = ap (λ (z : Bool). z && is_new v.current flag q b) (lead-here flag b)
 
   written_once : (flag : Bool) (b : ℕ)
-      → (not (names (lead (By w) flag) b) && isNew v.current (reached v flag (By w)).flag q b) ≡ (apart (By w) w b && isNew v.current flag q b)
+      → (not (names (lead (By w) flag) b) && is_new v.current (reached v flag (By w)).flag q b) ≡ (apart (By w) w b && is_new v.current flag q b)
   unfolding reached bringing
   written_once flag b =
-      ap (λ (z : Bool). z && isNew v.current false q b) (lead-by flag b)
+      ap (λ (z : Bool). z && is_new v.current false q b) (lead-by flag b)
       ∙ and-move (apart (By w) w b) (not (flag && eqb b v.current)) (not (eqb b q.index)) (not (eqb b q.detail))
 
   -- NSERT's transfers behind them
@@ -249,7 +249,7 @@ module _ (v : Texts) (w q : Path) (some : eqb w.index 0 ≡ false) where
   -- the whole list but for the new blocks
   among-before : (way : Way) (flag : Bool) (b : ℕ) (t u : List ℕ) → last_of v way ≡ passed w
       → not (names ((lead way flag ++ then way flag) ++ (Read q.index ∷ Write q.detail t ∷ Write q.index u ∷ [])) b)
-      ≡ (apart way w b && isNew v.current flag q b)
+      ≡ (apart way w b && is_new v.current flag q b)
   among-before way flag b t u e =
       let rest : List Transfer = Read q.index ∷ Write q.detail t ∷ Write q.index u ∷ [] in
       ap (λ (l : List Transfer). not (names l b)) (append_assoc (lead way flag) (then way flag) rest)
@@ -257,32 +257,32 @@ module _ (v : Texts) (w q : Path) (some : eqb w.index 0 ≡ false) where
       ∙ ap (λ (z : Bool). not (names (lead way flag) b) && z) (among-nsert v q (reached v flag way).flag b t u) ∙ go way e
     where
       go : (way : Way) → last_of v way ≡ passed w
-          → (not (names (lead way flag) b) && isNew v.current (reached v flag way).flag q b) ≡ (apart way w b && isNew v.current flag q b)
+          → (not (names (lead way flag) b) && is_new v.current (reached v flag way).flag q b) ≡ (apart way w b && is_new v.current flag q b)
       go Here e = still flag b
-      go (By y) e = subst (λ (z : Path). (not (names (lead (By z) flag) b) && isNew v.current (reached v flag (By z)).flag q b)
-          ≡ (apart (By z) w b && isNew v.current flag q b)) (brought v w y e) (written_once flag b)
+      go (By y) e = subst (λ (z : Path). (not (names (lead (By z) flag) b) && is_new v.current (reached v flag (By z)).flag q b)
+          ≡ (apart (By z) w b && is_new v.current flag q b)) (brought v w y e) (written_once flag b)
 
   -- the new block of a split, and the two where the index block splits too, are named once in the whole list
   pub new-before : (way : Way) (flag : Bool) (i b : ℕ) (r : List ℕ) → last_of v way ≡ passed w
-      → once (lead way flag ++ (then way flag ++ n.splitMoves v q i r b)) b ≡ (apart way w b && isNew v.current flag q b)
-  unfolding n.splitMoves
+      → once (lead way flag ++ (then way flag ++ n.split_moves v q i r b)) b ≡ (apart way w b && is_new v.current flag q b)
+  unfolding n.split_moves
   new-before way flag i b r e =
-      let low = n.detailLow v q i r in
-      let index = n.indexEntered v q i r b in
+      let low = n.detail_low v q i r in
+      let index = n.index_entered v q i r b in
       ap (λ (l : List Transfer). once l b) (sym (append_assoc (lead way flag) (then way flag) _))
-      ∙ once-mid (lead way flag ++ then way flag) (Read q.index ∷ Write q.detail low ∷ []) (Write b (n.detailHigh v q i r)) (Write q.index index ∷ [])
+      ∙ once-mid (lead way flag ++ then way flag) (Read q.index ∷ Write q.detail low ∷ []) (Write b (n.detail_high v q i r)) (Write q.index index ∷ [])
       ∙ among-before way flag b low index e
 
   pub new-before-both : (way : Way) (flag : Bool) (i b y : ℕ) (r : List ℕ) → last_of v way ≡ passed w
-      → (once (lead way flag ++ (then way flag ++ n.bothSplitMoves v q i r b y)) b ≡ (not (eqb b y) && (apart way w b && isNew v.current flag q b)))
-      × (once (lead way flag ++ (then way flag ++ n.bothSplitMoves v q i r b y)) y ≡ (not (eqb y b) && (apart way w y && isNew v.current flag q y)))
-  unfolding n.bothSplitMoves
+      → (once (lead way flag ++ (then way flag ++ n.both_split_moves v q i r b y)) b ≡ (not (eqb b y) && (apart way w b && is_new v.current flag q b)))
+      × (once (lead way flag ++ (then way flag ++ n.both_split_moves v q i r b y)) y ≡ (not (eqb y b) && (apart way w y && is_new v.current flag q y)))
+  unfolding n.both_split_moves
   new-before-both way flag i b y r e =
-      let low = n.detailLow v q i r in
-      let index = n.indexLow v q i r b in
+      let low = n.detail_low v q i r in
+      let index = n.index_low v q i r b in
       let g =
-      two_in (lead way flag ++ then way flag) (Read q.index ∷ Write q.detail low ∷ []) (Write q.index index ∷ []) (Write b (n.detailHigh v q i r))
-      (Write y (n.indexHigh v q i r b)) in (
+      two_in (lead way flag ++ then way flag) (Read q.index ∷ Write q.detail low ∷ []) (Write q.index index ∷ []) (Write b (n.detail_high v q i r))
+      (Write y (n.index_high v q i r b)) in (
         ap (λ (l : List Transfer). once l b) (sym (append_assoc (lead way flag) (then way flag) _)) ∙ g.0
             ∙ ap (λ (z : Bool). not (eqb b y) && z) (among-before way flag b low index e),
         ap (λ (l : List Transfer). once l y) (sym (append_assoc (lead way flag) (then way flag) _)) ∙ g.1

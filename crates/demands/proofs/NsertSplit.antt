@@ -8,50 +8,50 @@ use lib.Dec.{ltb}
 use lib.ListN.{length, length-append}
 use Rattle.numbers.specs.Checked.{passed}
 use Rattle.words.specs.Keys.{val}
-use Rattle.table.specs.Splits.{lowCount, entered}
-use Rattle.drum.specs.Params.{D, I, goodParams, masterShape}
+use Rattle.table.specs.Splits.{low_count, entered}
+use Rattle.drum.specs.Params.{D, I, good_params, master_shape}
 use Rattle.drum.specs.Blocks.{Transfer, text_of, written}
 use Rattle.drum.proofs.Good.{good-facts}
 use Rattle.rules.specs.declared.Way.{Way}
 use Rattle.rules.specs.declared.Way.TheVariants.{By}
 use Rattle.rules.specs.declared.Look.TheVariants.{Missing}
 use Rattle.rules.specs.declared.Insert.TheVariants.{Split, Both}
-use Rattle.rules.specs.State.{State, Outcome, Effect, desc, texts, keyIn}
+use Rattle.rules.specs.State.{State, Outcome, Effect, desc, texts, key_in}
 use Rattle.rules.specs.Lookup.{reached, look, landing}
-use Rattle.rules.specs.Nsert.{halfCount}
-use Rattle.rules.specs.NsertDone.{insertDone, nsert, splitMoves, bothSplitMoves, splitFile, bothSplitFile, indexEntry}
+use Rattle.rules.specs.Nsert.{half_count}
+use Rattle.rules.specs.NsertDone.{insert_done, nsert, split_moves, both_split_moves, split_file, both_split_file, index_entry}
 use Rattle.rules.proofs.Sizes.{way-few}
 use Rattle.demands.proofs.Scene.{scene}
 use Rattle.demands.proofs.Lists.{All, all_left, all_right}
 use Rattle.demands.proofs.Order.{Asc, hit, ins}
 use Rattle.layout.specs.Tree.{Leaf, Section}
-use Rattle.demands.proofs.Trees.{leavesIn, recordsIn, key, leafCell}
-use Rattle.demands.proofs.Holds.{Free, HoldsCells, LeafFits, head_or, masterFor}
+use Rattle.demands.proofs.Trees.{leaves_in, records_in, key, leaf_cell}
+use Rattle.demands.proofs.Holds.{Free, HoldsCells, LeafFits, head_or, master_for}
 use Rattle.demands.proofs.Steps.{sec, lf, ix, lower, upper}
-use Rattle.demands.proofs.Places.{Place, tree_of, treeWith, olds, lo, hi}
+use Rattle.demands.proofs.Places.{Place, tree_of, tree_with, olds, lo, hi}
 use Rattle.demands.proofs.Texts.{half}
-use Rattle.demands.proofs.Blocks.{masterOf, behind, cellsWritten, Fits}
+use Rattle.demands.proofs.Blocks.{master_of, behind, cells_written, Fits}
 use Rattle.demands.proofs.Entries.{index-long}
-use Rattle.demands.proofs.Paths.{pathOf}
+use Rattle.demands.proofs.Paths.{path_of}
 use Rattle.demands.proofs.Sound.{Key}
 use Rattle.demands.proofs.Answers.{Ready, work-is, work-ok, Gives}
 use Rattle.demands.proofs.Reach.{At}
 use Rattle.demands.proofs.Lookup.{Covers}
-use Rattle.demands.proofs.Frees.{next, freeCount, taken, taken_of, storedWith, taken-count, next-in, second-in}
-use Rattle.rules.specs.Free.{withFree}
+use Rattle.demands.proofs.Frees.{next, free_count, taken, taken_of, stored_with, taken-count, next-in, second-in}
+use Rattle.rules.specs.Free.{with_free}
 use Rattle.demands.proofs.Cells.{Cell}
 use Rattle.demands.proofs.Masters.{master-entered}
 use Rattle.demands.proofs.Acts.{low_fits, high_fits, index-fits, two-spot, two-gives, leaves-cut, half-spot, last-cut, four-gives}
 use Rattle.demands.proofs.NsertTexts.{low_ok, high-ok, low-is, high_is, index_is, news-length, news-ok, size₂, index-low, index-high, index-entry, size}
 use Rattle.demands.proofs.Nsert.{nsert-by, place, held, asc-ins-here, ins-contents, ins-ended}
 use Rattle.demands.proofs.NsertDeed.{split-deed, both-deed}
-use Rattle.demands.proofs.Growth.{aSplit, bothSplit, grow-from}
+use Rattle.demands.proofs.Growth.{a_split, both_split, grow-from}
 use Rattle.demands.proofs.Changes.{grow-split, grow-both}
 
-module _ (st : State) (ss : List Section) (f : Free) (r : Ready (desc st).wpr st ss f) (kw : Key (desc st) (keyIn (desc st) st.work)) (a : Place)
-    (A : At (texts st) st.session.flag ss f a (By (pathOf a))) (C : Covers (texts st) (keyIn (desc st) st.work) a)
-    (none : hit (key (desc st).k) (val (keyIn (desc st) st.work)) a.leaf.records ≡ [])
-    (l : look (texts st) st.session.flag (keyIn (desc st) st.work) ≡ passed (Missing (pathOf a)))
+module _ (st : State) (ss : List Section) (f : Free) (r : Ready (desc st).wpr st ss f) (kw : Key (desc st) (key_in (desc st) st.work)) (a : Place)
+    (A : At (texts st) st.session.flag ss f a (By (path_of a))) (C : Covers (texts st) (key_in (desc st) st.work) a)
+    (none : hit (key (desc st).k) (val (key_in (desc st) st.work)) a.leaf.records ≡ [])
+    (l : look (texts st) st.session.flag (key_in (desc st) st.work) ≡ passed (Missing (path_of a)))
     (full : length a.leaf.records ≡ D (desc st)) where
   open scene st ss use {p, v, flag, K, rows}
 
@@ -59,17 +59,17 @@ module _ (st : State) (ss : List Section) (f : Free) (r : Ready (desc st).wpr st
   abbrev i : ℕ
   i = place st ss f r kw a A C none l
 
-  abbrev pub inLow : Bool
-  inLow = ltb (place st ss f r kw a A C none l) (lowCount (D (desc st)))
+  abbrev pub in_low : Bool
+  in_low = ltb (place st ss f r kw a A C none l) (low_count (D (desc st)))
 
-  good : goodParams p ≡ true
+  good : good_params p ≡ true
   good = r.sound.kept.good
 
-  hd : HoldsCells p (masterOf p st.file) (text_of v) ss f
+  hd : HoldsCells p (master_of p st.file) (text_of v) ss f
   hd = r.sound.kept.holds
 
   module _ (xs : List (List ℕ)) (y : List ℕ) (ys : List (List ℕ)) (cut : ins (key (desc st).k) st.work a.leaf.records ≡ xs ++ y ∷ ys)
-      (lx : suc (length xs) ≡ lowCount (D (desc st))) where
+      (lx : suc (length xs) ≡ low_count (D (desc st))) where
     abbrev nb : ℕ
     nb = next f
 
@@ -91,34 +91,34 @@ module _ (st : State) (ss : List Section) (f : Free) (r : Ready (desc st).wpr st
     asc : Asc K (lo p a) (xs ++ y ∷ ys) (hi p a)
     asc = rw (← cut) (asc-ins-here st ss f r kw a A C none l)
 
-    now : recordsIn (leavesIn (treeWith a (leaf₁ ∷ (leaf₂ ∷ [])))) ≡ ins K st.work rows
+    now : records_in (leaves_in (tree_with a (leaf₁ ∷ (leaf₂ ∷ [])))) ≡ ins K st.work rows
     now = ins-contents st ss f r kw a A C none l (leaf₁ ∷ (leaf₂ ∷ [])) (rw (append-nil ys) (append_assoc xs (y ∷ []) ys ∙ sym cut))
 
-    cost : (ms : List Transfer) (n : ℕ) → length ms ≡ n → length ((reached v flag (By (pathOf a))).moves ++ ms) ≤ 3 + n
-    cost ms n e = rw (length-append (reached v flag (By (pathOf a))).moves ms) (omega (arith, e, way-few v flag (By (pathOf a))))
+    cost : (ms : List Transfer) (n : ℕ) → length ms ≡ n → length ((reached v flag (By (path_of a))).moves ++ ms) ≤ 3 + n
+    cost ms n e = rw (length-append (reached v flag (By (path_of a))).moves ms) (omega (arith, e, way-few v flag (By (path_of a))))
 
-    low-length : length leaf₁.records ≡ lowCount (D p)
+    low-length : length leaf₁.records ≡ low_count (D p)
     low-length = rw (length-append xs (y ∷ [])) (omega (arith, lx))
 
-    high-length : length leaf₂.records ≡ D p + 1 - lowCount (D p)
+    high-length : length leaf₂.records ≡ D p + 1 - low_count (D p)
     high-length = omega (arith, size v a f A.held good st.work (work-ok st ss f r) full xs y ys cut lx nb, lx)
 
     -- the leaf becomes two
-    pub nsert-split : length (olds a) < I p → 1 ≤ freeCount f
-        → Gives st ss (nsert st) (storedWith p (halfCount (D p) i) (taken f)) 7 (ins K st.work rows) aSplit (treeWith a (leaf₁ ∷ (leaf₂ ∷ []))) (taken f)
-    unfolding insertDone splitFile splitMoves cellsWritten leafCell
+    pub nsert-split : length (olds a) < I p → 1 ≤ free_count f
+        → Gives st ss (nsert st) (stored_with p (half_count (D p) i) (taken f)) 7 (ins K st.work rows) a_split (tree_with a (leaf₁ ∷ (leaf₂ ∷ []))) (taken f)
+    unfolding insert_done split_file split_moves cells_written leaf_cell
     nsert-split less some =
-        let n : ℕ = storedWith p (halfCount (D p) i) (taken f) in
-        let ms : List Transfer = splitMoves v (pathOf a) i st.work nb in
-        let way : Way = By (pathOf a) in
+        let n : ℕ = stored_with p (half_count (D p) i) (taken f) in
+        let ms : List Transfer = split_moves v (path_of a) i st.work nb in
+        let way : Way = By (path_of a) in
         let moves : List Transfer = (reached v flag way).moves ++ ms in
-        let file' : List ℕ = written p moves (withFree (head_or (taken f).chain 0) (taken f).lowest st.file) in
-        let e : Effect = landing p n st.work moves (cond inLow a.leaf.block nb) file' in
-        let done : insertDone v flag st.work (Split (pathOf a) i (taken_of f) n) ≡ passed e
-        = ap (λ (x : List ℕ). passed (landing p n st.work ((reached v flag way).moves ++ splitMoves v (pathOf a) i x nb) (cond inLow a.leaf.block nb)
-        (splitFile v flag (pathOf a) i x (taken_of f)))) (work-is st ss f r) in
+        let file' : List ℕ = written p moves (with_free (head_or (taken f).chain 0) (taken f).lowest st.file) in
+        let e : Effect = landing p n st.work moves (cond in_low a.leaf.block nb) file' in
+        let done : insert_done v flag st.work (Split (path_of a) i (taken_of f) n) ≡ passed e
+        = ap (λ (x : List ℕ). passed (landing p n st.work ((reached v flag way).moves ++ split_moves v (path_of a) i x nb) (cond in_low a.leaf.block nb)
+        (split_file v flag (path_of a) i x (taken_of f)))) (work-is st ss f r) in
         let ws : List Cell = lf p leaf₁ ∷ (lf p leaf₂ ∷ ((a.index, ix p ls) ∷ [])) in
-        let ms-is : cellsWritten ms ≡ ws
+        let ms-is : cells_written ms ≡ ws
         = rw (
           low-is v a f A.held good st.work (work-ok st ss f r) full xs y ys cut lx nb,
           high_is v a f A.held good st.work (work-ok st ss f r) full xs y ys cut lx nb,
@@ -137,17 +137,17 @@ module _ (st : State) (ss : List Section) (f : Free) (r : Ready (desc st).wpr st
             ),
           ),
         ) in
-        subst (λ (z : Outcome). Gives st ss z n 7 (ins K st.work rows) aSplit (treeWith a (leaf₁ ∷ (leaf₂ ∷ []))) (taken f))
-        (sym (nsert-by st ss f r (Split (pathOf a) i (taken_of f) n) e (split-deed st ss f r kw a A C none l full less some) done))
+        subst (λ (z : Outcome). Gives st ss z n 7 (ins K st.work rows) a_split (tree_with a (leaf₁ ∷ (leaf₂ ∷ []))) (taken f))
+        (sym (nsert-by st ss f r (Split (path_of a) i (taken_of f) n) e (split-deed st ss f r kw a A C none l full less some) done))
         (two-gives st ss f r.sound r.opened kw a way A xs y ys nb asc ok₁ ok₂ refl some less ms ws ms-is fit (λ w. refl) (ins K st.work rows) now
         (ins-ended st ss f r kw a A C none l)
-        (cond inLow a.leaf.block nb) (two-spot st ss f r.sound r.opened kw a way A xs y ys nb asc ok₁ ok₂ inLow) n 7 (cost ms 4 refl) aSplit
-        (grow-from p ss (tree_of a) _ aSplit A.is (grow-split p good a leaf₁ leaf₂ full low-length high-length)))
+        (cond in_low a.leaf.block nb) (two-spot st ss f r.sound r.opened kw a way A xs y ys nb asc ok₁ ok₂ in_low) n 7 (cost ms 4 refl) a_split
+        (grow-from p ss (tree_of a) _ a_split A.is (grow-split p good a leaf₁ leaf₂ full low-length high-length)))
 
     -- the section becomes two besides
     module _ (most : length (olds a) ≡ I (desc st)) (qs : List Leaf) (q : Leaf) (zs : List Leaf)
         (cut₂ : a.low ++ (lower (desc st) a.leaf xs y ∷ (upper (desc st) a.leaf (next f) ys ∷ a.high)) ≡ qs ++ q ∷ zs)
-        (lq : suc (length qs) ≡ lowCount (I (desc st))) where
+        (lq : suc (length qs) ≡ low_count (I (desc st))) where
       abbrev nib : ℕ
       nib = next (taken f)
 
@@ -157,13 +157,13 @@ module _ (st : State) (ss : List Section) (f : Free) (r : Ready (desc st).wpr st
       joined : us ++ zs ≡ ls
       joined = append_assoc qs (q ∷ []) zs ∙ sym cut₂
 
-      halves : (2 ≤ lowCount (I p)) × (lowCount (I p) ≤ I p)
+      halves : (2 ≤ low_count (I p)) × (low_count (I p) ≤ I p)
       halves = half (I p) (good-facts p good).two-entries
 
       sizes : length qs + suc (length zs) ≡ suc (I p)
       sizes = size₂ v a f A.held good st.work (work-ok st ss f r) full xs y ys cut lx nb most qs q zs cut₂ lq
 
-      us-length : length us ≡ lowCount (I p)
+      us-length : length us ≡ low_count (I p)
       us-length = rw (length-append qs (q ∷ [])) (omega (arith, lq))
 
       a₁ : 1 ≤ length us
@@ -181,26 +181,26 @@ module _ (st : State) (ss : List Section) (f : Free) (r : Ready (desc st).wpr st
       all-ok : All (LeafFits p) (us ++ zs)
       all-ok = rw joined (news-ok v a f A.held good st.work (work-ok st ss f r) full xs y ys cut lx nb)
 
-      pub nsert-both : 2 ≤ freeCount f → length ss < p.control → Gives st ss (nsert st) (storedWith p (halfCount (D p) i) (taken (taken f))) 8
-          (ins K st.work rows) bothSplit (a.before ++ (sec a.index us ∷ (sec nib zs ∷ a.behind))) (taken (taken f))
-      unfolding insertDone bothSplitFile bothSplitMoves cellsWritten leafCell
+      pub nsert-both : 2 ≤ free_count f → length ss < p.control → Gives st ss (nsert st) (stored_with p (half_count (D p) i) (taken (taken f))) 8
+          (ins K st.work rows) both_split (a.before ++ (sec a.index us ∷ (sec nib zs ∷ a.behind))) (taken (taken f))
+      unfolding insert_done both_split_file both_split_moves cells_written leaf_cell
       nsert-both two c =
-          let n : ℕ = storedWith p (halfCount (D p) i) (taken (taken f)) in
+          let n : ℕ = stored_with p (half_count (D p) i) (taken (taken f)) in
           let f₂ : Free = taken (taken f) in
-          let some : 1 ≤ freeCount f = omega arith in
-          let some₂ : 1 ≤ freeCount (taken f) = omega (arith, taken-count f some) in
-          let ms : List Transfer = bothSplitMoves v (pathOf a) i st.work nb nib in
-          let way : Way = By (pathOf a) in
+          let some : 1 ≤ free_count f = omega arith in
+          let some₂ : 1 ≤ free_count (taken f) = omega (arith, taken-count f some) in
+          let ms : List Transfer = both_split_moves v (path_of a) i st.work nb nib in
+          let way : Way = By (path_of a) in
           let moves : List Transfer = (reached v flag way).moves ++ ms in
-          let d : ℕ = cond inLow a.leaf.block nb in
-          let file₁ : List ℕ = withFree (head_or f₂.chain 0) f₂.lowest st.file in
-          let file' : List ℕ = entered (masterShape p) (length a.before) (indexEntry v (pathOf a) i st.work nb) nib (written p moves file₁) in
+          let d : ℕ = cond in_low a.leaf.block nb in
+          let file₁ : List ℕ = with_free (head_or f₂.chain 0) f₂.lowest st.file in
+          let file' : List ℕ = entered (master_shape p) (length a.before) (index_entry v (path_of a) i st.work nb) nib (written p moves file₁) in
           let e : Effect = landing p n st.work moves d file' in
-          let done : insertDone v flag st.work (Both (pathOf a) i nb (taken_of (taken f)) n) ≡ passed e
-          = ap (λ (x : List ℕ). passed (landing p n st.work ((reached v flag way).moves ++ bothSplitMoves v (pathOf a) i x nb nib) d
-          (bothSplitFile v flag (pathOf a) i x nb (taken_of (taken f))))) (work-is st ss f r) in
+          let done : insert_done v flag st.work (Both (path_of a) i nb (taken_of (taken f)) n) ≡ passed e
+          = ap (λ (x : List ℕ). passed (landing p n st.work ((reached v flag way).moves ++ both_split_moves v (path_of a) i x nb nib) d
+          (both_split_file v flag (path_of a) i x nb (taken_of (taken f))))) (work-is st ss f r) in
           let ws : List Cell = lf p leaf₁ ∷ (lf p leaf₂ ∷ ((a.index, ix p us) ∷ ((nib, ix p zs) ∷ []))) in
-          let ms-is : cellsWritten ms ≡ ws
+          let ms-is : cells_written ms ≡ ws
           = rw (
             low-is v a f A.held good st.work (work-ok st ss f r) full xs y ys cut lx nb,
             high_is v a f A.held good st.work (work-ok st ss f r) full xs y ys cut lx nb,
@@ -219,22 +219,22 @@ module _ (st : State) (ss : List Section) (f : Free) (r : Ready (desc st).wpr st
               ),
             ),
           ) in
-          let op : List ℕ → List ℕ = entered (masterShape p) (length a.before) (indexEntry v (pathOf a) i st.work nb) nib in
-          let law : (rest : List ℕ) → op (masterFor p (tree_of a) f₂ ++ rest) ≡ masterFor p
+          let op : List ℕ → List ℕ = entered (master_shape p) (length a.before) (index_entry v (path_of a) i st.work nb) nib in
+          let law : (rest : List ℕ) → op (master_for p (tree_of a) f₂ ++ rest) ≡ master_for p
           (a.before ++ (sec a.index us ∷ (sec nib zs ∷ a.behind))) f₂ ++ rest
-          = λ rest. ap (λ (x : List ℕ). entered (masterShape p) (length a.before) x nib (masterFor p (tree_of a) f₂ ++ rest))
+          = λ rest. ap (λ (x : List ℕ). entered (master_shape p) (length a.before) x nib (master_for p (tree_of a) f₂ ++ rest))
           (index-entry v a f A.held good st.work (work-ok st ss f r) full xs y ys cut lx nb most qs q zs cut₂ lq)
           ∙ master-entered p good a.before (sec a.index (olds a)) a.behind A.held.sized f₂ rest (sec a.index us) (sec nib zs)
           (record { some = a₁; room = a₂; leaves = all_left (LeafFits p) us _ all-ok })
           (last-cut st ss f r.sound r.opened kw a way A xs y ys nb asc ok₁ ok₂ nib us zs joined a₁ a₂ b₁ b₂) (rw (← A.is) c) in
-          subst (λ (z : Outcome). Gives st ss z n 8 (ins K st.work rows) bothSplit (a.before ++ (sec a.index us ∷ (sec nib zs ∷ a.behind)))
-          (taken (taken f))) (sym (nsert-by st ss f r (Both (pathOf a) i nb (taken_of (taken f)) n) e
+          subst (λ (z : Outcome). Gives st ss z n 8 (ins K st.work rows) both_split (a.before ++ (sec a.index us ∷ (sec nib zs ∷ a.behind)))
+          (taken (taken f))) (sym (nsert-by st ss f r (Both (path_of a) i nb (taken_of (taken f)) n) e
           (both-deed st ss f r kw a A C none l full most two c) done))
           (four-gives st ss f r.sound r.opened kw a way A xs y ys nb asc ok₁ ok₂ nib us zs joined a₁ a₂ b₁ b₂ refl refl two
           (rw (← A.is) c) ms ws ms-is fit (λ w. refl) op law
           (ins K st.work rows)
-          (ap recordsIn (leaves-cut st ss f r.sound r.opened kw a way A xs y ys nb asc ok₁ ok₂ nib us zs joined a₁ a₂ b₁ b₂) ∙ now)
+          (ap records_in (leaves-cut st ss f r.sound r.opened kw a way A xs y ys nb asc ok₁ ok₂ nib us zs joined a₁ a₂ b₁ b₂) ∙ now)
           (ins-ended st ss f r kw a A C none l)
-          d (half-spot st ss f r.sound r.opened kw a way A xs y ys nb asc ok₁ ok₂ nib us zs joined a₁ a₂ b₁ b₂ inLow) n 8 (cost ms 5 refl) bothSplit
-          (grow-from p ss (tree_of a) _ bothSplit A.is
+          d (half-spot st ss f r.sound r.opened kw a way A xs y ys nb asc ok₁ ok₂ nib us zs joined a₁ a₂ b₁ b₂ in_low) n 8 (cost ms 5 refl) both_split
+          (grow-from p ss (tree_of a) _ both_split A.is
           (grow-both p good a leaf₁ leaf₂ nib us zs joined full low-length high-length most us-length (omega (arith, sizes, lq)))))

@@ -3,7 +3,7 @@ use Prim.Native.Nat.{ℕ}
 use mathlib.Core.Bool.{Bool, true, false}
 use mathlib.Core.Path.{◌≡◌, refl}
 use mathlib.Core.List.{List, [], ◌∷◌}
-use Rattle.numbers.specs.Numbers.{wrongSize, alreadyOpen, isClosed, wrongKey, badFile, notFound, outOfSequence, noRoom, noneFree, atEnd, done}
+use Rattle.numbers.specs.Numbers.{wrong_size, already_open, is_closed, wrong_key, bad_file, not_found, out_of_sequence, no_room, none_free, at_end, done}
 use Rattle.words.specs.Words.{zeros}
 use Rattle.drum.specs.declared.Description.{Description}
 use Rattle.layout.specs.Create.{created}
@@ -50,13 +50,13 @@ unfoldable pub given_by : State → List Request → List ℕ
 given_by st [] = []
 given_by st (q ∷ qs) = (answer st q).number ∷ given_by st qs
 
-pub occurs-open : (given_by closed (opening [] ∷ opening (zeros 4) ∷ []) ≡ wrongSize ∷ done ∷ []) × ((answer fresh (opening (zeros 4))).number ≡ alreadyOpen)
-    × ((answer blank (opening (zeros 4))).number ≡ badFile)
+pub occurs-open : (given_by closed (opening [] ∷ opening (zeros 4) ∷ []) ≡ wrong_size ∷ done ∷ []) × ((answer fresh (opening (zeros 4))).number ≡ already_open)
+    × ((answer blank (opening (zeros 4))).number ≡ bad_file)
 unfolding computing given_by
 occurs-open = (refl, refl, refl)
 
-pub occurs-close : ((answer fresh closing).number ≡ done) × ((answer closed closing).number ≡ isClosed) × ((answer astray closing).number ≡ badFile)
-    × ((answer (over (session true 0 false) []) closing).number ≡ wrongSize)
+pub occurs-close : ((answer fresh closing).number ≡ done) × ((answer closed closing).number ≡ is_closed) × ((answer astray closing).number ≡ bad_file)
+    × ((answer (over (session true 0 false) []) closing).number ≡ wrong_size)
 unfolding computing
 occurs-close = (refl, refl, refl, refl)
 
@@ -65,7 +65,7 @@ abbrev asked : (List ℕ → Request) → List Request
 asked q = q [] ∷ q (rec 262143) ∷ q (rec 7) ∷ q (rec 10) ∷ []
 
 abbrev found : List ℕ
-found = wrongSize ∷ wrongKey ∷ notFound ∷ done ∷ []
+found = wrong_size ∷ wrong_key ∷ not_found ∷ done ∷ []
 
 pub occurs-seek : (given_by two (asked seeking) ≡ found) × (given_by two (asked deleting) ≡ found) × (given_by two (asked updating) ≡ found)
 unfolding computing given_by
@@ -74,23 +74,23 @@ occurs-seek = (refl, refl, refl)
 abbrev keyed : List Request
 keyed = seeking (rec 7) ∷ deleting (rec 7) ∷ updating (rec 7) ∷ inserting (rec 7) ∷ extending (rec 7) ∷ advancing (rec 7) ∷ []
 
-pub occurs-refused : (given_by closed keyed ≡ isClosed ∷ isClosed ∷ isClosed ∷ isClosed ∷ isClosed ∷ isClosed ∷ [])
-    × (given_by broken keyed ≡ badFile ∷ badFile ∷ badFile ∷ badFile ∷ badFile ∷ badFile ∷ [])
+pub occurs-refused : (given_by closed keyed ≡ is_closed ∷ is_closed ∷ is_closed ∷ is_closed ∷ is_closed ∷ is_closed ∷ [])
+    × (given_by broken keyed ≡ bad_file ∷ bad_file ∷ bad_file ∷ bad_file ∷ bad_file ∷ bad_file ∷ [])
 unfolding computing given_by
 occurs-refused = (refl, refl)
 
-pub occurs-adv : (given_by two (advancing [] ∷ advancing (rec 0) ∷ []) ≡ wrongSize ∷ done ∷ []) × ((answer fresh (advancing (rec 0))).number ≡ atEnd)
+pub occurs-adv : (given_by two (advancing [] ∷ advancing (rec 0) ∷ []) ≡ wrong_size ∷ done ∷ []) × ((answer fresh (advancing (rec 0))).number ≡ at_end)
 unfolding computing given_by
 occurs-adv = (refl, refl)
 
 pub occurs-nsert : (given_by two (inserting [] ∷ inserting (rec 262143) ∷ inserting (rec 10) ∷ inserting (rec 5) ∷ [])
-    ≡ wrongSize ∷ wrongKey ∷ notFound ∷ noneFree ∷ [])
-    × ((answer fresh (inserting (rec 10))).number ≡ done) × ((answer full (inserting (rec 12))).number ≡ noRoom)
+    ≡ wrong_size ∷ wrong_key ∷ not_found ∷ none_free ∷ [])
+    × ((answer fresh (inserting (rec 10))).number ≡ done) × ((answer full (inserting (rec 12))).number ≡ no_room)
 unfolding computing given_by
 occurs-nsert = (refl, refl, refl)
 
 pub occurs-xtend : (given_by full (extending [] ∷ extending (rec 262143) ∷ extending (rec 7) ∷ extending (rec 30) ∷ [])
-    ≡ wrongSize ∷ wrongKey ∷ outOfSequence ∷ noneFree ∷ [])
-    × ((answer fresh (extending (rec 10))).number ≡ done) × ((answer (left full (extending (rec 30) ∷ [])) (extending (rec 40))).number ≡ noRoom)
+    ≡ wrong_size ∷ wrong_key ∷ out_of_sequence ∷ none_free ∷ [])
+    × ((answer fresh (extending (rec 10))).number ≡ done) × ((answer (left full (extending (rec 30) ∷ [])) (extending (rec 40))).number ≡ no_room)
 unfolding computing given_by
 occurs-xtend = (refl, refl, refl)

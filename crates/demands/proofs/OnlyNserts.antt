@@ -10,23 +10,23 @@ use Rattle.numbers.specs.Numbers.{accepted, done}
 use Rattle.words.specs.Keys.{val}
 use Rattle.drum.specs.declared.Description.{Description}
 use Rattle.layout.specs.Tree.{Section}
-use Rattle.rules.specs.State.{State, Outcome, desc, keyIn}
+use Rattle.rules.specs.State.{State, Outcome, desc, key_in}
 use Rattle.rules.specs.Requests.{Request, opening, closing, seeking, advancing, inserting, deleting, updating, extending, answer, left, tally}
-use Rattle.demands.specs.Formula.{acceptedBy, M, S, s, X, x}
-use Rattle.demands.specs.History.{Event, stored, removed, eventOf}
+use Rattle.demands.specs.Formula.{accepted_by, M, S, s, X, x}
+use Rattle.demands.specs.History.{Event, stored, removed, event_of}
 use Rattle.demands.specs.Reuse.{Takes, KeepsBlocks, Deletes}
-use Rattle.demands.specs.Full.{otherChange, OnlyNserts}
+use Rattle.demands.specs.Full.{other_change, OnlyNserts}
 use Rattle.demands.proofs.Scene.{scene}
 use Rattle.demands.proofs.Lists.{All}
 use Rattle.demands.proofs.Order.{Asc, below, from, hit, upd}
 use Rattle.demands.proofs.History.{cut, happen, happened}
-use Rattle.demands.proofs.Trees.{leavesIn, recordsIn, reach}
+use Rattle.demands.proofs.Trees.{leaves_in, records_in, reach}
 use Rattle.demands.proofs.Holds.{Free}
 use Rattle.demands.proofs.Sound.{Key, Sound}
 use Rattle.demands.proofs.Answers.{work-key}
 use Rattle.demands.proofs.Standing.{ordered}
 use Rattle.demands.proofs.AllBlocks.{below-lowest}
-use Rattle.demands.proofs.Moves.{treeIn}
+use Rattle.demands.proofs.Moves.{tree_in}
 use Rattle.demands.proofs.Growth.{Growth, plus, nothing, Tally}
 use Rattle.demands.proofs.Within.{brings, tally-same, seen}
 use Rattle.demands.proofs.Stepped.{numbered, KeyOf, Stepped}
@@ -47,8 +47,8 @@ length-upd K r top xs h u =
       length-append (below K x xs) (r ∷ from K (suc x) xs),
     )
 
-not-accepted : (o : Outcome) → acceptedBy o ≡ 0 → accepted o.number ≡ false
-unfolding acceptedBy
+not-accepted : (o : Outcome) → accepted_by o ≡ 0 → accepted o.number ≡ false
+unfolding accepted_by
 not-accepted o = go (accepted o.number)
   where
     go : (t : Bool) → cond {A = ℕ} t 1 0 ≡ 0 → t ≡ false
@@ -62,22 +62,22 @@ module _ (st : State) (ss : List Section) (f : Free) (h : Sound st ss f) where
 
   -- a call that brought so much left so many blocks and records more, and started none
   pub record Adds (q : Request) (z : Stepped st ss f q) : Type 0 where
-    pub details : length (leavesIn z.sections) ≡ length (leavesIn ss) + z.growth.splits
+    pub details : length (leaves_in z.sections) ≡ length (leaves_in ss) + z.growth.splits
     pub indexes : length z.sections ≡ length ss + z.growth.index-splits
-    pub records : length (recordsIn (leavesIn z.sections)) ≡ length (recordsIn (leavesIn ss)) + z.growth.records
+    pub records : length (records_in (leaves_in z.sections)) ≡ length (records_in (leaves_in ss)) + z.growth.records
     pub none : z.growth.starts ≡ 0
 
   module _ (q : Request) (z : Stepped st ss f q) where
-    was : f.lowest ≡ 1 + (length (leavesIn ss) + length ss) + length f.chain
+    was : f.lowest ≡ 1 + (length (leaves_in ss) + length ss) + length f.chain
     was = below-lowest (desc st) _ _ ss f h.kept.holds
 
-    now : z.free.lowest ≡ 1 + (length (leavesIn z.sections) + length z.sections) + length z.free.chain
+    now : z.free.lowest ≡ 1 + (length (leaves_in z.sections) + length z.sections) + length z.free.chain
     now = below-lowest (desc (answer st q).after) _ _ z.sections z.free z.sound.kept.holds
 
     -- as many blocks more as were taken
-    taking : Takes (z.growth.splits + z.growth.starts) (z.growth.index-splits + z.growth.index-starts) (treeIn ss f) (treeIn z.sections z.free)
+    taking : Takes (z.growth.splits + z.growth.starts) (z.growth.index-splits + z.growth.index-starts) (tree_in ss f) (tree_in z.sections z.free)
         → z.growth.starts ≡ 0 → z.growth.index-starts ≡ 0
-        → length (recordsIn (leavesIn z.sections)) ≡ length (recordsIn (leavesIn ss)) + z.growth.records → Adds q z
+        → length (records_in (leaves_in z.sections)) ≡ length (records_in (leaves_in ss)) + z.growth.records → Adds q z
     taking t a b e =
         let c = ap length t.chain
         ∙ length-drop ((z.growth.splits + z.growth.starts) + (z.growth.index-splits + z.growth.index-starts)) f.chain in
@@ -89,8 +89,8 @@ module _ (st : State) (ss : List Section) (f : Free) (h : Sound st ss f) where
         }
 
     -- as many as there were
-    keeping : KeepsBlocks (treeIn ss f) (treeIn z.sections z.free) → z.growth ≡ nothing
-        → length (recordsIn (leavesIn z.sections)) ≡ length (recordsIn (leavesIn ss)) → Adds q z
+    keeping : KeepsBlocks (tree_in ss f) (tree_in z.sections z.free) → z.growth ≡ nothing
+        → length (records_in (leaves_in z.sections)) ≡ length (records_in (leaves_in ss)) → Adds q z
     keeping k g e =
         let c = ap length k.chain in
         let d = ap (λ (y : Growth). y.splits) g in
@@ -105,25 +105,25 @@ module _ (st : State) (ss : List Section) (f : Free) (h : Sound st ss f) where
         }
 
     -- no record came or went; one came where n had its key
-    same-records : eventOf p q (answer st q) ≡ [] → length (recordsIn (leavesIn z.sections)) ≡ length rows
+    same-records : event_of p q (answer st q) ≡ [] → length (records_in (leaves_in z.sections)) ≡ length rows
     unfolding happened
     same-records e = ap length (z.contents-is ∙ ap (λ (es : List Event). happened K (map numbered es) rows) e)
 
-    put-records : (w : List ℕ) (n : ℕ) → eventOf p q (answer st q) ≡ stored w ∷ [] → length (hit K (val (keyIn p w)) rows) ≡ n
-        → length (recordsIn (leavesIn z.sections)) + n ≡ suc (length rows)
+    put-records : (w : List ℕ) (n : ℕ) → event_of p q (answer st q) ≡ stored w ∷ [] → length (hit K (val (key_in p w)) rows) ≡ n
+        → length (records_in (leaves_in z.sections)) + n ≡ suc (length rows)
     unfolding happened happen numbered
     put-records w n e m =
-        let k : Key p (keyIn p w) = (subst (All (KeyOf p)) e z.keys).0 in
-        let c : recordsIn (leavesIn z.sections) ≡ upd K w rows = z.contents-is ∙ ap (λ (es : List Event). happened K (map numbered es) rows) e in
-        let under : K w < reach p.k 0 (leavesIn ss) = omega (arith, work-key p w, k.below, h.kept.holds.top) in
-        let same : hit K (K w) rows ≡ hit K (val (keyIn p w)) rows = ap (λ (x : ℕ). hit K x rows) (work-key p w) in
+        let k : Key p (key_in p w) = (subst (All (KeyOf p)) e z.keys).0 in
+        let c : records_in (leaves_in z.sections) ≡ upd K w rows = z.contents-is ∙ ap (λ (es : List Event). happened K (map numbered es) rows) e in
+        let under : K w < reach p.k 0 (leaves_in ss) = omega (arith, work-key p w, k.below, h.kept.holds.top) in
+        let same : hit K (K w) rows ≡ hit K (val (key_in p w)) rows = ap (λ (x : ℕ). hit K x rows) (work-key p w) in
         omega (arith, ap length c, length-upd K w _ rows (ordered st ss f h).asc under, ap length same, m)
 
-  nserted : (w : List ℕ) (z : Stepped st ss f (inserting w)) → length (recordsIn (leavesIn z.sections)) ≡ length rows + z.growth.records
-  unfolding eventOf acceptedBy
+  nserted : (w : List ℕ) (z : Stepped st ss f (inserting w)) → length (records_in (leaves_in z.sections)) ≡ length rows + z.growth.records
+  unfolding event_of accepted_by
   nserted w z = go (accepted (answer st (inserting w)).number) refl
     where
-      go : (t : Bool) → accepted (answer st (inserting w)).number ≡ t → length (recordsIn (leavesIn z.sections)) ≡ length rows + z.growth.records
+      go : (t : Bool) → accepted (answer st (inserting w)).number ≡ t → length (records_in (leaves_in z.sections)) ≡ length rows + z.growth.records
       go true e =
           omega (
             arith,
@@ -139,11 +139,11 @@ module _ (st : State) (ss : List Section) (f : Free) (h : Sound st ss f) where
             ap (λ (t : Bool). cond {A = ℕ} t 1 0) e,
           )
 
-  updated : (w : List ℕ) (z : Stepped st ss f (updating w)) → length (recordsIn (leavesIn z.sections)) ≡ length rows
-  unfolding eventOf
+  updated : (w : List ℕ) (z : Stepped st ss f (updating w)) → length (records_in (leaves_in z.sections)) ≡ length rows
+  unfolding event_of
   updated w z = go (accepted (answer st (updating w)).number) refl
     where
-      go : (t : Bool) → accepted (answer st (updating w)).number ≡ t → length (recordsIn (leavesIn z.sections)) ≡ length rows
+      go : (t : Bool) → accepted (answer st (updating w)).number ≡ t → length (records_in (leaves_in z.sections)) ≡ length rows
       go true e =
           omega (
             arith,
@@ -151,8 +151,8 @@ module _ (st : State) (ss : List Section) (f : Free) (h : Sound st ss f) where
           )
       go false e = same-records (updating w) z (ap (λ (t : Bool). cond t (stored w ∷ []) []) e)
 
-  adds : (q : Request) (z : Stepped st ss f q) → otherChange q (answer st q) ≡ 0 → Adds q z
-  unfolding otherChange eventOf
+  adds : (q : Request) (z : Stepped st ss f q) → other_change q (answer st q) ≡ 0 → Adds q z
+  unfolding other_change event_of
   adds (opening marks) z o = keeping (opening marks) z z.moved z.brought (same-records (opening marks) z refl)
   adds closing z o = keeping closing z z.moved z.brought (same-records closing z refl)
   adds (seeking w) z o = keeping (seeking w) z z.moved z.brought (same-records (seeking w) z refl)
@@ -160,8 +160,8 @@ module _ (st : State) (ss : List Section) (f : Free) (h : Sound st ss f) where
   adds (inserting w) z o = taking (inserting w) z z.moved z.brought.1 z.brought.2 (nserted w z)
   adds (deleting w) z o =
       let e : eqb (answer st (deleting w)).number done ≡ false = not_done (answer st (deleting w)).number (not-accepted (answer st (deleting w)) o) in
-      keeping (deleting w) z (subst (λ (b : Bool). Deletes b (treeIn ss f) (treeIn z.sections z.free)) e z.moved) z.brought
-      (same-records (deleting w) z (ap (λ (t : Bool). cond t (removed (keyIn p w) ∷ []) []) e))
+      keeping (deleting w) z (subst (λ (b : Bool). Deletes b (tree_in ss f) (tree_in z.sections z.free)) e z.moved) z.brought
+      (same-records (deleting w) z (ap (λ (t : Bool). cond t (removed (key_in p w) ∷ []) []) e))
   adds (updating w) z o = keeping (updating w) z z.moved z.brought (updated w z)
   adds (extending w) z o =
       let e : accepted (answer st (extending w)).number ≡ false = not-accepted (answer st (extending w)) o in
@@ -175,9 +175,9 @@ module _ (st : State) (ss : List Section) (f : Free) (h : Sound st ss f) where
 pub record Grew (st : State) (ss : List Section) (f : Free) (g : Growth) : Type 0 where
   pub sound : Sound st ss f
   pub paid : Tally (desc st) ss g
-  pub leaves : length (leavesIn ss) ≡ 1 + g.splits
+  pub leaves : length (leaves_in ss) ≡ 1 + g.splits
   pub indexes : length ss ≡ 1 + g.index-splits
-  pub records : length (recordsIn (leavesIn ss)) ≡ 1 + g.records
+  pub records : length (records_in (leaves_in ss)) ≡ 1 + g.records
   pub none : g.starts ≡ 0
 
 -- the same brought, told in another way
@@ -194,7 +194,7 @@ grew-as st ss f g h a b c d e k = record {
 
 -- one such call
 grew-on : (st : State) (ss : List Section) (f : Free) (g : Growth) (k : Grew st ss f g) (q : Request) (z : Stepped st ss f q)
-    → otherChange q (answer st q) ≡ 0 → Grew (answer st q).after z.sections z.free (plus z.growth g)
+    → other_change q (answer st q) ≡ 0 → Grew (answer st q).after z.sections z.free (plus z.growth g)
 grew-on st ss f g k q z o =
     let a : Adds st ss f k.sound q z = adds st ss f k.sound q z o in
     record {

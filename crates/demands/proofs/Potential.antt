@@ -5,22 +5,22 @@ use mathlib.Core.Path.{◌≡◌, refl, sym, subst}
 use mathlib.Core.List.{List, [], ◌∷◌, ◌++◌}
 use native.Mathlib.Omega.{arith}
 use native.Mathlib.Nat.{zero-add}
-use Rattle.table.specs.Splits.{lowCount}
+use Rattle.table.specs.Splits.{low_count}
 use Rattle.demands.proofs.Lists.{All, all_append, all_left, all_right}
 
 -- what the counts are above the larger part of a split, summed
 unfoldable pub excess : ℕ → List ℕ → ℕ
 excess cap [] = 0
-excess cap (c ∷ cs) = (c - lowCount cap) + excess cap cs
+excess cap (c ∷ cs) = (c - low_count cap) + excess cap cs
 
 -- no block holds more than its first row and n others, but for what is above the larger part of a split
 abbrev Filled : ℕ → ℕ → List ℕ → Type 0
-Filled cap n counts = All (λ c. c ≤ suc n + (c - lowCount cap)) counts
+Filled cap n counts = All (λ c. c ≤ suc n + (c - low_count cap)) counts
 
 -- the last count, or d where there is none
-abbrev pub last_or : ℕ → List ℕ → ℕ
-last_or d [] = d
-last_or d (c ∷ cs) = last_or c cs
+abbrev pub last_or_lem : ℕ → List ℕ → ℕ
+last_or_lem d [] = d
+last_or_lem d (c ∷ cs) = last_or_lem c cs
 
 excess-append : (cap : ℕ) (xs ys : List ℕ) → excess cap (xs ++ ys) ≡ excess cap xs + excess cap ys
 unfolding excess
@@ -31,18 +31,18 @@ filled_more : (cap n m : ℕ) → n ≤ m → (cs : List ℕ) → Filled cap n c
 filled_more cap n m l [] h = tt
 filled_more cap n m l (c ∷ cs) h = (omega (arith, h.0), filled_more cap n m l cs h.1)
 
-pub lastOr-append : (d : ℕ) (xs ys : List ℕ) → last_or d (xs ++ ys) ≡ last_or (last_or d xs) ys
-lastOr-append d [] ys = refl
-lastOr-append d (x ∷ xs) ys = lastOr-append x xs ys
+pub last_or-append : (d : ℕ) (xs ys : List ℕ) → last_or_lem d (xs ++ ys) ≡ last_or_lem (last_or_lem d xs) ys
+last_or-append d [] ys = refl
+last_or-append d (x ∷ xs) ys = last_or-append x xs ys
 
 -- the last count grows no more than an earlier one does
-lastOr-le : (a b : ℕ) (ys : List ℕ) → a ≤ b → last_or a ys ≤ last_or b ys
-lastOr-le a b [] h = h
-lastOr-le a b (y ∷ ys) h = omega arith
+last_or-le : (a b : ℕ) (ys : List ℕ) → a ≤ b → last_or_lem a ys ≤ last_or_lem b ys
+last_or-le a b [] h = h
+last_or-le a b (y ∷ ys) h = omega arith
 
-lastOr-suc : (a b : ℕ) (ys : List ℕ) → a ≤ suc b → last_or a ys ≤ suc (last_or b ys)
-lastOr-suc a b [] h = h
-lastOr-suc a b (y ∷ ys) h = omega arith
+last_or-suc : (a b : ℕ) (ys : List ℕ) → a ≤ suc b → last_or_lem a ys ≤ suc (last_or_lem b ys)
+last_or-suc a b [] h = h
+last_or-suc a b (y ∷ ys) h = omega arith
 
 -- `adds` rows came in, `splits` full blocks of `cap` rows were split, and `starts` blocks were started behind a last one of `fill` rows or more.
 -- `idle` of the rows paid for no split: a block begins with one row, and those that fill it up to the larger part of a split pay for none. So it
@@ -52,7 +52,7 @@ pub record Paid (cap fill : ℕ) (counts : List ℕ) (adds splits starts : ℕ) 
   pub halves : (cap + 1) / 2 * splits + excess cap counts + idle ≤ adds
   pub filled : Filled cap idle counts
   pub first : 1 ≤ splits → cap / 2 ≤ idle
-  pub fills : fill * starts + last_or 1 counts ≤ suc adds
+  pub fills : fill * starts + last_or_lem 1 counts ≤ suc adds
 
 pub paid-same : (cap fill : ℕ) (counts counts' : List ℕ) (adds adds' splits splits' starts starts' : ℕ) → counts ≡ counts' → adds ≡ adds' → splits ≡ splits'
     → starts ≡ starts'
@@ -63,15 +63,15 @@ paid-same cap fill counts counts' adds adds' splits splits' starts starts' e a s
 
 -- the count c of one block, among those before and behind it, becomes others
 module _ (cap fill : ℕ) (big : 2 ≤ cap) (adds splits starts : ℕ) (xs : List ℕ) (c : ℕ) (ys : List ℕ) (h : Paid cap fill (xs ++ c ∷ ys) adds splits starts) where
-  was : (cap + 1) / 2 * splits + (excess cap xs + ((c - lowCount cap) + excess cap ys)) + h.idle ≤ adds
+  was : (cap + 1) / 2 * splits + (excess cap xs + ((c - low_count cap) + excess cap ys)) + h.idle ≤ adds
   unfolding excess
   was = rw (excess-append cap xs (c ∷ ys)) at h.halves
 
-  was-here : c ≤ suc h.idle + (c - lowCount cap)
+  was-here : c ≤ suc h.idle + (c - low_count cap)
   was-here = (all_right _ xs (c ∷ ys) h.filled).0
 
-  was-last : fill * starts + last_or c ys ≤ suc adds
-  was-last = rw (lastOr-append 1 xs (c ∷ ys)) at h.fills
+  was-last : fill * starts + last_or_lem c ys ≤ suc adds
+  was-last = rw (last_or-append 1 xs (c ∷ ys)) at h.fills
 
   -- others in its place
   filled-with : (n : ℕ) → h.idle ≤ n → (zs : List ℕ) → Filled cap n zs → Filled cap n (xs ++ (zs ++ ys))
@@ -82,11 +82,11 @@ module _ (cap fill : ℕ) (big : 2 ≤ cap) (adds splits starts : ℕ) (xs : Lis
   pub paid-add : Paid cap fill (xs ++ suc c ∷ ys) (suc adds) splits starts
   unfolding excess
   paid-add = record {
-    idle = h.idle + (1 - (suc c - lowCount cap));
+    idle = h.idle + (1 - (suc c - low_count cap));
     halves = rw (excess-append cap xs (suc c ∷ ys)) (omega (arith, was));
     filled = filled-with _ (omega arith) (suc c ∷ []) (omega (arith, was-here), tt);
     first = λ s. omega (arith, h.first s);
-    fills = rw (lastOr-append 1 xs (suc c ∷ ys)) (omega (arith, was-last, lastOr-suc (suc c) c ys (omega arith)));
+    fills = rw (last_or-append 1 xs (suc c ∷ ys)) (omega (arith, was-last, last_or-suc (suc c) c ys (omega arith)));
   }
 
   -- a row goes, or none does
@@ -97,20 +97,20 @@ module _ (cap fill : ℕ) (big : 2 ≤ cap) (adds splits starts : ℕ) (xs : Lis
     halves = rw (excess-append cap xs (c' ∷ ys)) (omega (arith, was));
     filled = filled-with _ (omega arith) (c' ∷ []) (omega (arith, was-here), tt);
     first = h.first;
-    fills = rw (lastOr-append 1 xs (c' ∷ ys)) (omega (arith, was-last, lastOr-le c' c ys l));
+    fills = rw (last_or-append 1 xs (c' ∷ ys)) (omega (arith, was-last, last_or-le c' c ys l));
   }
 
   -- a row comes in, and the full block is split
-  pub paid-split : c ≡ cap → Paid cap fill (xs ++ lowCount cap ∷ ((cap + 1 - lowCount cap) ∷ ys)) (suc adds) (suc splits) starts
+  pub paid-split : c ≡ cap → Paid cap fill (xs ++ low_count cap ∷ ((cap + 1 - low_count cap) ∷ ys)) (suc adds) (suc splits) starts
   unfolding excess
   paid-split e = record {
     idle = h.idle;
-    halves = rw (excess-append cap xs (lowCount cap ∷ ((cap + 1 - lowCount cap) ∷ ys))) (omega (arith, was));
-    filled = filled-with _ (omega arith) (lowCount cap ∷ ((cap + 1 - lowCount cap) ∷ [])) (omega (arith, was-here), (omega (arith, was-here), tt));
+    halves = rw (excess-append cap xs (low_count cap ∷ ((cap + 1 - low_count cap) ∷ ys))) (omega (arith, was));
+    filled = filled-with _ (omega arith) (low_count cap ∷ ((cap + 1 - low_count cap) ∷ [])) (omega (arith, was-here), (omega (arith, was-here), tt));
     first = λ s. omega (arith, was-here);
     fills =
-        rw (lastOr-append 1 xs (lowCount cap ∷ ((cap + 1 - lowCount cap) ∷ ys)))
-        (omega (arith, was-last, lastOr-le (cap + 1 - lowCount cap) c ys (omega arith)));
+        rw (last_or-append 1 xs (low_count cap ∷ ((cap + 1 - low_count cap) ∷ ys)))
+        (omega (arith, was-last, last_or-le (cap + 1 - low_count cap) c ys (omega arith)));
   }
 
   -- a row comes in, and starts a block behind the last one
@@ -121,7 +121,7 @@ module _ (cap fill : ℕ) (big : 2 ≤ cap) (adds splits starts : ℕ) (xs : Lis
     halves = rw (excess-append cap xs (c ∷ (1 ∷ []))) (omega (arith, rw e at was));
     filled = rw e at (filled-with _ (omega arith) (c ∷ (1 ∷ [])) (was-here, (omega arith, tt)));
     first = h.first;
-    fills = rw (lastOr-append 1 xs (c ∷ (1 ∷ []))) (omega (arith, rw e at was-last));
+    fills = rw (last_or-append 1 xs (c ∷ (1 ∷ []))) (omega (arith, rw e at was-last));
   }
 
   -- the block goes, and is not the last one
@@ -132,7 +132,7 @@ module _ (cap fill : ℕ) (big : 2 ≤ cap) (adds splits starts : ℕ) (xs : Lis
     halves = rw (excess-append cap xs ys) (omega (arith, was));
     filled = filled-with _ (omega arith) [] tt;
     first = h.first;
-    fills = rw (lastOr-append 1 xs ys, e) (rw e at was-last);
+    fills = rw (last_or-append 1 xs ys, e) (rw e at was-last);
   }
 
 -- a file just made: one block with one row
@@ -148,6 +148,6 @@ pub paid-first : (cap fill : ℕ) (counts : List ℕ) (adds splits starts : ℕ)
     → 1 ≤ splits → (cap + 1) / 2 * splits + cap / 2 ≤ adds
 paid-first cap fill counts adds splits starts h s = omega (arith, h.halves, h.first s)
 
-pub paid-fills : (cap fill : ℕ) (counts : List ℕ) (adds splits starts : ℕ) → Paid cap fill counts adds splits starts → 1 ≤ last_or 1 counts
+pub paid-fills : (cap fill : ℕ) (counts : List ℕ) (adds splits starts : ℕ) → Paid cap fill counts adds splits starts → 1 ≤ last_or_lem 1 counts
     → fill * starts ≤ adds
 paid-fills cap fill counts adds splits starts h l = omega (arith, h.fills)

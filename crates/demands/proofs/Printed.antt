@@ -75,8 +75,8 @@ abbrev second : Description
 second = record { wpb = 8; wpr = 3; k = 1; space = 0; control = 2; n = 4; form = 2 }
 
 -- the file after the fifteen calls in the second form: block 2 is free, and says so
-abbrev atEnd : List ℕ
-atEnd =
+abbrev at_end : List ℕ
+at_end =
     1 ∷ 2 ∷ 5 ∷ 262143 ∷ 1 ∷ 0 ∷ 0 ∷ 0
     ∷ 4098 ∷ 20 ∷ 4 ∷ 262143 ∷ 3 ∷ 0 ∷ 0 ∷ 0
     ∷ 12288 ∷ 0 ∷ 0 ∷ 0 ∷ 0 ∷ 0 ∷ 0 ∷ 0
@@ -87,6 +87,6 @@ atEnd =
 pub table-second :
     (printed words (begun second) calls ≡ lines)
     × (text_of (texts (ended words (begun second) (take 5 calls))) 1 ≡ 4099 ∷ 10 ∷ 2 ∷ 20 ∷ 4 ∷ 262143 ∷ 3 ∷ 0 ∷ [])
-    × ((ended words (begun second) calls).file ≡ atEnd)
+    × ((ended words (begun second) calls).file ≡ at_end)
 unfolding computing
 table-second = (refl, refl, refl)

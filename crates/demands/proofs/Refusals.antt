@@ -11,17 +11,17 @@ use native.Mathlib.Omega.{arith}
 use Rattle.numbers.specs.Numbers as number_is
 use Rattle.numbers.specs.Checked.{Checked, passed, refused}
 use Rattle.drum.specs.declared.Description.{Description}
-use Rattle.drum.specs.Params.{goodParams, fileSize}
-use Rattle.layout.specs.Inspect.{layoutMarks}
+use Rattle.drum.specs.Params.{good_params, file_size}
+use Rattle.layout.specs.Inspect.{layout_marks}
 use Rattle.rules.specs.State.{State, Outcome, desc, lent, holding, outcome, unchanged}
-use Rattle.rules.specs.Checks.{sizesOk}
+use Rattle.rules.specs.Checks.{sizes_ok}
 use Rattle.rules.specs.Lookup.{Reached, stopping}
-use Rattle.rules.specs.Open.{Created, create, openChecks, openLayout, openDone, openFile}
+use Rattle.rules.specs.Open.{Created, create, open_checks, open_layout, open_done, open_file}
 use Rattle.rules.specs.Requests.{Request, opening, closing, seeking, advancing, inserting, deleting, updating, extending, answer, given}
-use Rattle.demands.specs.Refusals.{leavesAll, stops, AllUnchanged, JustReached, LookupDone, LastReached, LookedBefore, Stopped, Leaves, LeavesMarks}
+use Rattle.demands.specs.Refusals.{leaves_all, stops, AllUnchanged, JustReached, LookupDone, LastReached, LookedBefore, Stopped, Leaves, LeavesMarks}
 use Rattle.demands.proofs.Refused.{impossible, Refuses, refusing}
 use Rattle.demands.proofs.BadFile.{IsBad, walk-bad}
-use Rattle.demands.proofs.Ends.{stopped, went, at_last, at-found}
+use Rattle.demands.proofs.Ends.{stopped, went, at_last_lem, at-found}
 use Rattle.demands.proofs.Came.{CameTo, Rested, SoughtKey, SoughtLast, came, barred, ended, rested}
 
 all_same : (st : State) (n : ℕ) → AllUnchanged st (unchanged st n)
@@ -45,7 +45,7 @@ module _ (q : Request) (st : State) (bar ok : ℕ → Bool) (R : Reached → Typ
 
 -- OPEN and CLOSE stop nowhere
 rest-leaves : (q : Request) (st : State) (bar : ℕ → Bool) (o : Outcome) → Rested bar st o → Leaves q st o
-unfolding leavesAll stops
+unfolding leaves_all stops
 rest-leaves q st bar _ (barred n b) = record { refusal = λ e. all_same st n; stop = λ e. impossible (sym e ∙ b.plain) }
 rest-leaves q st bar o (rested _ d p k) = record { refusal = λ e. impossible (sym e ∙ rw d); stop = λ e. impossible (sym e ∙ rw d) }
 
@@ -54,7 +54,7 @@ looked-left : (st : State) (o : Outcome) (r : Reached) → SoughtKey st r → Ju
 looked-left st o r l j = record { result = l.result; looked = l.looked; leaves = subst (λ (z : Reached). JustReached st z o) l.is j }
 
 last-left : (st : State) (o : Outcome) (r : Reached) → SoughtLast st r → JustReached st r o → LastReached st o ⊎ LookedBefore st o
-last-left st o r (at_last way e g is) j = inl (record { way = way; last = e; alone = g; leaves = subst (λ (z : Reached). JustReached st z o) is j })
+last-left st o r (at_last_lem way e g is) j = inl (record { way = way; last = e; alone = g; leaves = subst (λ (z : Reached). JustReached st z o) is j })
 last-left st o r (at-found way w q l is) j =
     inr (record { way = way; last = w; found = q; looks = l; leaves = subst (λ (z : Reached). JustReached st z o) is j })
 
@@ -90,27 +90,27 @@ stopped-as st r o j = λ i. record {
 }
 
 -- OPEN's marks: 020007 and 020006 leave them as they were lent, 070003 leaves all 0
-pub marks-left : (st : State) (marks : List ℕ) → LeavesMarks st marks (openFile st marks)
-unfolding openFile openDone openLayout openChecks sizesOk
-marks-left st marks = go (openChecks st marks) (search refusing)
+pub marks-left : (st : State) (marks : List ℕ) → LeavesMarks st marks (open_file st marks)
+unfolding open_file open_done open_layout open_checks sizes_ok
+marks-left st marks = go (open_checks st marks) (search refusing)
   where
-    after : (c : Checked (List ℕ)) → Refuses IsBad c → LeavesMarks st marks (openLayout st c)
+    after : (c : Checked (List ℕ)) → Refuses IsBad c → LeavesMarks st marks (open_layout st c)
     after (refused n) r = let b = r.number n refl in record { wrong = λ e. absurd (omega arith); already = λ e. absurd (omega arith); bad = λ e. refl }
     after (passed ms) r = record { wrong = λ e. absurd (omega arith); already = λ e. absurd (omega arith); bad = λ e. absurd (omega arith) }
 
-    go : (c : Checked Bool) → Refuses (λ n. eqb n number_is.badFile ≡ false) c → LeavesMarks st marks (openDone st marks c)
+    go : (c : Checked Bool) → Refuses (λ n. eqb n number_is.bad_file ≡ false) c → LeavesMarks st marks (open_done st marks c)
     go (refused n) r = record {
       wrong = λ e. refl;
       already = λ e. refl;
-      bad = λ e. impossible (sym (eq-eqb n number_is.badFile e) ∙ r.number n refl);
+      bad = λ e. impossible (sym (eq-eqb n number_is.bad_file e) ∙ r.number n refl);
     }
-    go (passed x) r = after (layoutMarks (desc st) st.file) (walk-bad (desc st) st.file)
+    go (passed x) r = after (layout_marks (desc st) st.file) (walk-bad (desc st) st.file)
 
 -- CREATE refused, "can answer only 020007 or 0", leaves the file
-pub create-left : (p : Description) (f : List ℕ) → (create p f).number ≡ number_is.wrongSize → (create p f).file ≡ f
+pub create-left : (p : Description) (f : List ℕ) → (create p f).number ≡ number_is.wrong_size → (create p f).file ≡ f
 unfolding create
-create-left p f = go (goodParams p && eqb (length f) (fileSize p)) _ _ refl refl
+create-left p f = go (good_params p && eqb (length f) (file_size p)) _ _ refl refl
   where
-    go : (t : Bool) (a b : Created) → a.number ≡ number_is.done → b.file ≡ f → (cond t a b).number ≡ number_is.wrongSize → (cond t a b).file ≡ f
+    go : (t : Bool) (a b : Created) → a.number ≡ number_is.done → b.file ≡ f → (cond t a b).number ≡ number_is.wrong_size → (cond t a b).file ≡ f
     go true a b d g e = absurd (omega arith)
     go false a b d g e = g

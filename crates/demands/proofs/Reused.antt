@@ -7,13 +7,13 @@ use Rattle.words.specs.Words.{zeros}
 use Rattle.table.specs.Tables.{count}
 use lib.ListN.{get_or}
 use Rattle.drum.specs.declared.Description.{Description}
-use Rattle.drum.specs.Blocks.{block_at, chainHead, lowestUnused}
+use Rattle.drum.specs.Blocks.{block_at, chain_head, lowest_unused}
 use Rattle.rules.specs.State.{State}
 use Rattle.rules.specs.Open.{create}
-use Rattle.rules.specs.Run.{begun, createdOutcome}
+use Rattle.rules.specs.Run.{begun, created_outcome}
 use Rattle.rules.specs.Requests.{Request, opening, closing, seeking, inserting, deleting, updating, extending, answer, left}
 use Rattle.rules.proofs.Computing.{computing}
-use Rattle.demands.specs.Formula.{detailsUnder, detailBlocks, indexBlocks, acceptedBy}
+use Rattle.demands.specs.Formula.{details_under, detail_blocks, index_blocks, accepted_by}
 use Rattle.demands.specs.Filled.{disturbs, OnlyXtends}
 use Rattle.demands.specs.Reuse.{larger, peak}
 
@@ -24,11 +24,11 @@ abbrev spaced : Description
 spaced = record { wpb = 12; wpr = 3; k = 1; space = 1; control = 2; n = 9; form = 1 }
 
 -- CREATE and OPEN
-abbrev madeWith : Description → State
-madeWith p = (answer (createdOutcome (begun p) (create p (begun p).file)).after (opening (zeros p.n))).after
+abbrev made_with : Description → State
+made_with p = (answer (created_outcome (begun p) (create p (begun p).file)).after (opening (zeros p.n))).after
 
 abbrev made : State
-made = madeWith small
+made = made_with small
 
 abbrev rec : ℕ → List ℕ
 rec k = k ∷ 0 ∷ 0 ∷ []
@@ -36,7 +36,7 @@ rec k = k ∷ 0 ∷ 0 ∷ []
 -- words 1 and 2 of the master after each call of a run: the chain's head, and the lowest block never used
 unfoldable pub frees : State → List Request → List (List ℕ)
 frees st [] = []
-frees st (q ∷ qs) = let o = answer st q in (chainHead o.after.file ∷ lowestUnused o.after.file ∷ []) ∷ frees o.after qs
+frees st (q ∷ qs) = let o = answer st q in (chain_head o.after.file ∷ lowest_unused o.after.file ∷ []) ∷ frees o.after qs
 
 -- the second NSERT splits block 2, and 3 is new; the second DLETE frees 2; the last NSERT splits block 3, and 2 is used again: word 2 stays
 abbrev again : List Request
@@ -44,7 +44,7 @@ again = inserting (rec 10) ∷ inserting (rec 20) ∷ deleting (rec 10) ∷ dele
 
 pub used-again : (frees made again ≡ (0 ∷ 3 ∷ []) ∷ (0 ∷ 4 ∷ []) ∷ (0 ∷ 4 ∷ []) ∷ (2 ∷ 4 ∷ []) ∷ (2 ∷ 4 ∷ []) ∷ (0 ∷ 4 ∷ []) ∷ [])
     × (block_at small (left made again).file 1 ≡ 2 ∷ 40 ∷ 3 ∷ 262143 ∷ 2 ∷ 0 ∷ 0 ∷ 0 ∷ []) × (peak made again ≡ 3)
-unfolding computing frees detailsUnder detailBlocks indexBlocks larger peak
+unfolding computing frees details_under detail_blocks index_blocks larger peak
 used-again = (refl, refl, refl)
 
 -- six XTENDs fill the file, with a second section; six DLETEs free blocks 2 and 3, then 4 and after it the emptied index block 1, the head; then a
@@ -72,13 +72,13 @@ between =
     ∷ closing ∷ opening (zeros 6) ∷ seeking (rec 20) ∷ extending (rec 30) ∷ []
 
 pub others-between : OnlyXtends made between
-unfolding computing acceptedBy disturbs
+unfolding computing accepted_by disturbs
 others-between = refl
 
 -- eight XTENDs with SPACE 1: the counts of index block 1, of the blocks 2 to 5 under it, of block 6, begun with index block 7, and of 7
 abbrev extensions : List Request
 extensions = map extending (rec 10 ∷ rec 20 ∷ rec 30 ∷ rec 40 ∷ rec 50 ∷ rec 60 ∷ rec 70 ∷ rec 80 ∷ [])
 
-pub space-left : map (λ b. get_or (block_at spaced (left (madeWith spaced) extensions).file b) 0 0) (1 ∷ 2 ∷ 3 ∷ 4 ∷ 5 ∷ 6 ∷ 7 ∷ []) ≡ 4 ∷ 2 ∷ 2 ∷ 2 ∷ 2 ∷ 1 ∷ 1 ∷ []
+pub space-left : map (λ b. get_or (block_at spaced (left (made_with spaced) extensions).file b) 0 0) (1 ∷ 2 ∷ 3 ∷ 4 ∷ 5 ∷ 6 ∷ 7 ∷ []) ≡ 4 ∷ 2 ∷ 2 ∷ 2 ∷ 2 ∷ 1 ∷ 1 ∷ []
 unfolding computing
 space-left = refl

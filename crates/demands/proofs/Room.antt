@@ -11,27 +11,27 @@ use borrow.Author.Tests.{le-ltb}
 use Rattle.drum.specs.declared.Description.{Description}
 use Rattle.drum.specs.Params.{FD, FI}
 use Rattle.drum.proofs.Good.{good-facts}
-use Rattle.numbers.specs.Numbers.{accepted, noRoom}
+use Rattle.numbers.specs.Numbers.{accepted, no_room}
 use Rattle.words.specs.Words.{part}
-use Rattle.words.specs.Keys.{ones, isOnes, val}
-use Rattle.words.proofs.All.{isOnes-true}
-use Rattle.layout.specs.Create.{endRecord}
-use Rattle.layout.specs.Tree.{Leaf, Section, Tree, lastIn}
+use Rattle.words.specs.Keys.{ones, is_ones, val}
+use Rattle.words.proofs.All.{is_ones-true}
+use Rattle.layout.specs.Create.{end_record}
+use Rattle.layout.specs.Tree.{Leaf, Section, Tree, last_in}
 use Rattle.layout.specs.Tree as lay
 use Rattle.layout.specs.Holds as laid
 use Rattle.layout.proofs.Lists.{last-right}
 use Rattle.layout.proofs.Unique.{one-tree}
-use Rattle.rules.specs.State.{State, desc, texts, keyIn}
+use Rattle.rules.specs.State.{State, desc, texts, key_in}
 use Rattle.rules.specs.XtendDone.{xtend}
 use Rattle.rules.specs.Requests.{lending, answer}
 use Rattle.demands.specs.Promises.{put_back}
-use Rattle.demands.specs.Answers.{ordinary, recordsFrom}
+use Rattle.demands.specs.Answers.{ordinary, records_from}
 use Rattle.demands.specs.Filled.{ButLast, Full, Most, FullIndex, MostIndex, Tight, Any, Filled}
-use Rattle.demands.specs.Room.{hasRoom, StoredIf, RoomIn, RoomEnough}
+use Rattle.demands.specs.Room.{has_room, StoredIf, RoomIn, RoomEnough}
 use Rattle.demands.proofs.Scene.{scene}
 use Rattle.demands.proofs.Lists.{All, all_left, all_right, from_end}
 use Rattle.demands.proofs.Order.{Asc, asc-right, asc-le}
-use Rattle.demands.proofs.Trees.{leavesIn, leavesIn-append, recordsIn, records-append, key, bd, reach, reach-append}
+use Rattle.demands.proofs.Trees.{leaves_in, leaves_in-append, records_in, records-append, key, bd, reach, reach-append}
 use Rattle.demands.proofs.Holds.{Free, RowOk, LeafFits}
 use Rattle.demands.proofs.Steps.{sec}
 use Rattle.demands.proofs.Places.{lo}
@@ -39,16 +39,16 @@ use Rattle.demands.proofs.Records.{key-long}
 use Rattle.demands.proofs.Sound.{Key, Sound}
 use Rattle.demands.proofs.Answers.{Ready, key_of}
 use Rattle.demands.proofs.Stores.{asc-rows}
-use Rattle.demands.proofs.Frees.{freeCount, taken}
+use Rattle.demands.proofs.Frees.{free_count, taken}
 use Rattle.demands.proofs.Last.{ending, Last}
-use Rattle.demands.proofs.XtendRight.{Xtended, too-low, too-low-alone, before, room, started, both, no_room, xtend-right}
+use Rattle.demands.proofs.XtendRight.{Xtended, too-low, too-low-alone, before, room, started, both, no_room_lem, xtend-right}
 use Rattle.demands.proofs.Records.{rows_of, rows_ok}
 use Rattle.demands.proofs.Records.{row_under}
 use Rattle.demands.proofs.Ordinary.{some-from}
 use Rattle.demands.proofs.Opens.{flushed-stands}
 use Rattle.demands.proofs.Answered.{readied}
 use Rattle.demands.proofs.Growing.{stored-yes}
-use Rattle.demands.proofs.Moves.{treeIn}
+use Rattle.demands.proofs.Moves.{tree_in}
 use Rattle.demands.proofs.Fills.{fronts, ending-one}
 use Rattle.demands.proofs.Filled.{full-records, full-leaves, total-is}
 use Rattle.demands.proofs.RoomCounts.{same-room, next-room, both-room, stored-if}
@@ -56,10 +56,10 @@ use Rattle.demands.proofs.Promised.{after_open}
 
 -- tight leaves end where their last record does
 abbrev Ends : Description → ℕ → List Leaf → Type 0
-Ends p n ls = (rs : List (List ℕ)) × (r : List ℕ) × (recordsIn ls ≡ rs ++ r ∷ []) × (reach p.k n ls ≡ suc (key p.k r))
+Ends p n ls = (rs : List (List ℕ)) × (r : List ℕ) × (records_in ls ≡ rs ++ r ∷ []) × (reach p.k n ls ≡ suc (key p.k r))
 
 tight-end : (p : Description) (n : ℕ) (ls : List Leaf) → All (Tight p) ls → All (LeafFits p) ls → (reach p.k n ls ≡ n) ⊎ Ends p n ls
-unfolding key part bd lastIn
+unfolding key part bd last_in
 tight-end p n ls t ok = go (from_end ls)
   where
     go : (ls ≡ []) ⊎ ((xs : List Leaf) × (y : Leaf) × (ls ≡ xs ++ y ∷ [])) → (reach p.k n ls ≡ n) ⊎ Ends p n ls
@@ -72,22 +72,22 @@ tight-end p n ls t ok = go (from_end ls)
         by : (y.records ≡ []) ⊎ ((rs : List (List ℕ)) × (r : List ℕ) × (y.records ≡ rs ++ r ∷ [])) → Ends p n ls
         by (inl z) = absurd (omega (arith, some, ap length z))
         by (inr (rs, r, z)) =
-            let last : lastIn y.records ≡ r = ap lastIn z ∙ last-right rs (r ∷ []) (omega arith) in
-            let tight : y.bound ≡ keyIn p r = (all_right (Tight p) xs (y ∷ []) (subst (All (Tight p)) e t)).0 ∙ ap (keyIn p) last in (
-              recordsIn xs ++ rs,
+            let last : last_in y.records ≡ r = ap last_in z ∙ last-right rs (r ∷ []) (omega arith) in
+            let tight : y.bound ≡ key_in p r = (all_right (Tight p) xs (y ∷ []) (subst (All (Tight p)) e t)).0 ∙ ap (key_in p) last in (
+              records_in xs ++ rs,
               r,
-              ap recordsIn e ∙ records-append xs (y ∷ []) ∙ ap (λ (u : List (List ℕ)). recordsIn xs ++ u) (append-nil y.records ∙ z) ∙ sym
-                  (append_assoc (recordsIn xs) rs (r ∷ [])),
+              ap records_in e ∙ records-append xs (y ∷ []) ∙ ap (λ (u : List (List ℕ)). records_in xs ++ u) (append-nil y.records ∙ z) ∙ sym
+                  (append_assoc (records_in xs) rs (r ∷ [])),
               ap (reach p.k n) e ∙ reach-append p.k n xs (y ∷ []) ∙ ap (λ (u : List ℕ). suc (val u)) tight,
             )
 
-module _ (st : State) (ss : List Section) (f : Free) (r : Ready (desc st).wpr st ss f) (F : Filled (desc st) (treeIn ss f))
-    (above : ordinary (desc st) (recordsFrom (desc st) (keyIn (desc st) st.work) (recordsIn (leavesIn ss))) ≡ [])
+module _ (st : State) (ss : List Section) (f : Free) (r : Ready (desc st).wpr st ss f) (F : Filled (desc st) (tree_in ss f))
+    (above : ordinary (desc st) (records_from (desc st) (key_in (desc st) st.work) (records_in (leaves_in ss))) ≡ [])
     (L : Last (texts st) st.session.flag ss f) where
   open scene st ss use {p, w, K}
 
   abbrev pre : List Leaf
-  pre = leavesIn L.before ++ L.low
+  pre = leaves_in L.before ++ L.low
 
   kr : p.k ≤ p.wpr
   kr = (good-facts p r.sound.kept.good).key
@@ -95,39 +95,39 @@ module _ (st : State) (ss : List Section) (f : Free) (r : Ready (desc st).wpr st
   kw : Key p w
   kw = key_of p.wpr st ss f r kr (omega arith)
 
-  flat : leavesIn ss ≡ pre ++ (L.leaf ∷ [])
-  flat = ap leavesIn L.at.is ∙ simp (leavesIn-append, append_assoc, append-nil)
+  flat : leaves_in ss ≡ pre ++ (L.leaf ∷ [])
+  flat = ap leaves_in L.at.is ∙ simp (leaves_in-append, append_assoc, append-nil)
 
-  rows_are : recordsIn (leavesIn ss) ≡ recordsIn pre ++ (L.front ++ endRecord p ∷ [])
+  rows_are : records_in (leaves_in ss) ≡ records_in pre ++ (L.front ++ end_record p ∷ [])
   rows_are =
-      ap recordsIn flat ∙ records-append pre (L.leaf ∷ []) ∙ ap (λ (z : List (List ℕ)). recordsIn pre ++ z) (append-nil L.leaf.records ∙ L.rows_are)
+      ap records_in flat ∙ records-append pre (L.leaf ∷ []) ∙ ap (λ (z : List (List ℕ)). records_in pre ++ z) (append-nil L.leaf.records ∙ L.rows_are)
 
-  ok : All (RowOk p) (recordsIn (leavesIn ss))
-  ok = rows_of p (leavesIn ss) (rows_ok p ss r.sound.kept.holds.sized)
+  ok : All (RowOk p) (records_in (leaves_in ss))
+  ok = rows_of p (leaves_in ss) (rows_ok p ss r.sound.kept.holds.sized)
 
   -- no ordinary record is at or above the key
-  not_there : (xs : List (List ℕ)) (y u : List ℕ) (ys : List (List ℕ)) → recordsIn (leavesIn ss) ≡ xs ++ y ∷ (u ∷ ys) → val w ≤ K y → ⊥
+  not_there : (xs : List (List ℕ)) (y u : List ℕ) (ys : List (List ℕ)) → records_in (leaves_in ss) ≡ xs ++ y ∷ (u ∷ ys) → val w ≤ K y → ⊥
   not_there xs y u ys e l =
-      some-from p kr w kw xs y (u ∷ ys) (row_under p kr w kw y yok ∙ le-ltb (K y) (val w) l) (less (isOnes (keyIn p y)) refl)
-      (ap (λ (z : List (List ℕ)). ordinary p (recordsFrom p w z)) (sym e) ∙ above)
+      some-from p kr w kw xs y (u ∷ ys) (row_under p kr w kw y yok ∙ le-ltb (K y) (val w) l) (less (is_ones (key_in p y)) refl)
+      (ap (λ (z : List (List ℕ)). ordinary p (records_from p w z)) (sym e) ∙ above)
     where
       yok : RowOk p y
       yok = (all_right (RowOk p) xs (y ∷ (u ∷ ys)) (subst (All (RowOk p)) e ok)).0
 
-      asc : Asc K 0 (xs ++ y ∷ (u ∷ ys)) (reach p.k 0 (leavesIn ss))
-      asc = subst (λ (z : List (List ℕ)). Asc K 0 z (reach p.k 0 (leavesIn ss))) e (asc-rows p _ _ ss f r.sound.kept.holds)
+      asc : Asc K 0 (xs ++ y ∷ (u ∷ ys)) (reach p.k 0 (leaves_in ss))
+      asc = subst (λ (z : List (List ℕ)). Asc K 0 z (reach p.k 0 (leaves_in ss))) e (asc-rows p _ _ ss f r.sound.kept.holds)
 
-      less : (t : Bool) → isOnes (keyIn p y) ≡ t → t ≡ false
+      less : (t : Bool) → is_ones (key_in p y) ≡ t → t ≡ false
       less false o = refl
       less true o =
-          let top : K y ≡ val (ones p.k) = unfold key part in ap val (isOnes-true p.k _ (key-long p kr y yok).0 o) in
+          let top : K y ≡ val (ones p.k) = unfold key part in ap val (is_ones-true p.k _ (key-long p kr y yok).0 o) in
           let s = asc-right K 0 xs (y ∷ (u ∷ ys)) _ asc in
           absurd (omega (arith, top, s.1.0, asc-le K (suc (K u)) ys _ s.1.1, r.sound.kept.holds.top))
 
   -- XTEND is in sequence
   in_row : (fr : List (List ℕ)) (y : List ℕ) → L.front ≡ fr ++ y ∷ [] → val w ≤ K y → ⊥
   in_row fr y e =
-      not_there (recordsIn pre ++ fr) y (endRecord p) [] (rows_are ∙ ap (λ (z : List (List ℕ)). recordsIn pre ++ (z ++ endRecord p ∷ [])) e ∙ simp append_assoc)
+      not_there (records_in pre ++ fr) y (end_record p) [] (rows_are ∙ ap (λ (z : List (List ℕ)). records_in pre ++ (z ++ end_record p ∷ [])) e ∙ simp append_assoc)
 
   alone : L.front ≡ [] → val w < lo p (ending L.before L.index L.low L.leaf) → ⊥
   alone e l = go (tight-end p 0 pre tights oks)
@@ -139,14 +139,14 @@ module _ (st : State) (ss : List Section) (f : Free) (r : Ready (desc st).wpr st
       oks = all_left (LeafFits p) pre _ (subst (All (LeafFits p)) flat (rows_ok p ss r.sound.kept.holds.sized))
 
       start : reach p.k 0 pre ≡ lo p (ending L.before L.index L.low L.leaf)
-      start = reach-append p.k 0 (leavesIn L.before) L.low
+      start = reach-append p.k 0 (leaves_in L.before) L.low
 
       go : (reach p.k 0 pre ≡ 0) ⊎ Ends p 0 pre → ⊥
       go (inl z) = omega (arith, start, z, l)
       go (inr (rs, y, c, z)) =
-          not_there rs y (endRecord p) []
-          (rows_are ∙ ap (λ (u : List (List ℕ)). recordsIn pre ++ (u ++ endRecord p ∷ [])) e ∙ ap (λ (u : List (List ℕ)). u ++ endRecord p ∷ []) c
-          ∙ append_assoc rs (y ∷ []) (endRecord p ∷ [])) (omega (arith, start, z, l))
+          not_there rs y (end_record p) []
+          (rows_are ∙ ap (λ (u : List (List ℕ)). records_in pre ++ (u ++ end_record p ∷ [])) e ∙ ap (λ (u : List (List ℕ)). u ++ end_record p ∷ []) c
+          ∙ append_assoc rs (y ∷ []) (end_record p ∷ [])) (omega (arith, start, z, l))
 
   -- ---- the counts
 
@@ -157,7 +157,7 @@ module _ (st : State) (ss : List Section) (f : Free) (r : Ready (desc st).wpr st
   under = length (L.low ++ (L.leaf ∷ []))
 
   abbrev total : ℕ
-  total = length (ordinary (desc st) (lay.contents (treeIn ss f))) + 1
+  total = length (ordinary (desc st) (lay.contents (tree_in ss f))) + 1
 
   fulls : ButLast (Full p) (Most p) (pre ++ (L.leaf ∷ []))
   fulls = subst (ButLast (Full p) (Most p)) flat F.details
@@ -177,8 +177,8 @@ module _ (st : State) (ss : List Section) (f : Free) (r : Ready (desc st).wpr st
         arith,
         total-is st ss f r.sound F,
         ap length rows_are,
-        length-append (recordsIn pre) (L.front ++ endRecord p ∷ []),
-        length-append L.front (endRecord p ∷ []),
+        length-append (records_in pre) (L.front ++ end_record p ∷ []),
+        length-append L.front (end_record p ∷ []),
         ap length L.rows_are,
         full-records p pre (fronts (Full p) (Most p) pre L.leaf fulls),
       )
@@ -187,7 +187,7 @@ module _ (st : State) (ss : List Section) (f : Free) (r : Ready (desc st).wpr st
   leaves-are =
       omega (
         arith,
-        length-append (leavesIn L.before) L.low,
+        length-append (leaves_in L.before) L.low,
         length-append L.low (L.leaf ∷ []),
         full-leaves p L.before (fronts (FullIndex p) (MostIndex p) L.before (sec L.index (L.low ++ (L.leaf ∷ []))) full-indexes),
       )
@@ -196,7 +196,7 @@ module _ (st : State) (ss : List Section) (f : Free) (r : Ready (desc st).wpr st
   sections-are = ap length L.at.is ∙ length-append L.before (sec L.index (L.low ++ (L.leaf ∷ [])) ∷ [])
 
   -- the blocks in use and the free ones are N
-  blocks-are : 2 + length pre + length L.before + freeCount f ≡ p.n
+  blocks-are : 2 + length pre + length L.before + free_count f ≡ p.n
   blocks-are =
       omega (
         arith,
@@ -223,9 +223,9 @@ module _ (st : State) (ss : List Section) (f : Free) (r : Ready (desc st).wpr st
 
   module _ (x : ℕ) where
     -- the last block has room
-    when-room : size < FD p → (accepted x ≡ true) → StoredIf (hasRoom p total) x
+    when-room : size < FD p → (accepted x ≡ true) → StoredIf (has_room p total) x
     when-room less yes-is =
-        stored-if (hasRoom p total) x (1 + length pre + (1 + length L.before)) p.n (1 + length L.before) p.control
+        stored-if (has_room p total) x (1 + length pre + (1 + length L.before)) p.n (1 + length L.before) p.control
         (same-room p (length pre) size total (length L.before) under records-are leaves-are less
         (omega (arith, length-append L.low (L.leaf ∷ []))) under-most)
         (λ a b. yes-is) (λ bad. absurd (never bad))
@@ -235,29 +235,29 @@ module _ (st : State) (ss : List Section) (f : Free) (r : Ready (desc st).wpr st
         never (inr a) = omega (arith, few-sections, sections-are)
 
     -- it is full: one block more
-    when-block : FD p ≤ size → under < FI p → (1 ≤ freeCount f → accepted x ≡ true) → (freeCount f ≡ 0 → x ≡ noRoom) → StoredIf (hasRoom p total) x
+    when-block : FD p ≤ size → under < FI p → (1 ≤ free_count f → accepted x ≡ true) → (free_count f ≡ 0 → x ≡ no_room) → StoredIf (has_room p total) x
     when-block full less yes-is no-is =
-        stored-if (hasRoom p total) x (1 + (length pre + 1) + (1 + length L.before)) p.n (1 + length L.before) p.control
+        stored-if (has_room p total) x (1 + (length pre + 1) + (1 + length L.before)) p.n (1 + length L.before) p.control
         (next-room p (length pre) size total (length L.before) under records-are leaves-are (omega (arith, size-most)) fd less)
         (λ a b. yes-is (omega (arith, blocks-are))) bad
       where
-        bad : (p.n < 1 + (length pre + 1) + (1 + length L.before)) ⊎ (p.control < 1 + length L.before) → x ≡ noRoom
+        bad : (p.n < 1 + (length pre + 1) + (1 + length L.before)) ⊎ (p.control < 1 + length L.before) → x ≡ no_room
         bad (inl a) = no-is (omega (arith, blocks-are))
         bad (inr a) = absurd (omega (arith, few-sections, sections-are))
 
     -- so is the section: one section more
-    when-section : FD p ≤ size → FI p ≤ under → (2 ≤ freeCount f → length ss < p.control → accepted x ≡ true)
-        → ((freeCount f ≤ 1) ⊎ (p.control ≤ length ss) → x ≡ noRoom) → StoredIf (hasRoom p total) x
+    when-section : FD p ≤ size → FI p ≤ under → (2 ≤ free_count f → length ss < p.control → accepted x ≡ true)
+        → ((free_count f ≤ 1) ⊎ (p.control ≤ length ss) → x ≡ no_room) → StoredIf (has_room p total) x
     when-section full most yes-is no-is =
-        stored-if (hasRoom p total) x (1 + (length pre + 1) + (1 + (length L.before + 1))) p.n (1 + (length L.before + 1)) p.control
+        stored-if (has_room p total) x (1 + (length pre + 1) + (1 + (length L.before + 1))) p.n (1 + (length L.before + 1)) p.control
         (both-room p (length pre) size total (length L.before) under records-are leaves-are (omega (arith, size-most)) fd (omega (arith, under-most)) fi)
         (λ a b. yes-is (omega (arith, blocks-are)) (omega (arith, sections-are))) bad
       where
-        bad : (p.n < 1 + (length pre + 1) + (1 + (length L.before + 1))) ⊎ (p.control < 1 + (length L.before + 1)) → x ≡ noRoom
+        bad : (p.n < 1 + (length pre + 1) + (1 + (length L.before + 1))) ⊎ (p.control < 1 + (length L.before + 1)) → x ≡ no_room
         bad (inl a) = no-is (inl (omega (arith, blocks-are)))
         bad (inr a) = no-is (inr (omega (arith, sections-are)))
 
-  room_by : Xtended st ss f L → StoredIf (hasRoom p total) (xtend st).number
+  room_by : Xtended st ss f L → StoredIf (has_room p total) (xtend st).number
   room_by (too-low fr y e l g) = absurd (in_row fr y e l)
   room_by (too-low-alone e l hs g) = absurd (alone e l)
   room_by (before e l s n a y) = absurd (alone e l)
@@ -265,18 +265,18 @@ module _ (st : State) (ss : List Section) (f : Free) (r : Ready (desc st).wpr st
   room_by (started iq l m s g) = when-block _ l m (λ a. ap accepted g.number_is ∙ stored-yes p _ (taken f)) (λ z. absurd (omega arith))
   room_by (both iq l m s c g) = when-section _ l m (λ a b. ap accepted g.number_is ∙ stored-yes p _ (taken (taken f))) (λ z. absurd (enough z))
     where
-      enough : (freeCount f ≤ 1) ⊎ (p.control ≤ length ss) → ⊥
+      enough : (free_count f ≤ 1) ⊎ (p.control ≤ length ss) → ⊥
       enough (inl a) = omega arith
       enough (inr a) = omega arith
-  room_by (no_room iq l (inl z) g) = go (dec_le (FI p) under)
+  room_by (no_room_lem iq l (inl z) g) = go (dec_le (FI p) under)
     where
-      go : Dec (FI p ≤ under) → StoredIf (hasRoom p total) (xtend st).number
+      go : Dec (FI p ≤ under) → StoredIf (has_room p total) (xtend st).number
       go (yes m) = when-section _ l m (λ a b. absurd (omega arith)) (λ z. g.number_is)
       go (no m) = when-block _ l (omega arith) (λ a. absurd (omega arith)) (λ z. g.number_is)
-  room_by (no_room iq l (inr (m, inl z)) g) = when-section _ l m (λ a b. absurd (omega arith)) (λ z. g.number_is)
-  room_by (no_room iq l (inr (m, inr z)) g) = when-section _ l m (λ a b. absurd (omega arith)) (λ z. g.number_is)
+  room_by (no_room_lem iq l (inr (m, inl z)) g) = when-section _ l m (λ a b. absurd (omega arith)) (λ z. g.number_is)
+  room_by (no_room_lem iq l (inr (m, inr z)) g) = when-section _ l m (λ a b. absurd (omega arith)) (λ z. g.number_is)
 
-room_of : (st : State) (ss : List Section) (f : Free) → Sound st ss f → Filled (desc st) (treeIn ss f) → RoomIn st (treeIn ss f)
+room_of : (st : State) (ss : List Section) (f : Free) → Sound st ss f → Filled (desc st) (tree_in ss f) → RoomIn st (tree_in ss f)
 unfolding answer lending
 room_of st ss f h F w ask above =
     let r = readied st ss f h (desc st).wpr w ask in
@@ -286,5 +286,5 @@ room_of st ss f h F w ask above =
 pub room-enough : RoomEnough
 room-enough =
     after_open (λ (st : State). (t : Tree) → laid.Holds (desc st) (put_back st) t → Filled (desc st) t → RoomIn st t) λ st ss f h t ht.
-    let is : treeIn ss f ≡ t = one-tree (desc st) (put_back st) (treeIn ss f) t h.kept.good (flushed-stands st ss f h) ht in
+    let is : tree_in ss f ≡ t = one-tree (desc st) (put_back st) (tree_in ss f) t h.kept.good (flushed-stands st ss f h) ht in
     subst (λ (z : Tree). Filled (desc st) z → RoomIn st z) is (room_of st ss f h)

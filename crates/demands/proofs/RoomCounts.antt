@@ -10,7 +10,7 @@ use lib.Dec.{leb}
 use borrow.Author.Tests.{le-leb, lt-leb}
 use Rattle.drum.specs.declared.Description.{Description}
 use Rattle.drum.specs.Params.{FD, FI}
-use Rattle.demands.specs.Room.{hasRoom, StoredIf}
+use Rattle.demands.specs.Room.{has_room, StoredIf}
 
 -- n full ones and one of r, fewer than m
 quotient : (n m r total : ℕ) → r < m → total ≡ n * m + r → total / m ≡ n
@@ -19,8 +19,8 @@ quotient n m r total less e = div-eq_of_lt-le m (omega arith) (omega arith)
 -- the number of records with the new one, n full blocks and r in the last; and n + 1 blocks, x full sections and s blocks in the last
 module _ (p : Description) (n r total x s : ℕ) (e : total ≡ n * FD p + r) (le : n + 1 ≡ x * FI p + s) where
   -- the last block has room
-  pub same-room : r < FD p → 1 ≤ s → s ≤ FI p → hasRoom p total ≡ leb (1 + n + (1 + x)) p.n && leb (1 + x) p.control
-  unfolding hasRoom
+  pub same-room : r < FD p → 1 ≤ s → s ≤ FI p → has_room p total ≡ leb (1 + n + (1 + x)) p.n && leb (1 + x) p.control
+  unfolding has_room
   same-room less some most =
       let d : total / FD p ≡ n = quotient n (FD p) r total less e in
       let i : n / FI p ≡ x = quotient x (FI p) (s - 1) n (omega arith) (omega arith) in
@@ -28,16 +28,16 @@ module _ (p : Description) (n r total x s : ℕ) (e : total ≡ n * FD p + r) (l
       (λ (k : ℕ). leb (1 + n + (1 + k)) p.n && leb (1 + k) p.control) i
 
   -- it is full, and so is, or is not, the last section
-  pub next-room : r ≡ FD p → 1 ≤ FD p → s < FI p → hasRoom p total ≡ leb (1 + (n + 1) + (1 + x)) p.n && leb (1 + x) p.control
-  unfolding hasRoom
+  pub next-room : r ≡ FD p → 1 ≤ FD p → s < FI p → has_room p total ≡ leb (1 + (n + 1) + (1 + x)) p.n && leb (1 + x) p.control
+  unfolding has_room
   next-room full some less =
       let d : total / FD p ≡ n + 1 = quotient (n + 1) (FD p) 0 total some (omega arith) in
       let i : (n + 1) / FI p ≡ x = quotient x (FI p) s (n + 1) less le in
       ap (λ (k : ℕ). leb (1 + k + (1 + k / FI p)) p.n && leb (1 + k / FI p) p.control) d ∙ ap
       (λ (k : ℕ). leb (1 + (n + 1) + (1 + k)) p.n && leb (1 + k) p.control) i
 
-  pub both-room : r ≡ FD p → 1 ≤ FD p → s ≡ FI p → 1 ≤ FI p → hasRoom p total ≡ leb (1 + (n + 1) + (1 + (x + 1))) p.n && leb (1 + (x + 1)) p.control
-  unfolding hasRoom
+  pub both-room : r ≡ FD p → 1 ≤ FD p → s ≡ FI p → 1 ≤ FI p → has_room p total ≡ leb (1 + (n + 1) + (1 + (x + 1))) p.n && leb (1 + (x + 1)) p.control
+  unfolding has_room
   both-room full some most two =
       let d : total / FD p ≡ n + 1 = quotient (n + 1) (FD p) 0 total some (omega arith) in
       let i : (n + 1) / FI p ≡ x + 1 = quotient (x + 1) (FI p) 0 (n + 1) two (omega arith) in

@@ -5,7 +5,7 @@ use lib.ListN.{length}
 use Rattle.words.specs.Words.{zeros}
 unfoldable pub use Rattle.table.specs.Rows.{cat}
 pub use Rattle.table.proofs.Rows.{Each, cat-append, length-cat, take-cat, drop-cat}
-unfoldable pub use Rattle.table.proofs.RowSearch.{firstIn}
+unfoldable pub use Rattle.table.proofs.RowSearch.{first_in}
 pub use Rattle.table.proofs.RowSearch.{None, Found, nowhere, at, found}
 
 -- the words of a table: the count, the other words of the front, the rows, z words 0, and what is behind

@@ -5,8 +5,8 @@ use mathlib.Core.List.{List}
 use Rattle.drum.specs.declared.Description.{Description}
 use Rattle.drum.specs.Blocks.{Texts}
 use Rattle.layout.specs.Tree.{Section}
-use Rattle.rules.specs.State.{State, desc, texts, keyIn, positionKey}
-use Rattle.demands.proofs.Trees.{leavesIn, recordsIn, key}
+use Rattle.rules.specs.State.{State, desc, texts, key_in, position_key}
+use Rattle.demands.proofs.Trees.{leaves_in, records_in, key}
 
 -- parameters, texts of the blocks, flag, whether there is a position and its key, the workspace's key, keys as numbers, the records in order
 pub record Scene : Type 0 where
@@ -25,8 +25,8 @@ scene st ss = record {
   v = texts st;
   flag = st.session.flag;
   placed = st.session.placed;
-  at = positionKey st.session;
-  w = keyIn (desc st) st.work;
+  at = position_key st.session;
+  w = key_in (desc st) st.work;
   K = key (desc st).k;
-  rows = recordsIn (leavesIn ss);
+  rows = records_in (leaves_in ss);
 }

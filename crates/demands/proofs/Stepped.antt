@@ -7,20 +7,20 @@ use lib.ListN.{length}
 use Rattle.numbers.specs.Numbers.{done}
 use Rattle.words.specs.Keys.{val}
 use Rattle.drum.specs.declared.Description.{Description}
-use Rattle.rules.specs.State.{State, Outcome, desc, keyIn}
+use Rattle.rules.specs.State.{State, Outcome, desc, key_in}
 use Rattle.rules.specs.Requests.{Request, opening, closing, seeking, advancing, inserting, deleting, updating, extending, answer}
-use Rattle.demands.specs.Formula.{acceptedBy, share}
-use Rattle.demands.specs.History.{eventOf}
+use Rattle.demands.specs.Formula.{accepted_by, share}
+use Rattle.demands.specs.History.{event_of}
 use Rattle.demands.specs.History as history
 use Rattle.demands.specs.Filled.{disturbs, Filled}
 use Rattle.demands.specs.Reuse.{Takes, KeepsBlocks, Deletes}
 use Rattle.demands.proofs.Lists.{All}
 use Rattle.layout.specs.Tree.{Section, Tree}
-use Rattle.demands.proofs.Trees.{leavesIn, recordsIn, key}
+use Rattle.demands.proofs.Trees.{leaves_in, records_in, key}
 use Rattle.demands.proofs.Holds.{Free}
 use Rattle.demands.proofs.Sound.{Key, Sound}
 use Rattle.demands.proofs.History.{Change, puts, drops, happened}
-use Rattle.demands.proofs.Moves.{treeIn}
+use Rattle.demands.proofs.Moves.{tree_in}
 use Rattle.demands.proofs.LastBlock.{LastTells}
 use Rattle.demands.proofs.Growth.{Growth, nothing, Grows}
 
@@ -30,11 +30,11 @@ Brought (opening marks) o g = g ≡ nothing
 Brought closing o g = g ≡ nothing
 Brought (seeking w) o g = g ≡ nothing
 Brought (advancing w) o g = g ≡ nothing
-Brought (inserting w) o g = (g.records ≡ acceptedBy o) × (g.starts ≡ 0) × (g.index-starts ≡ 0)
+Brought (inserting w) o g = (g.records ≡ accepted_by o) × (g.starts ≡ 0) × (g.index-starts ≡ 0)
 Brought (deleting w) o g = g ≡ nothing
 Brought (updating w) o g = g ≡ nothing
 Brought (extending w) o g =
-    (g.records ≡ acceptedBy o) × (g.splits + g.starts ≤ acceptedBy o) × (g.index-splits + g.index-starts ≤ acceptedBy o)
+    (g.records ≡ accepted_by o) × (g.splits + g.starts ≤ accepted_by o) × (g.index-splits + g.index-starts ≤ accepted_by o)
 
 -- the transfers that a call may make which brings g
 abbrev pub most : Request → Growth → ℕ
@@ -46,7 +46,7 @@ numbered (history.stored r) = puts r
 numbered (history.removed x) = drops (val x)
 
 abbrev pub KeyOf : Description → history.Event → Type 0
-KeyOf p (history.stored r) = Key p (keyIn p r)
+KeyOf p (history.stored r) = Key p (key_in p r)
 KeyOf p (history.removed x) = Key p x
 
 -- what a call makes of the blocks: NSERT and XTEND take as many as they bring, DLETE may free some, the others keep all
@@ -68,12 +68,12 @@ pub record Stepped (st : State) (ss : List Section) (f : Free) (q : Request) : T
   pub free : Free
   pub sound : Sound (answer st q).after sections free
   pub desc-is : desc (answer st q).after ≡ desc st
-  pub contents-is : recordsIn (leavesIn sections) ≡ happened (key (desc st).k) (map numbered (eventOf (desc st) q (answer st q))) (recordsIn (leavesIn ss))
-  pub keys : All (KeyOf (desc st)) (eventOf (desc st) q (answer st q))
+  pub contents-is : records_in (leaves_in sections) ≡ happened (key (desc st).k) (map numbered (event_of (desc st) q (answer st q))) (records_in (leaves_in ss))
+  pub keys : All (KeyOf (desc st)) (event_of (desc st) q (answer st q))
   pub growth : Growth
   pub grows : Grows (desc st) ss sections growth
   pub brought : Brought q (answer st q) growth
   pub last : LastTells q growth ss sections
   pub cost : length (answer st q).transfers ≤ most q growth
-  pub moved : Moved q (answer st q) growth (treeIn ss f) (treeIn sections free)
-  pub filled : disturbs q (answer st q) ≡ 0 → Filled (desc st) (treeIn ss f) → Filled (desc st) (treeIn sections free)
+  pub moved : Moved q (answer st q) growth (tree_in ss f) (tree_in sections free)
+  pub filled : disturbs q (answer st q) ≡ 0 → Filled (desc st) (tree_in ss f) → Filled (desc st) (tree_in sections free)

@@ -5,29 +5,29 @@ use mathlib.Core.List.{List, [], ◌∷◌, ◌++◌, map, append_assoc, append-
 use native.Mathlib.Omega.{arith}
 use lib.ListN.{length, take, length-append}
 use Rattle.drum.specs.declared.Description.{Description}
-use Rattle.drum.specs.Blocks.{freeText}
+use Rattle.drum.specs.Blocks.{free_text}
 use Rattle.drum.specs.Params.{I}
 use Rattle.demands.proofs.Lists.{All, all_append, all_left, all_right, map-append}
 use Rattle.demands.proofs.Order.{Asc, after-snoc, asc-left, asc-right, asc-wide, asc-le}
-use Rattle.demands.proofs.Cells.{Cell, is, weigh, weigh-cons, weigh-nil, weigh-append, SameCells, cellTimes, wrotes}
+use Rattle.demands.proofs.Cells.{Cell, is, weigh, weigh-cons, weigh-nil, weigh-append, SameCells, cell_times, wrotes}
 use Rattle.layout.specs.Tree.{Leaf, Section}
-use Rattle.demands.proofs.Trees.{leavesIn, key, bd, reach, Ranged, ranged-left, ranged-right, ranged-swap, reach-swap, leavesIn-append, entry}
-use Rattle.demands.proofs.Trees.{leafCell, indexText, cells_of}
-use Rattle.demands.proofs.Holds.{Free, HoldsCells, LeafFits, SectionOk, freeCells, head_or, masterFor, region}
+use Rattle.demands.proofs.Trees.{leaves_in, key, bd, reach, Ranged, ranged-left, ranged-right, ranged-swap, reach-swap, leaves_in-append, entry}
+use Rattle.demands.proofs.Trees.{leaf_cell, index_text, cells_of}
+use Rattle.demands.proofs.Holds.{Free, HoldsCells, LeafFits, SectionOk, free_cells, head_or, master_for, region}
 
 abbrev pub sec : ℕ → List Leaf → Section
 sec ib ls = record { block = ib; leaves = ls }
 
 module _ (p : Description) where
   abbrev pub lf : Leaf → Cell
-  lf = leafCell p
+  lf = leaf_cell p
 
   abbrev pub ix : List Leaf → List ℕ
-  ix = indexText p
+  ix = index_text p
 
   -- where the sections after bs start
   abbrev pub start : List Section → ℕ
-  start bs = reach p.k 0 (leavesIn bs)
+  start bs = reach p.k 0 (leaves_in bs)
 
   section-cells : (ib : ℕ) (ls : List Leaf) (free : List Cell) → SameCells (cells_of p (sec ib ls ∷ []) ++ free) ((ib, ix ls) ∷ (map lf ls ++ free))
   unfolding cells_of
@@ -44,8 +44,8 @@ module _ (p : Description) where
       (h : HoldsCells p master text (bs ++ (sec ib (low ++ (ls ++ high)) ∷ cs)) f) where
     section-ranged : Ranged p.k (start bs) (low ++ (ls ++ high))
     section-ranged =
-        ranged-left p.k _ (low ++ (ls ++ high)) (leavesIn cs) (ranged-right p.k 0 (leavesIn bs) _
-        (rw (leavesIn-append bs (sec ib (low ++ (ls ++ high)) ∷ cs)) at h.ranged))
+        ranged-left p.k _ (low ++ (ls ++ high)) (leaves_in cs) (ranged-right p.k 0 (leaves_in bs) _
+        (rw (leaves_in-append bs (sec ib (low ++ (ls ++ high)) ∷ cs)) at h.ranged))
 
     pub section-ok : SectionOk p (sec ib (low ++ (ls ++ high)))
     section-ok = (all_right (SectionOk p) bs _ h.sized).0
@@ -58,20 +58,20 @@ module _ (p : Description) where
     leaves-ok = all_left (LeafFits p) ls _ (all_right (LeafFits p) low _ section-ok.leaves)
 
     pub leaf-region : (ls' : List Leaf) (f' : Free) (old keep ws : List Cell)
-        → SameCells ((ib, ix (low ++ (ls ++ high))) ∷ (map lf ls ++ freeCells p f)) (old ++ keep)
-        → SameCells ((ib, ix (low ++ (ls' ++ high))) ∷ (map lf ls' ++ freeCells p f')) (ws ++ keep)
-        → ((b : ℕ) → cellTimes b ws ≡ cellTimes b old)
+        → SameCells ((ib, ix (low ++ (ls ++ high))) ∷ (map lf ls ++ free_cells p f)) (old ++ keep)
+        → SameCells ((ib, ix (low ++ (ls' ++ high))) ∷ (map lf ls' ++ free_cells p f')) (ws ++ keep)
+        → ((b : ℕ) → cell_times b ws ≡ cell_times b old)
         → Ranged p.k (reach p.k (start bs) low) ls'
         → reach p.k (reach p.k (start bs) low) ls' ≡ reach p.k (reach p.k (start bs) low) ls
         → 1 ≤ length (low ++ (ls' ++ high)) → length (low ++ (ls' ++ high)) ≤ I p → All (LeafFits p) ls' → f'.lowest + f'.spare ≡ f.lowest + f.spare
-        → HoldsCells p (masterFor p (bs ++ (sec ib (low ++ (ls' ++ high)) ∷ cs)) f') (wrotes text ws) (bs ++ (sec ib (low ++ (ls' ++ high)) ∷ cs)) f'
+        → HoldsCells p (master_for p (bs ++ (sec ib (low ++ (ls' ++ high)) ∷ cs)) f') (wrotes text ws) (bs ++ (sec ib (low ++ (ls' ++ high)) ∷ cs)) f'
     leaf-region ls' f' old keep ws was will moved g e s₁ s₂ ok num =
         let others : List Cell = map lf low ++ map lf high in
         let oks : All (LeafFits p) (low ++ (ls ++ high)) = section-ok.leaves in
         region p bs (sec ib (low ++ (ls ++ high)) ∷ []) cs f master text h (sec ib (low ++ (ls' ++ high)) ∷ []) f' old (keep ++ others) ws
-        (λ w. section-cells ib (low ++ (ls ++ high)) (freeCells p f) w ∙ simp (map-append, weigh-append, weigh-cons)
+        (λ w. section-cells ib (low ++ (ls ++ high)) (free_cells p f) w ∙ simp (map-append, weigh-append, weigh-cons)
         (omega (arith, simp (weigh-append, weigh-cons) at (was w))))
-        (λ w. section-cells ib (low ++ (ls' ++ high)) (freeCells p f') w ∙ simp (map-append, weigh-append, weigh-cons)
+        (λ w. section-cells ib (low ++ (ls' ++ high)) (free_cells p f') w ∙ simp (map-append, weigh-append, weigh-cons)
         (omega (arith, simp (weigh-append, weigh-cons) at (will w))))
         moved
         (rw (append-nil (low ++ (ls' ++ high))) (ranged-swap p.k (start bs) low ls ls' high section-ranged g e))
@@ -90,8 +90,8 @@ module _ (p : Description) where
 
   -- ---- one leaf's rows are replaced: an insertion with room, an update, a removal that leaves some
 
-  abbrev pub withRows : Leaf → List (List ℕ) → Leaf
-  withRows l rows = record { bound = l.bound; block = l.block; records = rows }
+  abbrev pub with_rows : Leaf → List (List ℕ) → Leaf
+  with_rows l rows = record { bound = l.bound; block = l.block; records = rows }
 
   abbrev pub lower : Leaf → List (List ℕ) → List ℕ → Leaf
   lower l xs x = record { bound = take p.k x; block = l.block; records = xs ++ (x ∷ []) }
@@ -99,8 +99,8 @@ module _ (p : Description) where
   abbrev pub upper : Leaf → ℕ → List (List ℕ) → Leaf
   upper l nb ys = record { bound = l.bound; block = nb; records = ys }
 
-  index_same : (low : List Leaf) (l : Leaf) (rows : List (List ℕ)) (high : List Leaf) → ix (low ++ (withRows l rows ∷ high)) ≡ ix (low ++ (l ∷ high))
-  unfolding indexText entry
+  index_same : (low : List Leaf) (l : Leaf) (rows : List (List ℕ)) (high : List Leaf) → ix (low ++ (with_rows l rows ∷ high)) ≡ ix (low ++ (l ∷ high))
+  unfolding index_text entry
   index_same low l rows high = simp map-append
 
   module _ (bs : List Section) (ib : ℕ) (low : List Leaf) (l : Leaf) (high : List Leaf) (cs : List Section) (f : Free) (master : List ℕ) (text : ℕ → List ℕ)
@@ -109,13 +109,13 @@ module _ (p : Description) where
     abbrev at : ℕ
     at = reach p.k (start bs) low
 
-    pub replace-rows : (rows : List (List ℕ)) → Asc (key p.k) at rows (suc (bd p.k l)) → LeafFits p (withRows l rows)
-        → HoldsCells p (masterFor p (bs ++ (sec ib (low ++ (withRows l rows ∷ high)) ∷ cs)) f) (wrotes text (lf (withRows l rows) ∷ []))
-        (bs ++ (sec ib (low ++ (withRows l rows ∷ high)) ∷ cs)) f
-    unfolding bd leafCell cellTimes weigh
+    pub replace-rows : (rows : List (List ℕ)) → Asc (key p.k) at rows (suc (bd p.k l)) → LeafFits p (with_rows l rows)
+        → HoldsCells p (master_for p (bs ++ (sec ib (low ++ (with_rows l rows ∷ high)) ∷ cs)) f) (wrotes text (lf (with_rows l rows) ∷ []))
+        (bs ++ (sec ib (low ++ (with_rows l rows ∷ high)) ∷ cs)) f
+    unfolding bd leaf_cell cell_times weigh
     replace-rows rows asc ok =
-        leaf-region bs ib low (l ∷ []) high cs f master text h (withRows l rows ∷ []) f (lf l ∷ []) ((ib, ix (low ++ (l ∷ high))) ∷ freeCells p f)
-        (lf (withRows l rows) ∷ [])
+        leaf-region bs ib low (l ∷ []) high cs f master text h (with_rows l rows ∷ []) f (lf l ∷ []) ((ib, ix (low ++ (l ∷ high))) ∷ free_cells p f)
+        (lf (with_rows l rows) ∷ [])
         (λ w. omega arith) (λ w. rw (index_same low l rows high) (omega arith)) (λ b. refl) (asc, tt) refl
         (rw (length-append low) (omega arith))
         (rw (length-append low) (rw (length-append low) at (section-ok bs ib low (l ∷ []) high cs f master text h).room)) (ok, tt) refl
@@ -131,23 +131,23 @@ module _ (p : Description) where
         (rw (after-snoc K at xs x) at (asc-left K at (xs ++ x ∷ []) ys _ both), (rw (after-snoc K at xs x) at (asc-right K at (xs ++ x ∷ []) ys _ both), tt))
 
     -- `ws` are the three writes, in any order: NSERT writes old, new, index, and XTEND old, index, new
-    pub split-leaf : (f' : Free) (nb : ℕ) (t : List ℕ) → freeCells p f ≡ (nb, t) ∷ freeCells p f' → f'.lowest + f'.spare ≡ f.lowest + f.spare
+    pub split-leaf : (f' : Free) (nb : ℕ) (t : List ℕ) → free_cells p f ≡ (nb, t) ∷ free_cells p f' → f'.lowest + f'.spare ≡ f.lowest + f.spare
         → (xs : List (List ℕ)) (x : List ℕ) (ys : List (List ℕ)) → Asc (key p.k) at (xs ++ x ∷ ys) (suc (bd p.k l))
         → length (low ++ (l ∷ high)) < I p → LeafFits p (lower l xs x) → LeafFits p (upper l nb ys)
         → (ws : List Cell) → SameCells ws (lf (lower l xs x) ∷ (lf (upper l nb ys) ∷ ((ib, ix (low ++ (lower l xs x ∷ (upper l nb ys ∷ high)))) ∷ [])))
-        → HoldsCells p (masterFor p (bs ++ (sec ib (low ++ (lower l xs x ∷ (upper l nb ys ∷ high))) ∷ cs)) f') (wrotes text ws)
+        → HoldsCells p (master_for p (bs ++ (sec ib (low ++ (lower l xs x ∷ (upper l nb ys ∷ high))) ∷ cs)) f') (wrotes text ws)
         (bs ++ (sec ib (low ++ (lower l xs x ∷ (upper l nb ys ∷ high))) ∷ cs)) f'
-    unfolding bd leafCell cellTimes weigh
+    unfolding bd leaf_cell cell_times weigh
     split-leaf f' nb t new num xs x ys asc room ok₁ ok₂ ws order =
         leaf-region bs ib low (l ∷ []) high cs f master text h (lower l xs x ∷ (upper l nb ys ∷ [])) f'
-        (lf l ∷ ((nb, t) ∷ ((ib, ix (low ++ (l ∷ high))) ∷ []))) (freeCells p f') ws
-        (λ w. rw new (omega arith)) (λ w. rw (weigh-append w ws (freeCells p f')) (omega (arith, order w))) (λ b. order (λ c. is c.0 b))
+        (lf l ∷ ((nb, t) ∷ ((ib, ix (low ++ (l ∷ high))) ∷ []))) (free_cells p f') ws
+        (λ w. rw new (omega arith)) (λ w. rw (weigh-append w ws (free_cells p f')) (omega (arith, order w))) (λ b. order (λ c. is c.0 b))
         (split-ranged xs x ys nb asc) refl
         (rw (length-append low) (omega arith)) (rw (length-append low) (omega (arith, length-append low (l ∷ high)))) (ok₁, (ok₂, tt)) num
 
     -- ---- and the section two: the entries A, and the entries B in a new index block
 
-    pub split-both : (f' : Free) (nb nib : ℕ) (t t' : List ℕ) → freeCells p f ≡ (nb, t) ∷ ((nib, t') ∷ freeCells p f')
+    pub split-both : (f' : Free) (nb nib : ℕ) (t t' : List ℕ) → free_cells p f ≡ (nb, t) ∷ ((nib, t') ∷ free_cells p f')
         → f'.lowest + f'.spare ≡ f.lowest + f.spare
         → (xs : List (List ℕ)) (x : List ℕ) (ys : List (List ℕ)) → Asc (key p.k) at (xs ++ x ∷ ys) (suc (bd p.k l))
         → LeafFits p (lower l xs x) → LeafFits p (upper l nb ys)
@@ -155,25 +155,25 @@ module _ (p : Description) where
         → length bs' ≤ I p
         → length (bs ++ (sec ib (low ++ (l ∷ high)) ∷ cs)) < p.control
         → (ws : List Cell) → SameCells ws (lf (lower l xs x) ∷ (lf (upper l nb ys) ∷ ((ib, ix as') ∷ ((nib, ix bs') ∷ []))))
-        → HoldsCells p (masterFor p (bs ++ (sec ib as' ∷ (sec nib bs' ∷ cs))) f') (wrotes text ws) (bs ++ (sec ib as' ∷ (sec nib bs' ∷ cs))) f'
-    unfolding bd cellTimes
+        → HoldsCells p (master_for p (bs ++ (sec ib as' ∷ (sec nib bs' ∷ cs))) f') (wrotes text ws) (bs ++ (sec ib as' ∷ (sec nib bs' ∷ cs))) f'
+    unfolding bd cell_times
     split-both f' nb nib t t' new num xs x ys asc ok₁ ok₂ as' bs' e a₁ a₂ b₁ b₂ room ws order =
         let two : List Leaf = lower l xs x ∷ (upper l nb ys ∷ []) in
         let old : All (LeafFits p) (low ++ (l ∷ high)) = (section-ok bs ib low (l ∷ []) high cs f master text h).leaves in
         let oks : All (LeafFits p) (as' ++ bs')
         = rw e (all_append (LeafFits p) low _ (all_left (LeafFits p) low _ old) (ok₁, (ok₂, (all_right (LeafFits p) low _ old).1))) in
-        let keep : List Cell = map lf low ++ (map lf high ++ freeCells p f') in
+        let keep : List Cell = map lf low ++ (map lf high ++ free_cells p f') in
         region p bs (sec ib (low ++ (l ∷ high)) ∷ []) cs f master text h (sec ib as' ∷ (sec nib bs' ∷ [])) f'
         (lf l ∷ ((nb, t) ∷ ((ib, ix (low ++ (l ∷ high))) ∷ ((nib, t') ∷ [])))) keep ws
-        (λ w. section-cells ib (low ++ (l ∷ high)) (freeCells p f) w ∙ simp (map-append, weigh-append, weigh-cons, weigh-nil, new) (omega arith))
-        (λ w. two_cells ib as' nib bs' (freeCells p f') w ∙ simp (weigh-append, weigh-cons)
+        (λ w. section-cells ib (low ++ (l ∷ high)) (free_cells p f) w ∙ simp (map-append, weigh-append, weigh-cons, weigh-nil, new) (omega arith))
+        (λ w. two_cells ib as' nib bs' (free_cells p f') w ∙ simp (weigh-append, weigh-cons)
         (omega (
           arith,
           simp (weigh-cons, weigh-nil) at (order w),
           simp (map-append, weigh-append, weigh-cons) at
               (ap (λ (z : List Leaf). weigh w (map lf z)) e),
         )))
-        (λ b. order (λ c. is c.0 b) ∙ unfold leafCell weigh in refl)
+        (λ b. order (λ c. is c.0 b) ∙ unfold leaf_cell weigh in refl)
         (rw (append-nil bs', e) (ranged-swap p.k _ low (l ∷ []) two high (section-ranged bs ib low (l ∷ []) high cs f master text h)
         (split-ranged xs x ys nb asc) refl))
         (rw (append-nil bs', e, append-nil (low ++ (l ∷ high))) (reach-swap p.k _ low (l ∷ []) two high refl)) (
@@ -188,28 +188,28 @@ module _ (p : Description) where
   push b f = record { chain = b ∷ f.chain; lowest = f.lowest; spare = f.spare }
 
   abbrev pub link : Free → List ℕ
-  link f = freeText p (head_or f.chain 0)
+  link f = free_text p (head_or f.chain 0)
 
-  abbrev pub withBound : Leaf → List ℕ → Leaf
-  withBound l b = record { bound = b; block = l.block; records = l.records }
+  abbrev pub with_bound : Leaf → List ℕ → Leaf
+  with_bound l b = record { bound = b; block = l.block; records = l.records }
 
-  push-cells : (b : ℕ) (f : Free) → freeCells p (push b f) ≡ (b, link f) ∷ freeCells p f
-  unfolding freeCells
+  push-cells : (b : ℕ) (f : Free) → free_cells p (push b f) ≡ (b, link f) ∷ free_cells p f
+  unfolding free_cells
   push-cells b f = refl
 
   -- another leaf follows it in its section
   pub drop-leaf : (bs : List Section) (ib : ℕ) (low : List Leaf) (l m : Leaf) (high : List Leaf) (cs : List Section) (f : Free) (master : List ℕ)
       (text : ℕ → List ℕ)
       (h : HoldsCells p master text (bs ++ (sec ib (low ++ (l ∷ (m ∷ high))) ∷ cs)) f)
-      → HoldsCells p (masterFor p (bs ++ (sec ib (low ++ (m ∷ high)) ∷ cs)) (push l.block f))
+      → HoldsCells p (master_for p (bs ++ (sec ib (low ++ (m ∷ high)) ∷ cs)) (push l.block f))
       (wrotes text ((l.block, link f) ∷ ((ib, ix (low ++ (m ∷ high))) ∷ [])))
       (bs ++ (sec ib (low ++ (m ∷ high)) ∷ cs)) (push l.block f)
-  unfolding leafCell cellTimes weigh
+  unfolding leaf_cell cell_times weigh
   drop-leaf bs ib low l m high cs f master text h =
       let r : Ranged p.k _ (l ∷ (m ∷ [])) = leaves-ranged bs ib low (l ∷ (m ∷ [])) high cs f master text h in
       let ok : SectionOk p (sec ib (low ++ (l ∷ (m ∷ high)))) = section-ok bs ib low (l ∷ (m ∷ [])) high cs f master text h in
       leaf-region bs ib low (l ∷ (m ∷ [])) high cs f master text h (m ∷ []) (push l.block f) (lf l ∷ ((ib, ix (low ++ (l ∷ (m ∷ high)))) ∷ []))
-      (lf m ∷ freeCells p f)
+      (lf m ∷ free_cells p f)
       ((l.block, link f) ∷ ((ib, ix (low ++ (m ∷ high))) ∷ []))
       (λ w. omega arith) (λ w. rw (push-cells l.block f) (omega arith)) (λ b. refl)
       (asc-wide _ _ _ m.records _ _ r.1.0 (asc-le _ _ l.records _ r.0) (omega arith), tt) refl
@@ -219,17 +219,17 @@ module _ (p : Description) where
   -- it is the last one of its section, and the one before takes its bound
   pub drop-last : (bs : List Section) (ib : ℕ) (low : List Leaf) (y l : Leaf) (cs : List Section) (f : Free) (master : List ℕ) (text : ℕ → List ℕ)
       (h : HoldsCells p master text (bs ++ (sec ib (low ++ (y ∷ (l ∷ []))) ∷ cs)) f)
-      → HoldsCells p (masterFor p (bs ++ (sec ib (low ++ (withBound y l.bound ∷ [])) ∷ cs)) (push l.block f))
-      (wrotes text ((l.block, link f) ∷ ((ib, ix (low ++ (withBound y l.bound ∷ []))) ∷ [])))
-      (bs ++ (sec ib (low ++ (withBound y l.bound ∷ [])) ∷ cs)) (push l.block f)
-  unfolding leafCell cellTimes weigh bd
+      → HoldsCells p (master_for p (bs ++ (sec ib (low ++ (with_bound y l.bound ∷ [])) ∷ cs)) (push l.block f))
+      (wrotes text ((l.block, link f) ∷ ((ib, ix (low ++ (with_bound y l.bound ∷ []))) ∷ [])))
+      (bs ++ (sec ib (low ++ (with_bound y l.bound ∷ [])) ∷ cs)) (push l.block f)
+  unfolding leaf_cell cell_times weigh bd
   drop-last bs ib low y l cs f master text h =
       let r : Ranged p.k _ (y ∷ (l ∷ [])) = leaves-ranged bs ib low (y ∷ (l ∷ [])) [] cs f master text h in
       let ok : SectionOk p (sec ib (low ++ (y ∷ (l ∷ [])))) = section-ok bs ib low (y ∷ (l ∷ [])) [] cs f master text h in
       let oks : All (LeafFits p) (y ∷ (l ∷ [])) = leaves-ok bs ib low (y ∷ (l ∷ [])) [] cs f master text h in
-      leaf-region bs ib low (y ∷ (l ∷ [])) [] cs f master text h (withBound y l.bound ∷ []) (push l.block f)
-      (lf l ∷ ((ib, ix (low ++ (y ∷ (l ∷ [])))) ∷ [])) (lf y ∷ freeCells p f)
-      ((l.block, link f) ∷ ((ib, ix (low ++ (withBound y l.bound ∷ []))) ∷ []))
+      leaf-region bs ib low (y ∷ (l ∷ [])) [] cs f master text h (with_bound y l.bound ∷ []) (push l.block f)
+      (lf l ∷ ((ib, ix (low ++ (y ∷ (l ∷ [])))) ∷ [])) (lf y ∷ free_cells p f)
+      ((l.block, link f) ∷ ((ib, ix (low ++ (with_bound y l.bound ∷ []))) ∷ []))
       (λ w. omega arith) (λ w. rw (push-cells l.block f) (omega arith)) (λ b. refl)
       (asc-wide _ _ _ y.records _ _ r.0 (omega arith) (asc-le _ _ l.records _ r.1.0), tt) refl
       (rw (length-append low) (omega arith)) (rw (length-append low) (omega (arith, ok.room, length-append low (y ∷ (l ∷ [])))))
@@ -243,22 +243,22 @@ module _ (p : Description) where
   pub drop-section : (bs : List Section) (ib : ℕ) (l : Leaf) (jb : ℕ) (m : Leaf) (hs : List Leaf) (cs : List Section) (f : Free) (master : List ℕ)
       (text : ℕ → List ℕ)
       (h : HoldsCells p master text (bs ++ (sec ib (l ∷ []) ∷ (sec jb (m ∷ hs) ∷ cs))) f)
-      → HoldsCells p (masterFor p (bs ++ (sec jb (m ∷ hs) ∷ cs)) (push ib (push l.block f)))
+      → HoldsCells p (master_for p (bs ++ (sec jb (m ∷ hs) ∷ cs)) (push ib (push l.block f)))
       (wrotes text ((l.block, link f) ∷ ((ib, link (push l.block f)) ∷ [])))
       (bs ++ (sec jb (m ∷ hs) ∷ cs)) (push ib (push l.block f))
   drop-section bs ib l jb m hs cs f master text h =
-      let r : Ranged p.k (reach p.k 0 (leavesIn bs)) (l ∷ (m ∷ (hs ++ leavesIn cs)))
-      = ranged-right p.k 0 (leavesIn bs) _ (rw (leavesIn-append bs (sec ib (l ∷ []) ∷ (sec jb (m ∷ hs) ∷ cs))) at h.ranged) in
+      let r : Ranged p.k (reach p.k 0 (leaves_in bs)) (l ∷ (m ∷ (hs ++ leaves_in cs)))
+      = ranged-right p.k 0 (leaves_in bs) _ (rw (leaves_in-append bs (sec ib (l ∷ []) ∷ (sec jb (m ∷ hs) ∷ cs))) at h.ranged) in
       let oks : All (SectionOk p) (sec ib (l ∷ []) ∷ (sec jb (m ∷ hs) ∷ cs)) = all_right (SectionOk p) bs _ h.sized in
       region p bs (sec ib (l ∷ []) ∷ (sec jb (m ∷ hs) ∷ [])) cs f master text h (sec jb (m ∷ hs) ∷ []) (push ib (push l.block f))
-      (lf l ∷ ((ib, ix (l ∷ [])) ∷ [])) ((jb, ix (m ∷ hs)) ∷ (map lf (m ∷ hs) ++ freeCells p f)) ((l.block, link f) ∷ ((ib, link (push l.block f)) ∷ []))
-      (λ w. two_cells ib (l ∷ []) jb (m ∷ hs) (freeCells p f) w ∙ simp (weigh-append, weigh-cons, weigh-nil) (omega arith))
+      (lf l ∷ ((ib, ix (l ∷ [])) ∷ [])) ((jb, ix (m ∷ hs)) ∷ (map lf (m ∷ hs) ++ free_cells p f)) ((l.block, link f) ∷ ((ib, link (push l.block f)) ∷ []))
+      (λ w. two_cells ib (l ∷ []) jb (m ∷ hs) (free_cells p f) w ∙ simp (weigh-append, weigh-cons, weigh-nil) (omega arith))
       (rw (push-cells ib (push l.block f), push-cells l.block f)
-      (gone-cells jb (m ∷ hs) (ib, link (push l.block f)) (l.block, link f) (freeCells p f)))
-      (λ b. unfold leafCell cellTimes weigh in refl) (
+      (gone-cells jb (m ∷ hs) (ib, link (push l.block f)) (l.block, link f) (free_cells p f)))
+      (λ b. unfold leaf_cell cell_times weigh in refl) (
         asc-wide _ _ _ m.records _ _ r.1.0 (asc-le _ _ l.records _ r.0) (omega arith),
         rw (append-nil hs)
-            (ranged-left p.k _ hs (leavesIn cs) r.1.1),
+            (ranged-left p.k _ hs (leaves_in cs) r.1.1),
       )
       refl
       (oks.1.0, tt)

@@ -5,19 +5,19 @@ use mathlib.Core.Bool.{false}
 use mathlib.Core.Path.{◌≡◌, refl}
 use mathlib.Core.List.{List, [], ◌∷◌, map}
 use lib.ListN.{take, set, length}
-use Rattle.numbers.specs.Numbers.{badFile, done}
+use Rattle.numbers.specs.Numbers.{bad_file, done}
 use Rattle.drum.specs.declared.Description.{Description}
 use Rattle.rules.specs.declared.Call.{Call}
 use Rattle.rules.specs.declared.Call.TheVariants as call
 use Rattle.rules.specs.State.{State, lent, holding}
 use Rattle.rules.specs.NsertDone.{nsert}
 use Rattle.rules.specs.XtendDone.{xtend}
-use Rattle.rules.specs.Run.{Line, begun, printed, ended, recordFrom}
+use Rattle.rules.specs.Run.{Line, begun, printed, ended, record_from}
 use Rattle.rules.specs.Requests.{Request, inserting, deleting, extending, answer}
 use Rattle.rules.proofs.Computing.{computing}
 use Rattle.demands.specs.Names.{block_of}
-use Rattle.demands.specs.Formula.{detailsUnder, detailBlocks, indexBlocks, newDetails, newIndexes, lastDetail, startsLast, ofNsert, ofXtend, splitOff}
-use Rattle.demands.specs.Formula.{startedNew, share, S, s, X, x, allTransfers, shares}
+use Rattle.demands.specs.Formula.{details_under, detail_blocks, index_blocks, new_details, new_indexes, last_detail, starts_last, of_nsert, of_xtend, split_off}
+use Rattle.demands.specs.Formula.{started_new, share, S, s, X, x, all_transfers, shares}
 use Rattle.demands.proofs.Printed.{line}
 
 -- ---- `8 3 1 0 2 4`: NSERT 10 1 2, 20 3 4; DLETE 20; XTEND 15 5 5, 12 6 6, 15 6 6, 18 7 7, 19 8 8, 30 9 9
@@ -74,7 +74,7 @@ table-second = refl
 
 -- the blocks that the call at place n of a session names, in the order of its list
 abbrev named : List ℕ → Description → List Call → (List ℕ → Request) → ℕ → ℕ → List ℕ
-named ws p cs kind n at = let st = ended ws (begun p) (take n cs) in map block_of (answer st (kind (recordFrom ws st at))).transfers
+named ws p cs kind n at = let st = ended ws (begun p) (take n cs) in map block_of (answer st (kind (record_from ws st at))).transfers
 
 -- XTEND 15 5 5: W2 R1 R3 R1 R1 R2, the share of an XTEND; XTEND 18 7 7, which splits: R1 R3 R1 R1 R2 R1 W2 W4 W1
 pub struck-lists :
@@ -133,7 +133,7 @@ abbrev eleven-made : State
 eleven-made = ended [] (begun eleven) (call.Create ∷ call.Open ∷ [])
 
 pub splits-count : (S eleven-made eleven-run ≡ 2) × (s eleven-made eleven-run ≡ 1) × (X eleven-made eleven-run ≡ 0) × (x eleven-made eleven-run ≡ 0)
-unfolding computing detailsUnder detailBlocks indexBlocks newDetails newIndexes lastDetail startsLast ofNsert ofXtend splitOff startedNew S s X x
+unfolding computing details_under detail_blocks index_blocks new_details new_indexes last_detail starts_last of_nsert of_xtend split_off started_new S s X x
 splits-count = (refl, refl, refl, refl)
 
 -- ---- `6 2 1 0 2 5`: NSERT 1 0, 2 0, 3 0, 5 0; DLETE 5; NSERT 4 0; XTEND 5 0: "070002 after that lookup leaves the lookup done"
@@ -181,7 +181,7 @@ looked = ended struck-words (begun struck) (take 7 struck-calls)
 abbrev brought : State
 brought = lent looked.session (set looked.file 1 3) looked.buffer (18 ∷ 7 ∷ 7 ∷ [])
 
-pub made-up-brought : ((xtend brought).number ≡ badFile) × ((xtend brought).transfers ≡ []) × ((nsert brought).number ≡ done) × (length
+pub made-up-brought : ((xtend brought).number ≡ bad_file) × ((xtend brought).transfers ≡ []) × ((nsert brought).number ≡ done) × (length
     (nsert brought).transfers ≡ 6)
 unfolding computing
 made-up-brought = (refl, refl, refl, refl)
@@ -239,8 +239,8 @@ needed-made = ended [] (begun needed) (call.Create ∷ call.Open ∷ [])
 
 -- 14 XTENDs and a DLETE cost 81; with 5 for each XTEND the formula would allow 80, with 6 it allows 94
 pub six-needed :
-    (allTransfers needed-made needed-run ≡ 81)
+    (all_transfers needed-made needed-run ≡ 81)
     × (5 * 14 + 6 + 4 * (S needed-made needed-run + X needed-made needed-run) + s needed-made needed-run + x needed-made needed-run ≡ 80)
     × (shares needed-made needed-run + 4 * (S needed-made needed-run + X needed-made needed-run) + s needed-made needed-run + x needed-made needed-run ≡ 94)
-unfolding computing detailsUnder detailBlocks indexBlocks newDetails newIndexes lastDetail startsLast ofNsert ofXtend splitOff startedNew share S s X x allTransfers shares
+unfolding computing details_under detail_blocks index_blocks new_details new_indexes last_detail starts_last of_nsert of_xtend split_off started_new share S s X x all_transfers shares
 six-needed = (refl, refl, refl)

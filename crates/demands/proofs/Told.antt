@@ -8,25 +8,25 @@ use native.Mathlib.Decide.{ℕ_discrete}
 use lib.Dec.{leb}
 use lib.ListN.{length, length-replicate}
 use borrow.Author.Tests.{le-leb, eq-eqb}
-use Rattle.words.specs.Words.{part, zeros, topWord}
+use Rattle.words.specs.Words.{part, zeros, top_word}
 use Rattle.words.specs.Keys.{ones, val}
-use Rattle.words.proofs.All.{allWords-replicate}
+use Rattle.words.proofs.All.{all_words-replicate}
 use Rattle.words.proofs.Values.{val_inj}
 use Rattle.drum.specs.declared.Description.{Description}
-use Rattle.drum.specs.Params.{I, masterSize, goodParams, fileSize}
+use Rattle.drum.specs.Params.{I, master_size, good_params, file_size}
 use Rattle.drum.specs.Blocks.{block_at, Block}
 use Rattle.drum.proofs.Good.{good-facts}
-use Rattle.layout.specs.Create.{endRecord}
-use Rattle.layout.specs.Tree.{Leaf, Section, Tree, lastIn, leavesIn, recordsIn, blocksIn, head_of, times}
+use Rattle.layout.specs.Create.{end_record}
+use Rattle.layout.specs.Tree.{Leaf, Section, Tree, last_in, leaves_in, records_in, blocks_in, head_of, times}
 use Rattle.layout.specs.Holds as lay
 use Rattle.layout.proofs.Lists.{last-right}
 use Rattle.demands.proofs.Lists.{All, all_append, all_left, all_right}
 use Rattle.demands.proofs.Cells as cells
 use Rattle.demands.proofs.Rows.{length-cat}
-use Rattle.demands.proofs.Trees.{key, reach, leafCell, cells_of}
+use Rattle.demands.proofs.Trees.{key, reach, leaf_cell, cells_of}
 use Rattle.demands.proofs.Holds as held
 use Rattle.demands.proofs.Locate.{reach-last}
-use Rattle.demands.proofs.Blocks.{masterOf}
+use Rattle.demands.proofs.Blocks.{master_of}
 use Rattle.demands.proofs.Entries.{master-rows, last-bounded}
 use Rattle.demands.proofs.Places.{inside-low}
 use Rattle.demands.proofs.Sound.{Ended}
@@ -34,8 +34,8 @@ use Rattle.demands.proofs.Reader.{bound-last, index_same, detail-same, master-sa
 use Rattle.demands.proofs.Ascends.{told-first}
 use Rattle.demands.proofs.Words.{words}
 
-module _ (p : Description) (g : goodParams p ≡ true) (f : List ℕ) (size : length f ≡ fileSize p) (ss : List Section) (fr : held.Free)
-    (h : held.HoldsCells p (masterOf p f) (block_at p f) ss fr) (z : Ended p (recordsIn (leavesIn ss))) where
+module _ (p : Description) (g : good_params p ≡ true) (f : List ℕ) (size : length f ≡ file_size p) (ss : List Section) (fr : held.Free)
+    (h : held.HoldsCells p (master_of p f) (block_at p f) ss fr) (z : Ended p (records_in (leaves_in ss))) where
   -- the tree
   abbrev pub tree : Tree
   tree = record { sections = ss; chain = fr.chain; lowest = fr.lowest }
@@ -43,22 +43,22 @@ module _ (p : Description) (g : goodParams p ≡ true) (f : List ℕ) (size : le
   kr : p.k ≤ p.wpr
   kr = (good-facts p g).key
 
-  leaves-ok : (zs : List Section) → All (held.SectionOk p) zs → All (held.LeafFits p) (leavesIn zs)
+  leaves-ok : (zs : List Section) → All (held.SectionOk p) zs → All (held.LeafFits p) (leaves_in zs)
   leaves-ok [] q = tt
   leaves-ok (s ∷ zs) q = all_append (held.LeafFits p) s.leaves _ q.0.leaves (leaves-ok zs q.1)
 
-  oks : All (held.LeafFits p) (leavesIn ss)
+  oks : All (held.LeafFits p) (leaves_in ss)
   oks = leaves-ok ss h.sized
 
   some-section : 1 ≤ length ss
   some-section = go ss h.top
     where
-      go : (zs : List Section) → reach p.k 0 (leavesIn zs) ≡ suc (val (ones p.k)) → 1 ≤ length zs
+      go : (zs : List Section) → reach p.k 0 (leaves_in zs) ≡ suc (val (ones p.k)) → 1 ≤ length zs
       go [] e = absurd (omega (arith, e))
       go (s ∷ zs) e = omega arith
 
-  some-leaf : 1 ≤ length (leavesIn ss)
-  some-leaf = go (leavesIn ss) h.top
+  some-leaf : 1 ≤ length (leaves_in ss)
+  some-leaf = go (leaves_in ss) h.top
     where
       go : (ls : List Leaf) → reach p.k 0 ls ≡ suc (val (ones p.k)) → 1 ≤ length ls
       go [] e = absurd (omega (arith, e))
@@ -66,8 +66,8 @@ module _ (p : Description) (g : goodParams p ≡ true) (f : List ℕ) (size : le
 
   -- ---- texts
 
-  agree-leaves : (ls : List Leaf) → cells.Agree (block_at p f) (map (leafCell p) ls) → lay.All (lay.DetailIn p f) ls
-  unfolding lay.All leafCell
+  agree-leaves : (ls : List Leaf) → cells.Agree (block_at p f) (map (leaf_cell p) ls) → lay.All (lay.DetailIn p f) ls
+  unfolding lay.All leaf_cell
   agree-leaves [] q = tt
   agree-leaves (l ∷ ls) q = (q.0 ∙ sym (detail-same p l.records), agree-leaves ls q.1)
 
@@ -76,24 +76,24 @@ module _ (p : Description) (g : goodParams p ≡ true) (f : List ℕ) (size : le
   join [] ys a b = b
   join (x ∷ xs) ys a b = (a.0, join xs ys a.1 b)
 
-  texts : (zs : List Section) → cells.Agree (block_at p f) (cells_of p zs) → lay.All (lay.IndexIn p f) zs × lay.All (lay.DetailIn p f) (leavesIn zs)
+  texts : (zs : List Section) → cells.Agree (block_at p f) (cells_of p zs) → lay.All (lay.IndexIn p f) zs × lay.All (lay.DetailIn p f) (leaves_in zs)
   unfolding lay.All cells_of
   texts [] q = (tt, tt)
   texts (s ∷ zs) q =
       let P : cells.Cell → Type 0 = λ c. block_at p f c.0 ≡ c.1 in
-      let rest = texts zs (all_right P (map (leafCell p) s.leaves) _ q.1) in (
+      let rest = texts zs (all_right P (map (leaf_cell p) s.leaves) _ q.1) in (
         (q.0 ∙ sym (index_same p s.leaves), rest.0),
-        join s.leaves (leavesIn zs)
-            (agree-leaves s.leaves (all_left P (map (leafCell p) s.leaves) _ q.1)) rest.1,
+        join s.leaves (leaves_in zs)
+            (agree-leaves s.leaves (all_left P (map (leaf_cell p) s.leaves) _ q.1)) rest.1,
       )
 
-  chain-texts : (cs : List ℕ) → cells.Agree (block_at p f) (held.chainCells p cs) → lay.ChainIn p f cs
+  chain-texts : (cs : List ℕ) → cells.Agree (block_at p f) (held.chain_cells p cs) → lay.ChainIn p f cs
   unfolding lay.ChainIn head_of
   chain-texts [] q = tt
   chain-texts (c ∷ []) q = (q.0, tt)
   chain-texts (c ∷ (d ∷ cs)) q = (q.0, chain-texts (d ∷ cs) q.1)
 
-  fresh-text : (u s b : ℕ) → u ≤ b → b < u + s → cells.Agree (block_at p f) (held.freshCells p u s) → block_at p f b ≡ zeros p.wpb
+  fresh-text : (u s b : ℕ) → u ≤ b → b < u + s → cells.Agree (block_at p f) (held.fresh_cells p u s) → block_at p f b ≡ zeros p.wpb
   fresh-text u zero b l m q = absurd (omega arith)
   fresh-text u (suc s) b l m q = go (ℕ_discrete u b) (λ x y. fresh-text (u + 1) s b x y q.1)
     where
@@ -107,23 +107,23 @@ module _ (p : Description) (g : goodParams p ≡ true) (f : List ℕ) (size : le
   in_tree : cells.Agree (block_at p f) (cells_of p ss)
   in_tree = all_left T (cells_of p ss) _ h.agree
 
-  in-free : cells.Agree (block_at p f) (held.chainCells p fr.chain) × cells.Agree (block_at p f) (held.freshCells p fr.lowest fr.spare)
-  unfolding held.freeCells
+  in-free : cells.Agree (block_at p f) (held.chain_cells p fr.chain) × cells.Agree (block_at p f) (held.fresh_cells p fr.lowest fr.spare)
+  unfolding held.free_cells
   in-free =
       let q = all_right T (cells_of p ss) _ h.agree in
-      (all_left T (held.chainCells p fr.chain) _ q, all_right T (held.chainCells p fr.chain) _ q)
+      (all_left T (held.chain_cells p fr.chain) _ q, all_right T (held.chain_cells p fr.chain) _ q)
 
   -- ---- each block once
 
-  counts : (b : ℕ) → times b (blocksIn ss) + times b fr.chain + cond (leb fr.lowest b && leb (suc b) (fr.lowest + fr.spare)) 1 0 ≡ held.inside p.n b
-  unfolding held.freeCells cells.cellTimes
+  counts : (b : ℕ) → times b (blocks_in ss) + times b fr.chain + cond (leb fr.lowest b && leb (suc b) (fr.lowest + fr.spare)) 1 0 ≡ held.inside p.n b
+  unfolding held.free_cells cells.cell_times
   counts b =
       let w : cells.Cell → ℕ = λ c. cells.is c.0 b in
       omega (
         arith,
         h.once b,
-        cells.weigh-append w (cells_of p ss) (held.chainCells p fr.chain ++ held.freshCells p fr.lowest fr.spare),
-        cells.weigh-append w (held.chainCells p fr.chain) (held.freshCells p fr.lowest fr.spare),
+        cells.weigh-append w (cells_of p ss) (held.chain_cells p fr.chain ++ held.fresh_cells p fr.lowest fr.spare),
+        cells.weigh-append w (held.chain_cells p fr.chain) (held.fresh_cells p fr.lowest fr.spare),
         tree-times b p ss,
         chain-times b p fr.chain,
         fresh-times b p fr.lowest fr.spare,
@@ -165,33 +165,33 @@ module _ (p : Description) (g : goodParams p ≡ true) (f : List ℕ) (size : le
     unused = λ b l u. fresh-text fr.lowest fr.spare b l (omega (arith, h.numbers)) in-free.1;
     control = (some-section, h.sections);
     counted = counted-in ss h.sized;
-    leaves = told-first p kr (leavesIn ss) oks h.ranged;
-    last = bound-last (leavesIn ss) ∙ top;
-    end = ap lastIn z.is ∙ last-right z.front (endRecord p ∷ []) (omega arith) ∙ last_one (endRecord p);
+    leaves = told-first p kr (leaves_in ss) oks h.ranged;
+    last = bound-last (leaves_in ss) ∙ top;
+    end = ap last_in z.is ∙ last-right z.front (end_record p ∷ []) (omega arith) ∙ last_one (end_record p);
     once = λ b i. sum b i;
-    reached = all-times (blocksIn ss) (λ b l. inside-low p.n b (omega (arith, counts b)));
+    reached = all-times (blocks_in ss) (λ b l. inside-low p.n b (omega (arith, counts b)));
     linked = all-times fr.chain (λ b l. inside-low p.n b (omega (arith, counts b)));
     lowest = (lowest-in, omega (arith, h.numbers));
   }
     where
-      master : part 0 (masterSize p) f ≡ lay.masterText p tree
+      master : part 0 (master_size p) f ≡ lay.master_text p tree
       master =
-          unfold masterOf part held.masterFor in
-          (h.master-is ∙ sym (master-same p tree (length-cat (p.k + 1) (map (held.masterEntry p) ss) (master-rows p ss h.sized))))
+          unfold master_of part held.master_for in
+          (h.master-is ∙ sym (master-same p tree (length-cat (p.k + 1) (map (held.master_entry p) ss) (master-rows p ss h.sized))))
 
-      top : held.lastBound [] (leavesIn ss) ≡ ones p.k
+      top : held.last_bound [] (leaves_in ss) ≡ ones p.k
       top =
-          let lb = last-bounded p [] (leavesIn ss) some-leaf oks in
-          val_inj (held.lastBound [] (leavesIn ss)) (ones p.k) lb.1 (allWords-replicate p.k topWord (omega arith))
-          (lb.0 ∙ sym (length-replicate {A = ℕ} p.k topWord))
-          (omega (arith, h.top, reach-last p.k 0 [] (leavesIn ss) some-leaf))
+          let lb = last-bounded p [] (leaves_in ss) some-leaf oks in
+          val_inj (held.last_bound [] (leaves_in ss)) (ones p.k) lb.1 (all_words-replicate p.k top_word (omega arith))
+          (lb.0 ∙ sym (length-replicate {A = ℕ} p.k top_word))
+          (omega (arith, h.top, reach-last p.k 0 [] (leaves_in ss) some-leaf))
 
-      last_one : (y : List ℕ) → lastIn (y ∷ []) ≡ y
-      last_one y = unfold lastIn in refl
+      last_one : (y : List ℕ) → last_in (y ∷ []) ≡ y
+      last_one y = unfold last_in in refl
 
-      sum : (b : ℕ) → Block p b → times b (blocksIn ss) + times b fr.chain + cond (leb fr.lowest b) 1 0 ≡ 1
+      sum : (b : ℕ) → Block p b → times b (blocks_in ss) + times b fr.chain + cond (leb fr.lowest b) 1 0 ≡ 1
       sum b i =
-          ap (λ (t : Bool). times b (blocksIn ss) + times b fr.chain + cond {A = ℕ} t 1 0)
+          ap (λ (t : Bool). times b (blocks_in ss) + times b fr.chain + cond {A = ℕ} t 1 0)
           (sym (ap (λ (t : Bool). leb fr.lowest b && t) (le-leb (suc b) (fr.lowest + fr.spare) (omega (arith, h.numbers))) ∙ and_right
           (leb fr.lowest b)))
           ∙ counts b ∙ inside_one b i

@@ -1,23 +1,23 @@
 -- The tree that a file holds: sections of leaves of rows, and the free cells.
 use Prim.Native.Nat.{ℕ, suc, ◌+◌, ◌-◌}
 use Rattle.drum.specs.declared.Description.{Description}
-use Rattle.drum.specs.Params.{detailShape, index_shape}
+use Rattle.drum.specs.Params.{detail_shape, index_shape}
 use mathlib.Core.Path.{◌≡◌, refl, sym}
 use mathlib.Core.List.{List, [], ◌∷◌, ◌++◌, map, append_assoc}
 use native.Mathlib.Omega.{arith}
 use lib.ListN.{take}
 use Rattle.words.specs.Keys.{val}
 use Rattle.layout.specs.Tree.{Leaf, Section}
-pub use Rattle.layout.specs.Tree.{leavesIn, recordsIn}
+pub use Rattle.layout.specs.Tree.{leaves_in, records_in}
 pub use Rattle.layout.proofs.Lists.{records-append}
 use Rattle.demands.proofs.Order.{Asc, asc-append}
 use Rattle.demands.proofs.Cells.{Cell}
 unfoldable pub use Rattle.table.specs.Rows.{table}
 
 -- the leaves of two lists of sections
-pub leavesIn-append : (xs ys : List Section) → leavesIn (xs ++ ys) ≡ leavesIn xs ++ leavesIn ys
-leavesIn-append [] ys = refl
-leavesIn-append (x ∷ xs) ys = rw (leavesIn-append xs ys) (sym (append_assoc x.leaves (leavesIn xs) (leavesIn ys)))
+pub leaves_in-append : (xs ys : List Section) → leaves_in (xs ++ ys) ≡ leaves_in xs ++ leaves_in ys
+leaves_in-append [] ys = refl
+leaves_in-append (x ∷ xs) ys = rw (leaves_in-append xs ys) (sym (append_assoc x.leaves (leaves_in xs) (leaves_in ys)))
 
 -- ---- the order: over the number of a key's words
 
@@ -53,9 +53,9 @@ module _ (k : ℕ) where
   ranged-right lo (x ∷ xs) ys h = ranged-right (suc (bd x)) xs ys h.1
 
   -- the contents of a ranged list of leaves ascend
-  pub ranged-asc : (lo : ℕ) (ls : List Leaf) → Ranged lo ls → Asc key lo (recordsIn ls) (reach lo ls)
+  pub ranged-asc : (lo : ℕ) (ls : List Leaf) → Ranged lo ls → Asc key lo (records_in ls) (reach lo ls)
   ranged-asc lo [] h = omega arith
-  ranged-asc lo (l ∷ ls) h = asc-append key lo l.records (suc (bd l)) (recordsIn ls) (reach (suc (bd l)) ls) h.0 (ranged-asc (suc (bd l)) ls h.1)
+  ranged-asc lo (l ∷ ls) h = asc-append key lo l.records (suc (bd l)) (records_in ls) (reach (suc (bd l)) ls) h.0 (ranged-asc (suc (bd l)) ls h.1)
 
   -- leaves in the middle give way to others that end where they ended
   pub ranged-swap : (lo : ℕ) (bs ls ls' cs : List Leaf) → Ranged lo (bs ++ (ls ++ cs)) → Ranged (reach lo bs) ls'
@@ -75,15 +75,15 @@ unfoldable pub entry : Leaf → List ℕ
 entry l = l.bound ++ (l.block ∷ [])
 
 module _ (p : Description) where
-  unfoldable pub leafCell : Leaf → Cell
-  leafCell l = (l.block, table (detailShape p) p.wpb l.records)
+  unfoldable pub leaf_cell : Leaf → Cell
+  leaf_cell l = (l.block, table (detail_shape p) p.wpb l.records)
 
-  unfoldable pub indexText : List Leaf → List ℕ
-  indexText ls = table (index_shape p) p.wpb (map entry ls)
+  unfoldable pub index_text : List Leaf → List ℕ
+  index_text ls = table (index_shape p) p.wpb (map entry ls)
 
   unfoldable pub cells_of : List Section → List Cell
   cells_of [] = []
-  cells_of (s ∷ ss) = ((s.block, indexText s.leaves) ∷ map leafCell s.leaves) ++ cells_of ss
+  cells_of (s ∷ ss) = ((s.block, index_text s.leaves) ∷ map leaf_cell s.leaves) ++ cells_of ss
 
   pub cells-append : (xs ys : List Section) → cells_of (xs ++ ys) ≡ cells_of xs ++ cells_of ys
   unfolding cells_of

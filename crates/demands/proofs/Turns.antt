@@ -21,27 +21,27 @@ turns-sum value (q ∷ qs) st = ap (λ (n : ℕ). value st (turn q (answer st q)
 
 module _ (st : State) (qs : List Request) where
   pub M-is : M st (turns st qs) ≡ rule.M st qs
-  unfolding M rule.M rule.acceptedBy
+  unfolding M rule.M rule.accepted_by
   M-is = turns-sum _ qs st
 
   S-is : S st (turns st qs) ≡ rule.S st qs
-  unfolding S rule.S rule.newDetails
+  unfolding S rule.S rule.new_details
   S-is = turns-sum _ qs st
 
   s-is : s st (turns st qs) ≡ rule.s st qs
-  unfolding s rule.s rule.newIndexes
+  unfolding s rule.s rule.new_indexes
   s-is = turns-sum _ qs st
 
   X-is : X st (turns st qs) ≡ rule.X st qs
-  unfolding X rule.X rule.newDetails
+  unfolding X rule.X rule.new_details
   X-is = turns-sum _ qs st
 
   x-is : x st (turns st qs) ≡ rule.x st qs
-  unfolding x rule.x rule.newIndexes
+  unfolding x rule.x rule.new_indexes
   x-is = turns-sum _ qs st
 
-  pub counts-are : counts st (turns st qs) ≡ rule.allTransfers st qs
-  unfolding counts rule.allTransfers
+  pub counts-are : counts st (turns st qs) ≡ rule.all_transfers st qs
+  unfolding counts rule.all_transfers
   counts-are = turns-sum _ qs st
 
   pub shares-are : shares st (turns st qs) ≡ rule.shares st qs

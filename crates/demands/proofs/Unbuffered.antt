@@ -6,20 +6,20 @@ use mathlib.Core.List.{List, [], ◌∷◌}
 use lib.Dec.{leb, eqb}
 use lib.ListN.{length}
 use borrow.Author.Tests.{leb-true}
-use Rattle.numbers.specs.Numbers.{wrongSize, alreadyOpen, isClosed}
+use Rattle.numbers.specs.Numbers.{wrong_size, already_open, is_closed}
 use Rattle.numbers.specs.Checked.{Checked, passed, refused, ◌>>◌, require}
 use Rattle.words.specs.Words.{part}
 use Rattle.drum.specs.declared.Description.{Description}
 use Rattle.drum.specs.Params.{sized}
 use Rattle.drum.specs.Blocks.{text_of, seen}
-use Rattle.layout.specs.Inspect.{layoutMarks}
-use Rattle.rules.specs.State.{Session, State, Outcome, Effect, desc, lent, settle, atRest}
-use Rattle.rules.specs.Checks.{sizesOk, workOk, isOpen, keyOk}
-use Rattle.rules.specs.Open.{openChecks, openLayout, openDone, openFile}
-use Rattle.rules.specs.Close.{closeChecks, closeDone, close, view}
+use Rattle.layout.specs.Inspect.{layout_marks}
+use Rattle.rules.specs.State.{Session, State, Outcome, Effect, desc, lent, settle, at_rest}
+use Rattle.rules.specs.Checks.{sizes_ok, work_ok, is_open, key_ok}
+use Rattle.rules.specs.Open.{open_checks, open_layout, open_done, open_file}
+use Rattle.rules.specs.Close.{close_checks, close_done, close, view}
 use Rattle.rules.specs.Requests.{Request, opening, closing, seeking, advancing, inserting, deleting, updating, extending, answer, left, lending}
 use Rattle.demands.specs.Unbuffered.{Buffers, same, unused, Alike, Indistinct, Unbuffered, UnbufferedMarks, UnbufferedView, UnbufferedRun}
-use Rattle.rules.specs.Lookup.{flushMoves}
+use Rattle.rules.specs.Lookup.{flush_moves}
 use Rattle.rules.specs.Seek.{seek, updat}
 use Rattle.rules.specs.Adv.{adv}
 use Rattle.rules.specs.Dlete as d
@@ -36,17 +36,17 @@ idle p opened placed position = record { desc = p; opened = opened; current = 0;
 
 abbrev keying : ℕ → State → Checked Effect → Checked Effect
 keying reads st c = do
-  sizesOk st
-  workOk st
-  isOpen st
-  keyOk reads st
+  sizes_ok st
+  work_ok st
+  is_open st
+  key_ok reads st
   c
 
 abbrev opening-only : State → Checked Effect → Checked Effect
 opening-only st c = do
-  sizesOk st
-  workOk st
-  isOpen st
+  sizes_ok st
+  work_ok st
+  is_open st
   c
 
 module _ (p : Description) (opened placed : Bool) (position f a b w : List ℕ) (l : length a ≡ length b) where
@@ -59,8 +59,8 @@ module _ (p : Description) (opened placed : Bool) (position f a b w : List ℕ) 
   still : Alike one two
   still = record { session = refl; file = refl; work = refl; buffers = unused (record { current = refl; flag = refl }) l }
 
-  sizes-same : SameChecks (sizesOk one) (sizesOk two)
-  unfolding sizesOk
+  sizes-same : SameChecks (sizes_ok one) (sizes_ok two)
+  unfolding sizes_ok
   sizes-same = rw l (same_refl _)
 
   settled : (c d : Checked Effect) → SameChecks c d
@@ -78,36 +78,36 @@ module _ (p : Description) (opened placed : Bool) (position f a b w : List ℕ) 
   keyed : (reads : ℕ) (c d : Checked Effect) → SameChecks c d
       → Indistinct (settle one (keying reads one c))
       (settle two (keying reads two d))
-  unfolding workOk isOpen keyOk
+  unfolding work_ok is_open key_ok
   keyed reads c d h =
       settled _ _
       (same_then _ _ _ _ sizes-same
-      (same_then (workOk two) (workOk two) _ _ (same_refl _)
-      (same_then (isOpen two) (isOpen two) _ _ (same_refl _) (same_then (keyOk reads two) (keyOk reads two) c d (same_refl _) h))))
+      (same_then (work_ok two) (work_ok two) _ _ (same_refl _)
+      (same_then (is_open two) (is_open two) _ _ (same_refl _) (same_then (key_ok reads two) (key_ok reads two) c d (same_refl _) h))))
 
   unkeyed : (c d : Checked Effect) → SameChecks c d
       → Indistinct (settle one (opening-only one c))
       (settle two (opening-only two d))
-  unfolding workOk isOpen
+  unfolding work_ok is_open
   unkeyed c d h =
       settled _ _
-      (same_then _ _ _ _ sizes-same (same_then (workOk two) (workOk two) _ _ (same_refl _) (same_then (isOpen two) (isOpen two) c d (same_refl _) h)))
+      (same_then _ _ _ _ sizes-same (same_then (work_ok two) (work_ok two) _ _ (same_refl _) (same_then (is_open two) (is_open two) c d (same_refl _) h)))
 
   -- OPEN, with its marks, and CLOSE, which leaves current 0 and the flag off
   open-checks-same : (marks : List ℕ)
-      → SameChecks (openChecks one marks) (openChecks two marks)
-  unfolding openChecks
-  open-checks-same marks = same_then _ _ _ _ sizes-same (same_refl (require (eqb (length marks) p.n) wrongSize >> require (not opened) alreadyOpen))
+      → SameChecks (open_checks one marks) (open_checks two marks)
+  unfolding open_checks
+  open-checks-same marks = same_then _ _ _ _ sizes-same (same_refl (require (eqb (length marks) p.n) wrong_size >> require (not opened) already_open))
 
   open-same : (marks : List ℕ)
-      → Indistinct (openFile one marks).outcome (openFile two marks).outcome
-      × ((openFile one marks).marks ≡ (openFile two marks).marks)
-  unfolding openFile openDone openLayout atRest
+      → Indistinct (open_file one marks).outcome (open_file two marks).outcome
+      × ((open_file one marks).marks ≡ (open_file two marks).marks)
+  unfolding open_file open_done open_layout at_rest
   open-same marks = go _ _ (open-checks-same marks)
     where
       laid : (c : Checked (List ℕ))
-          → Indistinct (openLayout one c).outcome (openLayout two c).outcome
-          × ((openLayout one c).marks ≡ (openLayout two c).marks)
+          → Indistinct (open_layout one c).outcome (open_layout two c).outcome
+          × ((open_layout one c).marks ≡ (open_layout two c).marks)
       laid (refused n) = (record { number = refl; transfers = refl; after = still }, refl)
       laid (passed ms) = (
         record {
@@ -119,25 +119,25 @@ module _ (p : Description) (opened placed : Bool) (position f a b w : List ℕ) 
       )
 
       each : (c : Checked Bool)
-          → Indistinct (openDone one marks c).outcome (openDone two marks c).outcome
-          × ((openDone one marks c).marks ≡ (openDone two marks c).marks)
+          → Indistinct (open_done one marks c).outcome (open_done two marks c).outcome
+          × ((open_done one marks c).marks ≡ (open_done two marks c).marks)
       each (refused n) = (record { number = refl; transfers = refl; after = still }, refl)
-      each (passed x) = laid (layoutMarks p f)
+      each (passed x) = laid (layout_marks p f)
 
       go : (c d : Checked Bool) → SameChecks c d
-          → Indistinct (openDone one marks c).outcome (openDone two marks d).outcome
-          × ((openDone one marks c).marks ≡ (openDone two marks d).marks)
+          → Indistinct (open_done one marks c).outcome (open_done two marks d).outcome
+          × ((open_done one marks c).marks ≡ (open_done two marks d).marks)
       go c d h = rw (← h.is) (each c)
 
-  close-checks-same : SameChecks (closeChecks one) (closeChecks two)
-  unfolding closeChecks isOpen
-  close-checks-same = same_then _ _ _ _ sizes-same (same_refl (require opened isClosed >> passed true))
+  close-checks-same : SameChecks (close_checks one) (close_checks two)
+  unfolding close_checks is_open
+  close-checks-same = same_then _ _ _ _ sizes-same (same_refl (require opened is_closed >> passed true))
 
   close-same : Indistinct (close one) (close two)
-  unfolding close closeDone atRest flushMoves
+  unfolding close close_done at_rest flush_moves
   close-same = go _ _ close-checks-same
     where
-      each : (c : Checked Bool) → Indistinct (closeDone one c) (closeDone two c)
+      each : (c : Checked Bool) → Indistinct (close_done one c) (close_done two c)
       each (refused n) = record { number = refl; transfers = refl; after = still }
       each (passed x) = record {
         number = refl;
@@ -146,7 +146,7 @@ module _ (p : Description) (opened placed : Bool) (position f a b w : List ℕ) 
       }
 
       go : (c d : Checked Bool) → SameChecks c d
-          → Indistinct (closeDone one c) (closeDone two d)
+          → Indistinct (close_done one c) (close_done two d)
       go c d h = rw (← h.is) (each c)
 
   view-same : (c : ℕ) → view one c ≡ view two c
@@ -203,7 +203,7 @@ unbuffered st su h q =
 
 pub unbuffered-marks : UnbufferedMarks
 unbuffered-marks st su h marks =
-    by_cases (λ (x y : State). (openFile x marks).marks ≡ (openFile y marks).marks) (λ x. refl)
+    by_cases (λ (x y : State). (open_file x marks).marks ≡ (open_file y marks).marks) (λ x. refl)
     (λ p o c k f a b w l. (open-same p o c k f a b w l marks).1) st su h
 
 pub unbuffered-view : UnbufferedView

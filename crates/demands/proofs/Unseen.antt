@@ -12,23 +12,23 @@ use Rattle.numbers.specs.Numbers.{done, accepted}
 use Rattle.words.specs.Words.{part}
 use Rattle.drum.specs.declared.Description.{Description}
 use Rattle.drum.specs.Blocks.{block_at}
-use Rattle.layout.specs.Tree.{Section, contents, freshTree}
+use Rattle.layout.specs.Tree.{Section, contents, fresh_tree}
 use Rattle.layout.specs.Holds.{Holds}
 use Rattle.layout.proofs.Unique.{one-tree}
-use Rattle.rules.specs.State.{State, Outcome, desc, keyIn, lent}
+use Rattle.rules.specs.State.{State, Outcome, desc, key_in, lent}
 use Rattle.rules.specs.Close.{view}
 use Rattle.rules.specs.Requests.{Request, opening, closing, seeking, advancing, inserting, deleting, updating, extending, given, answer}
 use Rattle.demands.specs.Position.{Positions, Rests}
 use Rattle.rules.proofs.Computing.{computing}
 use Rattle.demands.proofs.Refused.{impossible}
 use Rattle.demands.proofs.Position.{positions}
-use Rattle.demands.specs.History.{eventOf, withKey}
+use Rattle.demands.specs.History.{event_of, with_key}
 use Rattle.demands.specs.Promises.{put_back}
 use Rattle.demands.specs.Contents.{Contains, changed}
 use Rattle.demands.specs.Answers.{Met}
 use Rattle.demands.specs.Durable.{ClosesBy}
-use Rattle.demands.specs.Routines.{leftBy, closes, AfterOpenBy, AnsweredBy, AnswersAre, RecordsChange, PositionsAre, ViewsAre}
-use Rattle.demands.specs.WrongRoutines.{forgetting, forgetful, closingBy, feigning, dropping, unwritten, stale, ForPosition, ForClose, ForView}
+use Rattle.demands.specs.Routines.{left_by, closes, AfterOpenBy, AnsweredBy, AnswersAre, RecordsChange, PositionsAre, ViewsAre}
+use Rattle.demands.specs.WrongRoutines.{forgetting, forgetful, closing_by, feigning, dropping, unwritten, stale, ForPosition, ForClose, ForView}
 use Rattle.demands.proofs.Holds.{Free}
 use Rattle.demands.proofs.Sound.{Key, Sound}
 use Rattle.demands.proofs.Stepped.{Stepped}
@@ -63,8 +63,8 @@ unfolding forgetting
 met-forgetting st o [] e = e
 met-forgetting st o (x ∷ xs) e = e
 
-event-forgetting : (st : State) (p : Description) (q : Request) (o : Outcome) → eventOf p q o ≡ eventOf p q (forgetting st o)
-unfolding eventOf forgetting
+event-forgetting : (st : State) (p : Description) (q : Request) (o : Outcome) → event_of p q o ≡ event_of p q (forgetting st o)
+unfolding event_of forgetting
 event-forgetting st p (opening marks) o = refl
 event-forgetting st p closing o = refl
 event-forgetting st p (seeking w) o = refl
@@ -107,8 +107,8 @@ forgetful-answers st ss f h t held =
     record {
       seek = a.seek;
       adv = a.adv;
-      dlete = λ w k. met-forgetting st (answer st (deleting w)) (withKey (desc st) (keyIn (desc st) w) (contents t)) (a.dlete w k);
-      updat = λ w k. met-forgetting st (answer st (updating w)) (withKey (desc st) (keyIn (desc st) w) (contents t)) (a.updat w k);
+      dlete = λ w k. met-forgetting st (answer st (deleting w)) (with_key (desc st) (key_in (desc st) w) (contents t)) (a.dlete w k);
+      updat = λ w k. met-forgetting st (answer st (updating w)) (with_key (desc st) (key_in (desc st) w) (contents t)) (a.updat w k);
       nsert = a.nsert;
       xtend = a.xtend;
     }
@@ -132,7 +132,7 @@ abbrev held-five : State
 held-five = (answer begin (inserting five)).after
 
 forgetful-refused : AfterOpenBy forgetful (PositionsAre forgetful) → ⊥
-unfolding forgetful forgetting leftBy
+unfolding forgetful forgetting left_by
 forgetful-refused h =
     let at : PositionsAre forgetful begin = subst (PositionsAre forgetful) begins.1 (h fresh marks₄ begins.0 []) in
     impossible (sym ((at (inserting five)).moved stored-five).placed)
@@ -149,8 +149,8 @@ forgetful-only = record {
 -- ---- CLOSE
 
 by-closing : (close : State → Outcome) (st : State) (P : Request → Outcome → Type 0) → ((q : Request) → P q (answer st q)) → P closing (close st)
-    → (q : Request) → P q (closingBy close st q)
-unfolding closingBy
+    → (q : Request) → P q (closing_by close st q)
+unfolding closing_by
 by-closing close st P a c (opening marks) = a (opening marks)
 by-closing close st P a c closing = c
 by-closing close st P a c (seeking w) = a (seeking w)
@@ -167,7 +167,7 @@ module _ (st : State) (ss : List Section) (f : Free) (h : Sound st ss f) (now : 
 
   feigned-fine : Sound now ss f → desc now ≡ desc st → now.file ≡ st.file → ((rows : List (List ℕ)) → Contains st rows → Contains now rows)
       → Fine st closing (feigning now (answer st closing))
-  unfolding feigning closes eventOf changed
+  unfolding feigning closes event_of changed
   feigned-fine s d e c = go (eqb (answer st closing).number done)
     where
       a : Fine st closing (answer st closing)
@@ -212,7 +212,7 @@ unwritten-fine st ss f h =
     refl refl (λ rows c. record { tree = c.tree; held = c.held; are = c.are }))
 
 unwritten-answers : (st : State) (ss : List Section) (f : Free) → Sound st ss f → AnswersAre unwritten st
-unfolding unwritten closingBy
+unfolding unwritten closing_by
 unwritten-answers st ss f h t held =
     let a : AnsweredBy answer st t = answer-answers st ss f h t held in
     record { seek = a.seek; adv = a.adv; dlete = a.dlete; updat = a.updat; nsert = a.nsert; xtend = a.xtend }
@@ -226,14 +226,14 @@ abbrev reopened : State
 reopened = (unwritten (lent (resting false) (unwritten held-five closing).after.file begin.buffer begin.work) (opening marks₄)).after
 
 unwritten-five : ((unwritten held-five closing).number ≡ done) × (reopened ≡ begin)
-unfolding computing unwritten closingBy feigning
+unfolding computing unwritten closing_by feigning
 unwritten-five = (refl, refl)
 
 -- the new file does not hold the record
 not_there : Contains begin (five ∷ end ∷ []) → ⊥
 not_there c =
     let e : five ∷ end ∷ [] ≡ end ∷ []
-    = sym c.are ∙ ap contents (one-tree small (put_back begin) c.tree (freshTree small) good c.held begin-holds) ∙ fresh-rows in
+    = sym c.are ∙ ap contents (one-tree small (put_back begin) c.tree (fresh_tree small) good c.held begin-holds) ∙ fresh-rows in
     omega (arith, ap length e)
 
 there-is : Contains held-five (five ∷ end ∷ [])
@@ -244,7 +244,7 @@ unfolding computing
 held-sizes = (refl, refl, refl)
 
 unwritten-refused : AfterOpenBy unwritten (ClosesBy unwritten) → ⊥
-unfolding unwritten closingBy leftBy
+unfolding unwritten closing_by left_by
 unwritten-refused h =
     let at : ClosesBy unwritten held-five
     = subst (λ (x : State). ClosesBy unwritten (answer x (inserting five)).after) begins.1 (h fresh marks₄ begins.0 (inserting five ∷ [])) in
@@ -253,7 +253,7 @@ unwritten-refused h =
     held-sizes.0 refl held-sizes.1 held-sizes.2).1)
 
 pub unwritten-only : ForClose unwritten view
-unfolding unwritten closingBy
+unfolding unwritten closing_by
 unwritten-only = record {
   calls = right-calls unwritten (λ st marks. refl) unwritten-fine unwritten-answers;
   positions = by-sound unwritten (λ st marks. refl) unwritten-fine (PositionsAre unwritten) unwritten-positions;
@@ -263,11 +263,11 @@ unwritten-only = record {
 
 -- a CLOSE that closes and drops the buffer: the records say so already
 dropped-five : (put_back (dropping held-five closing).after ≡ put_back begin) × (desc (dropping held-five closing).after ≡ small)
-unfolding computing dropping closingBy feigning
+unfolding computing dropping closing_by feigning
 dropped-five = (refl, refl)
 
 pub dropping-refused : AfterOpenBy dropping (RecordsChange dropping) → ⊥
-unfolding dropping closingBy leftBy eventOf changed
+unfolding dropping closing_by left_by event_of changed
 dropping-refused h =
     let at : RecordsChange dropping held-five
     = subst (λ (x : State). RecordsChange dropping (answer x (inserting five)).after) begins.1 (h fresh marks₄ begins.0 (inserting five ∷ [])) in
@@ -288,7 +288,7 @@ unfolding computing stale
 counts-two = (refl, refl, refl, refl)
 
 stale-refused : AfterOpenBy answer (ViewsAre stale) → ⊥
-unfolding leftBy
+unfolding left_by
 stale-refused h =
     let at : ViewsAre stale held-five
     = subst (λ (x : State). ViewsAre stale (answer x (inserting five)).after) begins.1 (h fresh marks₄ begins.0 (inserting five ∷ [])) in

@@ -10,7 +10,7 @@ use Rattle.numbers.specs.Checked.{Checked, passed, ◌>>=◌, ◌>>◌}
 use Rattle.numbers.proofs.Passed.{Passed, chain}
 use Rattle.table.specs.Tables.{count}
 use Rattle.drum.specs.declared.Description.{Description}
-use Rattle.drum.specs.Params.{D, I, masterShape, index_shape, detailShape}
+use Rattle.drum.specs.Params.{D, I, master_shape, index_shape, detail_shape}
 use Rattle.drum.specs.Blocks.{Texts, text_of, seen}
 use Rattle.rules.specs.declared.Which.{Which}
 use Rattle.rules.specs.declared.Entry.{Entry}
@@ -19,13 +19,13 @@ use Rattle.rules.specs.declared.Way.{Way}
 use Rattle.rules.specs.declared.Way.TheVariants.{Here, By}
 use Rattle.rules.specs.declared.Look.{Look}
 use Rattle.rules.specs.declared.Look.TheVariants as look_is
-use Rattle.rules.specs.State.{Effect, keyIn}
-use Rattle.rules.specs.Paths.{entry_of, pathAt, pathUnder, pathBy, pathTo, firstPath}
-use Rattle.rules.specs.Lookup.{onBuffer, inBuffer, flushMoves, bringing, reached, lookOutside, look, textAt}
-use Rattle.rules.specs.Seek.{giving, seekDone, seekSteps, updatDone, updatSteps}
+use Rattle.rules.specs.State.{Effect, key_in}
+use Rattle.rules.specs.Paths.{entry_of, path_at, path_under, path_by, path_to, first_path}
+use Rattle.rules.specs.Lookup.{on_buffer, in_buffer, flush_moves, bringing, reached, look_outside, look, text_at}
+use Rattle.rules.specs.Seek.{giving, seek_done, seek_steps, updat_done, updat_steps}
 use Rattle.rules.specs.declared.Step.{Step}
 use Rattle.rules.specs.declared.Step.TheVariants as step_is
-use Rattle.rules.specs.Adv.{nextRow, nextInBuffer, nextPath, advBeyond, advAt, advOutside, advStep, advGiving, advDone, advSteps}
+use Rattle.rules.specs.Adv.{next_row, next_in_buffer, next_path, adv_beyond, adv_at, adv_outside, adv_step, adv_giving, adv_done, adv_steps}
 use Rattle.rules.specs.Fits.{PathFits, WayFits, LookFits, StepFits}
 use Rattle.rules.proofs.Fits.{entry-fits, path-fits, looked-fits, step-passed, next-passed, covering-fits}
 use Rattle.demands.proofs.SameChecks.{SameChecks, same_refl, same-bind, same_test}
@@ -50,109 +50,109 @@ module _ (p : Description) (f a b : List ℕ) where
   unused-detail w h = text_same w.detail h.detail-least
 
   -- ways
-  at_same : (m e : Entry) → 1 ≤ e.block → SameChecks (pathAt v m e) (pathAt u m e)
-  unfolding pathAt
+  at_same : (m e : Entry) → 1 ≤ e.block → SameChecks (path_at v m e) (path_at u m e)
+  unfolding path_at
   at_same m e l = rw (text_same e.block l) (same_refl _)
 
   entry-same : (which : Which) (key : List ℕ) (m : Entry) → 1 ≤ m.block
       → SameChecks (entry_of p (index_shape p) (I p) which key (text_of v m.block)) (entry_of p (index_shape p) (I p) which key (text_of u m.block))
   entry-same which key m l = rw (text_same m.block l) (same_refl _)
 
-  under_same : (which : Which) (key : List ℕ) (m : Entry) → 1 ≤ m.block → SameChecks (pathUnder v which key m) (pathUnder u which key m)
-  unfolding pathUnder
+  under_same : (which : Which) (key : List ℕ) (m : Entry) → 1 ≤ m.block → SameChecks (path_under v which key m) (path_under u which key m)
+  unfolding path_under
   under_same which key m l =
       same-bind _ _ _ _ (entry-same which key m l)
       (λ e h. at_same m e (entry-fits p (index_shape p) (I p) which key (text_of v m.block) e h).block-least)
 
-  pub path-same : (top which : Which) (key : List ℕ) → SameChecks (pathBy v top which key) (pathBy u top which key)
-  unfolding pathBy
+  pub path-same : (top which : Which) (key : List ℕ) → SameChecks (path_by v top which key) (path_by u top which key)
+  unfolding path_by
   path-same top which key =
       same-bind _ _ _ _ (same_refl _)
-      (λ m h. under_same which key m (entry-fits p (masterShape p) p.control top key f m h).block-least)
+      (λ m h. under_same which key m (entry-fits p (master_shape p) p.control top key f m h).block-least)
 
   -- a lookup, which finds nothing in the buffer
   pub look-same : (key : List ℕ) → SameChecks (look v false key) (look u false key)
-  unfolding look inBuffer onBuffer lookOutside
+  unfolding look in_buffer on_buffer look_outside
   look-same key =
       same-bind _ _ _ _ (path-same _ _ key)
       (λ w h. rw (unused-detail w (path-fits v _ _ key w h)) (same_refl _))
 
   pub reached-same : (way : Way) → WayFits v false way → reached v false way ≡ reached u false way
-  unfolding reached bringing flushMoves
+  unfolding reached bringing flush_moves
   reached-same Here h = absurd (omega (arith, h.current-least))
   reached-same (By w) h = rw (unused-detail w h.0)
 
-  pub way_same : (way : Way) → WayFits v false way → textAt v way ≡ textAt u way
+  pub way_same : (way : Way) → WayFits v false way → text_at v way ≡ text_at u way
   way_same Here h = absurd (omega (arith, h.current-least))
   way_same (By w) h = unused-detail w h.0
 
   -- SEEK and UPDAT
   module _ (work : List ℕ) where
-    seek-done : (l : Look) → LookFits v false l → SameChecks (seekDone v false work l) (seekDone u false work l)
-    unfolding seekDone giving
+    seek-done : (l : Look) → LookFits v false l → SameChecks (seek_done v false work l) (seek_done u false work l)
+    unfolding seek_done giving
     seek-done look_is.Bad h = same_refl _
     seek-done (look_is.Found way i) h = rw (reached-same way h.0) (same_refl _)
     seek-done (look_is.Missing w) h = rw (reached-same (By w) h) (same_refl _)
 
-    pub seek-same : SameChecks (seekSteps v false work) (seekSteps u false work)
-    unfolding seekSteps
-    seek-same = same-bind _ _ _ _ (look-same (keyIn p work)) (λ l e. seek-done l (looked-fits v false (keyIn p work) l e))
+    pub seek-same : SameChecks (seek_steps v false work) (seek_steps u false work)
+    unfolding seek_steps
+    seek-same = same-bind _ _ _ _ (look-same (key_in p work)) (λ l e. seek-done l (looked-fits v false (key_in p work) l e))
 
-    updat-done : (l : Look) → LookFits v false l → SameChecks (updatDone v false work l) (updatDone u false work l)
-    unfolding updatDone
+    updat-done : (l : Look) → LookFits v false l → SameChecks (updat_done v false work l) (updat_done u false work l)
+    unfolding updat_done
     updat-done look_is.Bad h = same_refl _
     updat-done (look_is.Found way i) h = rw (reached-same way h.0) (same_refl _)
     updat-done (look_is.Missing w) h = rw (reached-same (By w) h) (same_refl _)
 
-    pub updat-same : SameChecks (updatSteps v false work) (updatSteps u false work)
-    unfolding updatSteps
-    updat-same = same-bind _ _ _ _ (look-same (keyIn p work)) (λ l e. updat-done l (looked-fits v false (keyIn p work) l e))
+    pub updat-same : SameChecks (updat_steps v false work) (updat_steps u false work)
+    unfolding updat_steps
+    updat-same = same-bind _ _ _ _ (look-same (key_in p work)) (λ l e. updat-done l (looked-fits v false (key_in p work) l e))
 
   -- ADV
-  next-same : (w : Path) → PathFits v w → SameChecks (nextPath v w) (nextPath u w)
-  unfolding nextPath
+  next-same : (w : Path) → PathFits v w → SameChecks (next_path v w) (next_path u w)
+  unfolding next_path
   next-same w h =
       same_test _ _ _ _ _ _ (ap (λ (t : List ℕ). ltb (w.entry + 1) (count (index_shape p) t)) (unused-index w h)) (λ e. path-same _ _ []) (λ e. path-same _ _ [])
 
   beyond-same : (placed : Bool) (at : List ℕ) (w : Path) → PathFits v w
-      → SameChecks (advBeyond v placed at w) (advBeyond u placed at w)
-  unfolding advBeyond
+      → SameChecks (adv_beyond v placed at w) (adv_beyond u placed at w)
+  unfolding adv_beyond
   beyond-same placed at w h = same-bind _ _ _ _ (next-same w h) (λ x e. rw (unused-detail x (next_fits x e)) (same_refl _))
     where
-      next_fits : (x : Path) → nextPath v w ≡ passed x → PathFits v x
+      next_fits : (x : Path) → next_path v w ≡ passed x → PathFits v x
       next_fits x e = (next-passed v w).holds x e
 
   adv-at-same : (placed : Bool) (at : List ℕ) (w : Path) → PathFits v w
-      → SameChecks (advAt v false placed at w) (advAt u false placed at w)
-  unfolding advAt
+      → SameChecks (adv_at v false placed at w) (adv_at u false placed at w)
+  unfolding adv_at
   adv-at-same placed at w h =
       let t = text_of u w.detail in
-      let here = ltb (nextRow u placed at t) (count (detailShape p) t) in
+      let here = ltb (next_row u placed at t) (count (detail_shape p) t) in
       rw (unused-detail w h) (same_test here here _ _ _ _ refl (λ e. same_refl _) (λ e. beyond-same placed at w h))
 
   first-same : (placed : Bool) (at : List ℕ)
-      → SameChecks (cond placed (pathTo v at) (firstPath v)) (cond placed (pathTo u at) (firstPath u))
+      → SameChecks (cond placed (path_to v at) (first_path v)) (cond placed (path_to u at) (first_path u))
   first-same true at = path-same _ _ at
   first-same false at = path-same _ _ []
 
-  outside-same : (placed : Bool) (at : List ℕ) → SameChecks (advOutside v false placed at) (advOutside u false placed at)
-  unfolding advOutside
+  outside-same : (placed : Bool) (at : List ℕ) → SameChecks (adv_outside v false placed at) (adv_outside u false placed at)
+  unfolding adv_outside
   outside-same placed at =
       same-bind _ _ _ _ (first-same placed at) (λ w e. adv-at-same placed at w (covering-fits v false at placed w e))
 
-  step_same : (placed : Bool) (at : List ℕ) → SameChecks (advStep v false placed at) (advStep u false placed at)
-  unfolding advStep nextInBuffer onBuffer
+  step_same : (placed : Bool) (at : List ℕ) → SameChecks (adv_step v false placed at) (adv_step u false placed at)
+  unfolding adv_step next_in_buffer on_buffer
   step_same true at = outside-same true at
   step_same false at = outside-same false at
 
-  adv-done : (s : Step) → StepFits v false s → SameChecks (advDone v false s) (advDone u false s)
-  unfolding advDone advGiving giving bringing flushMoves
+  adv-done : (s : Step) → StepFits v false s → SameChecks (adv_done v false s) (adv_done u false s)
+  unfolding adv_done adv_giving giving bringing flush_moves
   adv-done step_is.Bad h = same_refl _
   adv-done (step_is.At way i) h = rw (reached-same way h.0) (same_refl _)
   adv-done (step_is.Beyond w x i) h = rw (unused-detail x h.0) (same_refl _)
 
-  pub adv-same : (placed : Bool) (at : List ℕ) → SameChecks (advSteps v false placed at) (advSteps u false placed at)
-  unfolding advSteps
+  pub adv-same : (placed : Bool) (at : List ℕ) → SameChecks (adv_steps v false placed at) (adv_steps u false placed at)
+  unfolding adv_steps
   adv-same placed at =
       same-bind _ _ _ _ (step_same placed at) (λ s e. adv-done s ((step-passed v false at placed).holds s e))
 

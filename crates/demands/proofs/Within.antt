@@ -8,68 +8,68 @@ use mathlib.Core.List.{List, [], ◌∷◌}
 use native.Mathlib.Omega.{arith}
 use Rattle.numbers.specs.Numbers.{done}
 use Rattle.drum.specs.declared.Description.{Description}
-use Rattle.drum.specs.Params.{D, I, FD, FI, goodParams}
+use Rattle.drum.specs.Params.{D, I, FD, FI, good_params}
 use Rattle.drum.proofs.Good.{good-facts}
 use Rattle.rules.specs.State.{Session, State, Outcome, desc, lent}
-use Rattle.rules.specs.Open.{create, openFile}
+use Rattle.rules.specs.Open.{create, open_file}
 use Rattle.rules.specs.Requests.{Request, opening, closing, seeking, advancing, inserting, deleting, updating, extending, answer, left, tally}
-use Rattle.demands.specs.Formula.{hD, hI, newDetails, newIndexes, lastDetail, startsLast, acceptedBy, ofNsert, ofXtend, splitOff, startedNew}
-use Rattle.demands.specs.Formula.{M, S, s, X, x, allTransfers, shares, Within, AfterCreate, CallWithin}
+use Rattle.demands.specs.Formula.{h_d, h_i, new_details, new_indexes, last_detail, starts_last, accepted_by, of_nsert, of_xtend, split_off, started_new}
+use Rattle.demands.specs.Formula.{M, S, s, X, x, all_transfers, shares, Within, AfterCreate, CallWithin}
 use Rattle.demands.specs.Nearest.{Nearest}
 use Rattle.demands.proofs.Lists.{All, all_append}
 use Rattle.layout.specs.Tree.{Leaf, Section}
-use Rattle.demands.proofs.Trees.{leavesIn}
+use Rattle.demands.proofs.Trees.{leaves_in}
 use Rattle.demands.proofs.Holds.{Free, LeafFits, SectionOk}
 use Rattle.demands.proofs.Sound.{Sound}
-use Rattle.demands.proofs.Potential.{last_or, paid-same, paid-halves, paid-first, paid-fills}
+use Rattle.demands.proofs.Potential.{last_or_lem, paid-same, paid-halves, paid-first, paid-fills}
 use Rattle.demands.proofs.Growth.{counts, sizes, Growth, grown, plus, nothing, Tally, Grows, tally-made}
 use Rattle.demands.proofs.InUse.{details-are, indexes-are}
-use Rattle.demands.proofs.LastBlock.{lastNumber, last-is, LastTells}
+use Rattle.demands.proofs.LastBlock.{last_number, last-is, LastTells}
 use Rattle.demands.proofs.Stepped.{Brought, Stepped}
 
 -- ---- one call
 
 -- what it brought can be seen from the call, its answer and the file's words
 pub record Seen (st : State) (q : Request) (o : Outcome) (g : Growth) : Type 0 where
-  pub records : ofNsert (acceptedBy o) q + ofXtend (acceptedBy o) q ≡ g.records
-  pub splits : splitOff (newDetails st o) q st o.after ≡ g.splits
-  pub index-splits : splitOff (newIndexes st o) q st o.after ≡ g.index-splits
-  pub starts : startedNew (newDetails st o) q st o.after ≡ g.starts
-  pub index-starts : startedNew (newIndexes st o) q st o.after ≡ g.index-starts
+  pub records : of_nsert (accepted_by o) q + of_xtend (accepted_by o) q ≡ g.records
+  pub splits : split_off (new_details st o) q st o.after ≡ g.splits
+  pub index-splits : split_off (new_indexes st o) q st o.after ≡ g.index-splits
+  pub starts : started_new (new_details st o) q st o.after ≡ g.starts
+  pub index-starts : started_new (new_indexes st o) q st o.after ≡ g.index-starts
 
 -- what XTEND has split off and started, as the last leaf tells
 pub record Sorted (st : State) (o : Outcome) (g : Growth) : Type 0 where
-  pub splits : cond (startsLast st o.after) 0 (newDetails st o) ≡ g.splits
-  pub index-splits : cond (startsLast st o.after) 0 (newIndexes st o) ≡ g.index-splits
-  pub starts : cond (startsLast st o.after) (newDetails st o) 0 ≡ g.starts
-  pub index-starts : cond (startsLast st o.after) (newIndexes st o) 0 ≡ g.index-starts
+  pub splits : cond (starts_last st o.after) 0 (new_details st o) ≡ g.splits
+  pub index-splits : cond (starts_last st o.after) 0 (new_indexes st o) ≡ g.index-splits
+  pub starts : cond (starts_last st o.after) (new_details st o) 0 ≡ g.starts
+  pub index-starts : cond (starts_last st o.after) (new_indexes st o) 0 ≡ g.index-starts
 
-pub sorted : (st : State) (o : Outcome) (g : Growth) → newDetails st o ≡ g.splits + g.starts → newIndexes st o ≡ g.index-splits + g.index-starts
-    → (w : List ℕ) (ss ss' : List Section) → lastDetail st ≡ lastNumber (leavesIn ss) → lastDetail o.after ≡ lastNumber (leavesIn ss')
+pub sorted : (st : State) (o : Outcome) (g : Growth) → new_details st o ≡ g.splits + g.starts → new_indexes st o ≡ g.index-splits + g.index-starts
+    → (w : List ℕ) (ss ss' : List Section) → last_detail st ≡ last_number (leaves_in ss) → last_detail o.after ≡ last_number (leaves_in ss')
     → LastTells (extending w) g ss ss' → Sorted st o g
-unfolding startsLast
+unfolding starts_last
 sorted st o g d i w ss ss' e e' (inl (u, v, n)) =
-    let t : startsLast st o.after ≡ false = ap not (eq-eqb (lastDetail o.after) (lastDetail st) (e' ∙ n ∙ sym e)) in
+    let t : starts_last st o.after ≡ false = ap not (eq-eqb (last_detail o.after) (last_detail st) (e' ∙ n ∙ sym e)) in
     record {
-      splits = ap (λ (b : Bool). cond b 0 (newDetails st o)) t ∙ omega arith;
-      index-splits = ap (λ (b : Bool). cond b 0 (newIndexes st o)) t ∙ omega arith;
-      starts = ap (λ (b : Bool). cond b (newDetails st o) 0) t ∙ omega arith;
-      index-starts = ap (λ (b : Bool). cond b (newIndexes st o) 0) t ∙ omega arith;
+      splits = ap (λ (b : Bool). cond b 0 (new_details st o)) t ∙ omega arith;
+      index-splits = ap (λ (b : Bool). cond b 0 (new_indexes st o)) t ∙ omega arith;
+      starts = ap (λ (b : Bool). cond b (new_details st o) 0) t ∙ omega arith;
+      index-starts = ap (λ (b : Bool). cond b (new_indexes st o) 0) t ∙ omega arith;
     }
 sorted st o g d i w ss ss' e e' (inr (u, v, n)) =
-    let t : startsLast st o.after ≡ true = ap not (ne_eqb (lastDetail o.after) (lastDetail st) (λ q. n (sym e' ∙ q ∙ e))) in
+    let t : starts_last st o.after ≡ true = ap not (ne_eqb (last_detail o.after) (last_detail st) (λ q. n (sym e' ∙ q ∙ e))) in
     record {
-      splits = ap (λ (b : Bool). cond b 0 (newDetails st o)) t ∙ omega arith;
-      index-splits = ap (λ (b : Bool). cond b 0 (newIndexes st o)) t ∙ omega arith;
-      starts = ap (λ (b : Bool). cond b (newDetails st o) 0) t ∙ omega arith;
-      index-starts = ap (λ (b : Bool). cond b (newIndexes st o) 0) t ∙ omega arith;
+      splits = ap (λ (b : Bool). cond b 0 (new_details st o)) t ∙ omega arith;
+      index-splits = ap (λ (b : Bool). cond b 0 (new_indexes st o)) t ∙ omega arith;
+      starts = ap (λ (b : Bool). cond b (new_details st o) 0) t ∙ omega arith;
+      index-starts = ap (λ (b : Bool). cond b (new_indexes st o) 0) t ∙ omega arith;
     }
 
-sees : (st : State) (q : Request) (o : Outcome) (g : Growth) → Brought q o g → newDetails st o ≡ g.splits + g.starts
-    → newIndexes st o ≡ g.index-splits + g.index-starts
-    → (ss ss' : List Section) → lastDetail st ≡ lastNumber (leavesIn ss) → lastDetail o.after ≡ lastNumber (leavesIn ss') → LastTells q g ss ss'
+sees : (st : State) (q : Request) (o : Outcome) (g : Growth) → Brought q o g → new_details st o ≡ g.splits + g.starts
+    → new_indexes st o ≡ g.index-splits + g.index-starts
+    → (ss ss' : List Section) → last_detail st ≡ last_number (leaves_in ss) → last_detail o.after ≡ last_number (leaves_in ss') → LastTells q g ss ss'
     → Seen st q o g
-unfolding ofNsert ofXtend splitOff startedNew
+unfolding of_nsert of_xtend split_off started_new
 sees st (opening marks) o g b d i ss ss' e e' lt =
     subst (Seen st (opening marks) o) (sym b) (record { records = refl; splits = refl; index-splits = refl; starts = refl; index-starts = refl })
 sees st closing o g b d i ss ss' e e' lt =
@@ -95,12 +95,12 @@ sees st (extending w) o g b d i ss ss' e e' lt =
     }
 
 module _ (st : State) (ss : List Section) (f : Free) (h : Sound st ss f) (q : Request) (z : Stepped st ss f q) where
-  new-details : newDetails st (answer st q) ≡ z.growth.splits + z.growth.starts
-  unfolding newDetails
+  new-details : new_details st (answer st q) ≡ z.growth.splits + z.growth.starts
+  unfolding new_details
   new-details = rw (details-are (answer st q).after z.sections z.free z.sound, details-are st ss f h) z.grows.details
 
-  new-indexes : newIndexes st (answer st q) ≡ z.growth.index-splits + z.growth.index-starts
-  unfolding newIndexes
+  new-indexes : new_indexes st (answer st q) ≡ z.growth.index-splits + z.growth.index-starts
+  unfolding new_indexes
   new-indexes = rw (indexes-are (answer st q).after z.sections z.free z.sound, indexes-are st ss f h) z.grows.indexes
 
   -- the bound of one call
@@ -132,13 +132,13 @@ pub record Ran (p : Description) (st : State) (qs : List Request) (g : Growth) :
   pub sound : Sound (left st qs) sections free
   pub desc-is : desc (left st qs) ≡ p
   pub tally : Tally p sections (plus (brings st qs) g)
-  pub cost : allTransfers st qs ≤ shares st qs + 4 * (S st qs + X st qs) + s st qs + x st qs
+  pub cost : all_transfers st qs ≤ shares st qs + 4 * (S st qs + X st qs) + s st qs + x st qs
 
 -- a call before the run
 ran-more : (p : Description) (st : State) (ss : List Section) (f : Free) (g : Growth) (q : Request) (qs : List Request) → Sound st ss f
     → (z : Stepped st ss f q)
     → Ran p (answer st q).after qs (plus z.growth g) → Ran p st (q ∷ qs) g
-unfolding M S X s x allTransfers shares tally left
+unfolding M S X s x all_transfers shares tally left
 ran-more p st ss f g q qs h z r =
     let o : Outcome = answer st q in
     let n : Growth = z.growth in
@@ -155,7 +155,7 @@ ran-more p st ss f g q qs h z r =
     }
 
 -- the last leaf and the last section of a held tree are not empty
-last_some : (d : ℕ) (xs : List ℕ) → 1 ≤ d → All (λ n. 1 ≤ n) xs → 1 ≤ last_or d xs
+last_some : (d : ℕ) (xs : List ℕ) → 1 ≤ d → All (λ n. 1 ≤ n) xs → 1 ≤ last_or_lem d xs
 last_some d [] l h = l
 last_some d (n ∷ xs) l h = last_some n xs h.0 h.1
 
@@ -169,20 +169,20 @@ unfolding sizes
 sizes-some p [] h = tt
 sizes-some p (z ∷ zs) h = (h.0.some, sizes-some p zs h.1)
 
-leaves-ok : (p : Description) (ss : List Section) → All (SectionOk p) ss → All (LeafFits p) (leavesIn ss)
+leaves-ok : (p : Description) (ss : List Section) → All (SectionOk p) ss → All (LeafFits p) (leaves_in ss)
 leaves-ok p [] h = tt
-leaves-ok p (z ∷ zs) h = all_append (LeafFits p) z.leaves (leavesIn zs) h.0.leaves (leaves-ok p zs h.1)
+leaves-ok p (z ∷ zs) h = all_append (LeafFits p) z.leaves (leaves_in zs) h.0.leaves (leaves-ok p zs h.1)
 
 -- what a run brought, from nothing on, is within the formula
 pub ran-within : (st : State) (qs : List Request) → Ran (desc st) st qs nothing → Within st qs
-unfolding hD hI
+unfolding h_d h_i
 ran-within st qs r =
     let p : Description = desc st in
-    let cs : List ℕ = counts (leavesIn r.sections) in
+    let cs : List ℕ = counts (leaves_in r.sections) in
     let es : List ℕ = sizes r.sections in
     let ok : All (SectionOk p) r.sections = subst (λ (d : Description). All (SectionOk d) r.sections) r.desc-is r.sound.kept.holds.sized in
-    let a : 1 ≤ last_or 1 cs = last_some 1 cs (omega arith) (counts_some p (leavesIn r.sections) (leaves-ok p r.sections ok)) in
-    let b : 1 ≤ last_or 1 es = last_some 1 es (omega arith) (sizes-some p r.sections ok) in
+    let a : 1 ≤ last_or_lem 1 cs = last_some 1 cs (omega arith) (counts_some p (leaves_in r.sections) (leaves-ok p r.sections ok)) in
+    let b : 1 ≤ last_or_lem 1 es = last_some 1 es (omega arith) (sizes-some p r.sections ok) in
     record {
       splits = omega (arith, paid-halves (D p) (FD p) cs _ _ _ r.tally.leaves);
       starts = omega (arith, paid-fills (D p) (FD p) cs _ _ _ r.tally.leaves a);
@@ -191,12 +191,12 @@ ran-within st qs r =
       transfers = r.cost;
     }
 
-pub ran-good : (st : State) (qs : List Request) → Ran (desc st) st qs nothing → goodParams (desc st) ≡ true
-ran-good st qs r = subst (λ (d : Description). goodParams d ≡ true) r.desc-is r.sound.kept.good
+pub ran-good : (st : State) (qs : List Request) → Ran (desc st) st qs nothing → good_params (desc st) ≡ true
+ran-good st qs r = subst (λ (d : Description). good_params d ≡ true) r.desc-is r.sound.kept.good
 
 -- and short of it by half a block
 pub ran-nearest : (st : State) (qs : List Request) → Ran (desc st) st qs nothing → Nearest st qs
-unfolding hD hI
+unfolding h_d h_i
 ran-nearest st qs r =
     let p : Description = desc st in
     let g = good-facts p (ran-good st qs r) in
@@ -217,7 +217,7 @@ module _ (step : (st : State) (ss : List Section) (f : Free) → Sound st ss f �
     tally =
         tally-same p ss g (plus (brings st []) g) (unfold M tally in omega arith) (unfold S tally in omega arith) (unfold X tally in omega arith)
         (unfold s tally in omega arith) (unfold x tally in omega arith) t;
-    cost = unfold allTransfers shares S X s x tally in omega arith;
+    cost = unfold all_transfers shares S X s x tally in omega arith;
   }
   runs p (q ∷ qs) st ss f h e g t =
       let z : Stepped st ss f q = step st ss f h q in
@@ -227,14 +227,14 @@ module _ (step : (st : State) (ss : List Section) (f : Free) → Sound st ss f �
   -- "From a CREATE and then an OPEN that both answer 0", which leave a sound state with one section of one leaf with the end record: what holds of
   -- a run that began with nothing brought
   pub within-create : ((session : Session) (f buffer work marks : List ℕ) → (create session.desc f).number ≡ done
-      → (openFile (lent session (create session.desc f).file buffer work) marks).outcome.number ≡ done
-      → (ss : List Section) × (free : Free) × Sound (openFile (lent session (create session.desc f).file buffer work) marks).outcome.after ss free
-      × (counts (leavesIn ss) ≡ 1 ∷ []) × (sizes ss ≡ 1 ∷ []))
+      → (open_file (lent session (create session.desc f).file buffer work) marks).outcome.number ≡ done
+      → (ss : List Section) × (free : Free) × Sound (open_file (lent session (create session.desc f).file buffer work) marks).outcome.after ss free
+      × (counts (leaves_in ss) ≡ 1 ∷ []) × (sizes ss ≡ 1 ∷ []))
       → (P : State → List Request → Type 0) → ((st : State) (qs : List Request) → Ran (desc st) st qs nothing → P st qs) → AfterCreate P
   within-create made P by session f buffer work marks c o qs = go (made session f buffer work marks c o)
     where
       st : State
-      st = (openFile (lent session (create session.desc f).file buffer work) marks).outcome.after
+      st = (open_file (lent session (create session.desc f).file buffer work) marks).outcome.after
 
-      go : (ss : List Section) × (free : Free) × Sound st ss free × (counts (leavesIn ss) ≡ 1 ∷ []) × (sizes ss ≡ 1 ∷ []) → P st qs
+      go : (ss : List Section) × (free : Free) × Sound st ss free × (counts (leaves_in ss) ≡ 1 ∷ []) × (sizes ss ≡ 1 ∷ []) → P st qs
       go (ss, free, h, a, b) = by st qs (runs (desc st) qs st ss free h refl nothing (tally-made (desc st) h.kept.good ss a b))

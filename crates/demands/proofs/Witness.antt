@@ -10,16 +10,16 @@ use Rattle.words.specs.Keys.{val}
 use Rattle.drum.specs.declared.Description.{Description}
 use Rattle.rules.specs.State.{State}
 use Rattle.rules.specs.Requests.{opening, answer}
-use Rattle.rules.specs.Run.{begun, createdOutcome}
+use Rattle.rules.specs.Run.{begun, created_outcome}
 use Rattle.rules.specs.Open.{create}
 use Rattle.rules.proofs.Computing.{computing}
 use Rattle.demands.proofs.Rows.{cat, tab}
-use Rattle.demands.proofs.Cells.{Agree, is, weigh, cellTimes}
+use Rattle.demands.proofs.Cells.{Agree, is, weigh, cell_times}
 use Rattle.layout.specs.Tree.{Section}
-use Rattle.demands.proofs.Trees.{key, bd, table, entry, leafCell, indexText, cells_of}
-use Rattle.demands.proofs.Holds.{HoldsCells, Free, inside, freeCells, masterEntry, masterWords, masterFor}
+use Rattle.demands.proofs.Trees.{key, bd, table, entry, leaf_cell, index_text, cells_of}
+use Rattle.demands.proofs.Holds.{HoldsCells, Free, inside, free_cells, master_entry, master_words, master_for}
 use Rattle.demands.proofs.Steps.{sec}
-use Rattle.demands.proofs.Blocks.{masterOf}
+use Rattle.demands.proofs.Blocks.{master_of}
 use Rattle.demands.proofs.Sound.{Sound, no-true-false}
 
 abbrev pub small : Description
@@ -27,7 +27,7 @@ small = record { wpb = 8; wpr = 3; k = 1; space = 0; control = 2; n = 4; form = 
 
 -- the state after CREATE and OPEN
 abbrev pub made : State
-made = (answer (createdOutcome (begun small) (create small (begun small).file)).after (opening (zeros 4))).after
+made = (answer (created_outcome (begun small) (create small (begun small).file)).after (opening (zeros 4))).after
 
 abbrev pub tree : List Section
 tree = sec 1 (record { bound = 262143 ∷ []; block = 2; records = (262143 ∷ (0 ∷ (0 ∷ []))) ∷ [] } ∷ []) ∷ []
@@ -35,8 +35,8 @@ tree = sec 1 (record { bound = 262143 ∷ []; block = 2; records = (262143 ∷ (
 abbrev pub free : Free
 free = record { chain = []; lowest = 3; spare = 2 }
 
-once : (b : ℕ) → cellTimes b (cells_of small tree ++ freeCells small free) ≡ inside 4 b
-unfolding cellTimes weigh cells_of freeCells leafCell is inside
+once : (b : ℕ) → cell_times b (cells_of small tree ++ free_cells small free) ≡ inside 4 b
+unfolding cell_times weigh cells_of free_cells leaf_cell is inside
 once zero = refl
 once (suc zero) = refl
 once (suc (suc zero)) = refl
@@ -54,7 +54,7 @@ once (suc (suc (suc (suc (suc b))))) =
     )
 
 -- a master and blocks with these words hold the tree
-holds_by : (master : List ℕ) (text : ℕ → List ℕ) → master ≡ masterFor small tree free → Agree text (cells_of small tree ++ freeCells small free)
+holds_by : (master : List ℕ) (text : ℕ → List ℕ) → master ≡ master_for small tree free → Agree text (cells_of small tree ++ free_cells small free)
     → HoldsCells small master text tree free
 unfolding computing val key bd
 holds_by master text m a = record {
@@ -76,7 +76,7 @@ holds_by master text m a = record {
 }
 
 pub witness : Sound made tree free
-unfolding computing val cat tab weigh key bd table entry leafCell indexText cells_of freeCells masterEntry masterWords masterFor masterOf
+unfolding computing val cat tab weigh key bd table entry leaf_cell index_text cells_of free_cells master_entry master_words master_for master_of
 witness = record {
   kept = record {
     good = refl;

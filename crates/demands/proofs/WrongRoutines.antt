@@ -5,28 +5,28 @@ use mathlib.Core.Path.{◌≡◌, refl, sym, ap, ap₂, ◌∙◌, subst}
 use mathlib.Core.List.{List, [], ◌∷◌}
 use native.Mathlib.Omega.{arith}
 use lib.ListN.{length}
-use Rattle.numbers.specs.Numbers.{done, notFound, accepted}
+use Rattle.numbers.specs.Numbers.{done, not_found, accepted}
 use lib.Dec.{eqb}
-use Rattle.words.specs.Words.{zeros, part, allWords}
-use Rattle.words.specs.Keys.{isOnes}
+use Rattle.words.specs.Words.{zeros, part, all_words}
+use Rattle.words.specs.Keys.{is_ones}
 use Rattle.drum.specs.declared.Description.{Description}
-use Rattle.drum.specs.Params.{goodParams, fileSize}
+use Rattle.drum.specs.Params.{good_params, file_size}
 use Rattle.drum.specs.Blocks.{written, seen}
 use Rattle.layout.specs.Create.{created}
-use Rattle.layout.specs.Tree.{Section, Tree, contents, freshTree}
+use Rattle.layout.specs.Tree.{Section, Tree, contents, fresh_tree}
 use Rattle.layout.specs.Holds.{Holds, WellFormed}
 use Rattle.layout.proofs.Made.{create-opens}
 use Rattle.layout.proofs.Unique.{one-tree}
-use Rattle.rules.specs.State.{Session, State, desc, keyIn, lent, atRest}
-use Rattle.rules.specs.Lookup.{flushMoves}
+use Rattle.rules.specs.State.{Session, State, desc, key_in, lent, at_rest}
+use Rattle.rules.specs.Lookup.{flush_moves}
 use Rattle.rules.specs.Requests.{opening, closing, seeking, inserting, deleting, extending, answer, left}
 use Rattle.rules.proofs.Computing.{computing}
-use Rattle.demands.specs.History.{Event, stored, removed, eventOf, withKey}
+use Rattle.demands.specs.History.{Event, stored, removed, event_of, with_key}
 use Rattle.demands.specs.Promises.{put_back}
-use Rattle.demands.specs.Contents.{recordsBelow, recordsAbove, changed, Contains}
+use Rattle.demands.specs.Contents.{records_below, records_above, changed, Contains}
 use Rattle.demands.specs.Answers.{Keyed, Met, Sought}
-use Rattle.demands.specs.Storing.{storedIn, placing, sectionFor, blockFor, ifNone, nsertNumber}
-use Rattle.demands.specs.Routines.{Routine, leftBy, AfterOpenBy, AnsweredBy, closes, ParametersStay, StaysOpen, RecordsChange, AnswersAre, CountsAre}
+use Rattle.demands.specs.Storing.{stored_in, placing, section_for, block_for, if_none, nsert_number}
+use Rattle.demands.specs.Routines.{Routine, left_by, AfterOpenBy, AnsweredBy, closes, ParametersStay, StaysOpen, RecordsChange, AnswersAre, CountsAre}
 use Rattle.demands.specs.Routines.{RightCalls}
 use Rattle.demands.specs.WrongRoutines.{RefusesEverything, ConstantAnswer, Idle, DoesNothing, StoresOnce, MadeUpCount, ShutsOut}
 use Rattle.demands.proofs.Holds.{Free}
@@ -60,27 +60,27 @@ six = 6 ∷ 8 ∷ 8 ∷ []
 abbrev pub end : List ℕ
 end = 262143 ∷ 0 ∷ 0 ∷ []
 
-pub good : goodParams small ≡ true
+pub good : good_params small ≡ true
 unfolding computing
 good = refl
 
-sizes : (length (created small) ≡ fileSize small) × (length (zeros 8) ≡ 8) × (length (zeros 4) ≡ 4)
+sizes : (length (created small) ≡ file_size small) × (length (zeros 8) ≡ 8) × (length (zeros 4) ≡ 4)
 unfolding computing
 sizes = (refl, refl, refl)
 
-opened-is : lent (atRest true fresh.session) fresh.file fresh.buffer fresh.work ≡ begin
-unfolding atRest
+opened-is : lent (at_rest true fresh.session) fresh.file fresh.buffer fresh.work ≡ begin
+unfolding at_rest
 opened-is = refl
 
 made-is : witness.made ≡ begin
 unfolding computing
 made-is = refl
 
-pub begin-holds : Holds small (put_back begin) (freshTree small)
-unfolding flushMoves written
+pub begin-holds : Holds small (put_back begin) (fresh_tree small)
+unfolding flush_moves written
 begin-holds = create-opens small good
 
-pub fresh-rows : contents (freshTree small) ≡ end ∷ []
+pub fresh-rows : contents (fresh_tree small) ≡ end ∷ []
 unfolding computing
 fresh-rows = refl
 
@@ -88,18 +88,18 @@ begin-keyed : Keyed begin 3 five
 unfolding computing
 begin-keyed = ((refl, refl), refl, refl)
 
-begin-number : nsertNumber small (keyIn small five) (freshTree small) ≡ done
-unfolding computing storedIn placing sectionFor blockFor ifNone nsertNumber withKey recordsBelow
+begin-number : nsert_number small (key_in small five) (fresh_tree small) ≡ done
+unfolding computing stored_in placing section_for block_for if_none nsert_number with_key records_below
 begin-number = refl
 
 -- ---- two contents of one file
 
 -- the file with the buffer put back, of these
 abbrev back : Description → ℕ → Bool → List ℕ → List ℕ → List ℕ
-back p c flag f b = written p (flushMoves (seen p c f b) flag) f
+back p c flag f b = written p (flush_moves (seen p c f b) flag) f
 
 -- a state that is as another has the same records
-two-contents : (st now : State) (rows was : List (List ℕ)) → Contains now rows → Contains st was → goodParams (desc st) ≡ true → desc now ≡ desc st
+two-contents : (st now : State) (rows was : List (List ℕ)) → Contains now rows → Contains st was → good_params (desc st) ≡ true → desc now ≡ desc st
     → Idle st now → (rows ≡ was → ⊥) → ⊥
 two-contents st now rows was a b good e i n =
     let same : put_back now ≡ put_back st
@@ -114,24 +114,24 @@ begin-keyed₁ : Keyed begin 1 five
 unfolding computing
 begin-keyed₁ = ((refl, refl), refl, refl)
 
-keyed-words : (allWords (part 0 1 five) ≡ true) × (isOnes (keyIn small five) ≡ false)
+keyed-words : (all_words (part 0 1 five) ≡ true) × (is_ones (key_in small five) ≡ false)
 unfolding computing
 keyed-words = (refl, refl)
 
-not_there : withKey small (keyIn small five) (contents (freshTree small)) ≡ []
-unfolding computing withKey
+not_there : with_key small (key_in small five) (contents (fresh_tree small)) ≡ []
+unfolding computing with_key
 not_there = refl
 
-is-there : withKey small (keyIn small five) (five ∷ end ∷ []) ≡ five ∷ []
-unfolding computing withKey
+is-there : with_key small (key_in small five) (five ∷ end ∷ []) ≡ five ∷ []
+unfolding computing with_key
 is-there = refl
 
 put_in : changed small (stored five ∷ []) (end ∷ []) ≡ five ∷ end ∷ []
-unfolding computing changed recordsBelow recordsAbove
+unfolding computing changed records_below records_above
 put_in = refl
 
-taken_out : changed small (removed (keyIn small five) ∷ []) (five ∷ end ∷ []) ≡ end ∷ []
-unfolding computing changed recordsBelow recordsAbove
+taken_out : changed small (removed (key_in small five) ∷ []) (five ∷ end ∷ []) ≡ end ∷ []
+unfolding computing changed records_below records_above
 taken_out = refl
 
 -- a file with one record, closed; and OPEN of it
@@ -150,8 +150,8 @@ later-desc : desc (left begin (inserting five ∷ closing ∷ [])) ≡ small
 unfolding computing
 later-desc = refl
 
-later-length : length (left begin (inserting five ∷ closing ∷ [])).file ≡ fileSize small
-later-length = begin-sound.2.kept.file-length ∙ ap fileSize later-desc
+later-length : length (left begin (inserting five ∷ closing ∷ [])).file ≡ file_size small
+later-length = begin-sound.2.kept.file-length ∙ ap file_size later-desc
 
 later-tree : (t : Tree) × Holds small (left begin (inserting five ∷ closing ∷ [])).file t
 later-tree =
@@ -167,24 +167,24 @@ again-count : length (answer again (extending six)).transfers ≡ 6
 unfolding computing
 again-count = refl
 
-again-is : lent (atRest true later.session) later.file later.buffer later.work ≡ again
-unfolding atRest
+again-is : lent (at_rest true later.session) later.file later.buffer later.work ≡ again
+unfolding at_rest
 again-is = refl
 
 at_again : (r : Routine) (d : RightCalls r)
     → ((r later (opening marks₄)).number ≡ done)
-    × ((r later (opening marks₄)).after ≡ lent (atRest true later.session) later.file later.buffer later.work)
+    × ((r later (opening marks₄)).after ≡ lent (at_rest true later.session) later.file later.buffer later.work)
     → (P : State → Type 0) → AfterOpenBy r P → P again
-unfolding leftBy
+unfolding left_by
 at_again r d z P h = subst P (z.1 ∙ again-is) (h later marks₄ z.0 [])
 
 module _ (r : Routine) (d : RightCalls r) where
   first : ((r fresh (opening marks₄)).number ≡ done) × ((r fresh (opening marks₄)).after ≡ begin)
-  first = let z = d.opens fresh marks₄ (freshTree small) good sizes.0 sizes.1 sizes.2 refl (create-opens small good) in (z.0, z.1 ∙ opened-is)
+  first = let z = d.opens fresh marks₄ (fresh_tree small) good sizes.0 sizes.1 sizes.2 refl (create-opens small good) in (z.0, z.1 ∙ opened-is)
 
   -- what demand 2 says of the state after CREATE and OPEN
   at_first : (P : State → Type 0) → AfterOpenBy r P → P begin
-  unfolding leftBy
+  unfolding left_by
   at_first P h = subst P first.1 (h fresh marks₄ first.0 [])
 
   -- and of the state after an NSERT
@@ -192,11 +192,11 @@ module _ (r : Routine) (d : RightCalls r) where
   second = (r begin (inserting five)).after
 
   at_second : (P : State → Type 0) → AfterOpenBy r P → P second
-  unfolding leftBy
+  unfolding left_by
   at_second P h = subst (λ (x : State). P (r x (inserting five)).after) first.1 (h fresh marks₄ first.0 (inserting five ∷ []))
 
-  answers-first : AnsweredBy r begin (freshTree small)
-  answers-first = at_first (AnswersAre r) d.answers (freshTree small) begin-holds
+  answers-first : AnsweredBy r begin (fresh_tree small)
+  answers-first = at_first (AnswersAre r) d.answers (fresh_tree small) begin-holds
 
   nsert-answers : (r begin (inserting five)).number ≡ done
   nsert-answers = answers-first.nsert five begin-keyed ∙ begin-number
@@ -204,25 +204,25 @@ module _ (r : Routine) (d : RightCalls r) where
   refuses-everything : RefusesEverything r → ⊥
   refuses-everything h = h begin five (ap accepted nsert-answers)
 
-  seek-answers : (r begin (seeking five)).number ≡ notFound
+  seek-answers : (r begin (seeking five)).number ≡ not_found
   seek-answers =
-      let none : withKey small (keyIn small five) (contents (freshTree small)) ≡ [] = not_there in
+      let none : with_key small (key_in small five) (contents (fresh_tree small)) ≡ [] = not_there in
       (subst (λ (x : List (List ℕ)). Sought five x (r begin (seeking five))) none (answers-first.seek five begin-keyed₁)).0
 
   constant-answer : ConstantAnswer r → ⊥
-  constant-answer (n, h) = let z : ◌≡◌ {A = ℕ} done notFound = sym nsert-answers ∙ h begin (inserting five) ∙ sym (h begin (seeking five))
+  constant-answer (n, h) = let z : ◌≡◌ {A = ℕ} done not_found = sym nsert-answers ∙ h begin (inserting five) ∙ sym (h begin (seeking five))
       ∙ seek-answers in omega arith
 
   -- the state after the NSERT has both records
   pub both-there : Contains second (five ∷ end ∷ [])
-  unfolding eventOf
+  unfolding event_of
   both-there =
       subst (Contains second) (ap (λ (n : ℕ). changed small (cond (accepted n) (stored five ∷ []) []) (end ∷ [])) nsert-answers ∙ put_in)
       (subst (λ (es : List Event). Contains second (changed small es (end ∷ []))) event
       (at_first (RecordsChange r) d.records (end ∷ [])
-      (record { tree = freshTree small; held = begin-holds; are = fresh-rows }) (inserting five)))
+      (record { tree = fresh_tree small; held = begin-holds; are = fresh-rows }) (inserting five)))
     where
-      event : eventOf small (inserting five) (r begin (inserting five)) ≡ cond (accepted (r begin (inserting five)).number) (stored five ∷ []) []
+      event : event_of small (inserting five) (r begin (inserting five)) ≡ cond (accepted (r begin (inserting five)).number) (stored five ∷ []) []
       event = refl
 
   second-desc : desc second ≡ small
@@ -231,13 +231,13 @@ module _ (r : Routine) (d : RightCalls r) where
   does-nothing : DoesNothing r → ⊥
   does-nothing h =
       two-contents begin second (five ∷ end ∷ []) (end ∷ []) both-there
-      (record { tree = freshTree small; held = begin-holds; are = fresh-rows }) good second-desc (h begin five) (λ e. omega (arith, ap length e))
+      (record { tree = fresh_tree small; held = begin-holds; are = fresh-rows }) good second-desc (h begin five) (λ e. omega (arith, ap length e))
 
   stores-once : StoresOnce r → ⊥
-  unfolding eventOf
+  unfolding event_of
   stores-once h =
       two-contents second third (end ∷ []) (five ∷ end ∷ []) gone both-there
-      (subst (λ (p : Description). goodParams p ≡ true) (sym second-desc) good) third-desc (h begin five (ap accepted nsert-answers) (deleting five))
+      (subst (λ (p : Description). good_params p ≡ true) (sym second-desc) good) third-desc (h begin five (ap accepted nsert-answers) (deleting five))
       (λ e. omega (arith, ap length e))
     where
       third : State
@@ -246,29 +246,29 @@ module _ (r : Routine) (d : RightCalls r) where
       third-desc : desc third ≡ desc second
       third-desc = at_second (ParametersStay r) d.parameters (deleting five)
 
-      is_open : second.session.opened ≡ true
-      is_open = at_first (StaysOpen r) d.stays_open (inserting five) (unfold closes in refl) refl
+      is_open_lem : second.session.opened ≡ true
+      is_open_lem = at_first (StaysOpen r) d.stays_open (inserting five) (unfold closes in refl) refl
 
       keyed : Keyed second (desc second).k five
-      keyed = subst (λ (p : Description). ((second.session.opened ≡ true) × (length five ≡ p.wpr)) × (allWords (part 0 p.k five) ≡ true) ×
-          (isOnes (keyIn p five) ≡ false)) (sym second-desc) ((is_open, refl), keyed-words.0, keyed-words.1)
+      keyed = subst (λ (p : Description). ((second.session.opened ≡ true) × (length five ≡ p.wpr)) × (all_words (part 0 p.k five) ≡ true) ×
+          (is_ones (key_in p five) ≡ false)) (sym second-desc) ((is_open_lem, refl), keyed-words.0, keyed-words.1)
 
       met : (r second (deleting five)).number ≡ done
       met =
           let c : Contains second (five ∷ end ∷ []) = both-there in
           let a : AnsweredBy r second c.tree = at_second (AnswersAre r) d.answers c.tree c.held in
-          let found : withKey (desc second) (keyIn (desc second) five) (contents c.tree) ≡ five ∷ []
-          = ap₂ (λ (p : Description) (x : List (List ℕ)). withKey p (keyIn p five) x) second-desc c.are ∙ is-there in
+          let found : with_key (desc second) (key_in (desc second) five) (contents c.tree) ≡ five ∷ []
+          = ap₂ (λ (p : Description) (x : List (List ℕ)). with_key p (key_in p five) x) second-desc c.are ∙ is-there in
           subst (λ (x : List (List ℕ)). Met x (r second (deleting five))) found (a.dlete five keyed)
 
-      event : eventOf (desc second) (deleting five) (r second (deleting five)) ≡ cond (eqb (r second (deleting five)).number done)
-          (removed (keyIn (desc second) five) ∷ []) []
+      event : event_of (desc second) (deleting five) (r second (deleting five)) ≡ cond (eqb (r second (deleting five)).number done)
+          (removed (key_in (desc second) five) ∷ []) []
       event = refl
 
       gone : Contains third (end ∷ [])
       gone =
           subst (Contains third)
-          (ap₂ (λ (p : Description) (n : ℕ). changed p (cond (eqb n done) (removed (keyIn p five) ∷ []) []) (five ∷ end ∷ [])) second-desc met ∙ taken_out)
+          (ap₂ (λ (p : Description) (n : ℕ). changed p (cond (eqb n done) (removed (key_in p five) ∷ []) []) (five ∷ end ∷ [])) second-desc met ∙ taken_out)
           (subst (λ (es : List Event). Contains third (changed (desc second) es (five ∷ end ∷ []))) event
           (at_second (RecordsChange r) d.records (five ∷ end ∷ []) both-there (deleting five)))
 

@@ -7,7 +7,7 @@ use mathlib.Core.List.{List, [], ◌∷◌, ◌++◌}
 use native.Mathlib.Omega.{arith}
 use lib.Dec.{eqb}
 use lib.ListN.{length}
-use Rattle.numbers.specs.Numbers.{outOfSequence, badFile}
+use Rattle.numbers.specs.Numbers.{out_of_sequence, bad_file}
 use Rattle.numbers.specs.Checked.{Checked, passed, ◌>>=◌, ◌>>◌, require}
 use Rattle.words.specs.Keys.{val}
 use Rattle.drum.specs.Blocks.{Transfer, Read, Texts}
@@ -20,27 +20,27 @@ use Rattle.rules.specs.declared.Look.TheVariants.{Missing}
 use Rattle.rules.specs.declared.Insert.{Insert}
 use Rattle.rules.specs.declared.Insert.TheVariants as insert-is
 use Rattle.rules.specs.declared.Extend.TheVariants.{Before}
-use Rattle.rules.specs.State.{State, Outcome, Effect, desc, texts, keyIn, outcome}
-use Rattle.rules.specs.Lookup.{Reached, look, flushMoves, bringing, reached, stopping}
-use Rattle.rules.specs.Free.{isNew}
-use Rattle.rules.specs.Nsert.{insertAfter, insertDeed}
-use Rattle.rules.specs.NsertDone.{insertDone, nsert}
-use Rattle.rules.specs.Xtend.{notBehind, apart, newApart, insertBefore, lookDeed, extendAt}
-use Rattle.rules.specs.XtendDone.{reading, listed, extendDone, xtend}
+use Rattle.rules.specs.State.{State, Outcome, Effect, desc, texts, key_in, outcome}
+use Rattle.rules.specs.Lookup.{Reached, look, flush_moves, bringing, reached, stopping}
+use Rattle.rules.specs.Free.{is_new}
+use Rattle.rules.specs.Nsert.{insert_after, insert_deed}
+use Rattle.rules.specs.NsertDone.{insert_done, nsert}
+use Rattle.rules.specs.Xtend.{not_behind, apart, new_apart, insert_before, look_deed, extend_at}
+use Rattle.rules.specs.XtendDone.{reading, listed, extend_done, xtend}
 use Rattle.rules.specs.Fits.{Outside}
 use Rattle.rules.proofs.Before.{before_here, before-by}
-use Rattle.demands.specs.Refusals.{lookedFrom}
+use Rattle.demands.specs.Refusals.{looked_from}
 use Rattle.demands.specs.AsNsert.{besides}
 use Rattle.demands.proofs.Scene.{scene}
 use Rattle.demands.proofs.Holds.{Free}
 use Rattle.demands.proofs.Places.{Place, tree_of, lo, index_in}
-use Rattle.demands.proofs.Paths.{pathOf}
-use Rattle.demands.proofs.Sound.{Key, KeptTree, textsLeft}
+use Rattle.demands.proofs.Paths.{path_of}
+use Rattle.demands.proofs.Sound.{Key, KeptTree, texts_left}
 use Rattle.demands.proofs.Answers.{Ready, Gives}
 use Rattle.demands.proofs.Reach.{At, at-by}
 use Rattle.demands.proofs.Lookup.{Covers}
 use Rattle.demands.proofs.Stores.{stop-gives}
-use Rattle.demands.proofs.Frees.{next, freeCount, taken, taken-count, next-outside, second-outside, new-pass}
+use Rattle.demands.proofs.Frees.{next, free_count, taken, taken-count, next-outside, second-outside, new-pass}
 use Rattle.demands.proofs.Nsert.{nsert-by}
 use Rattle.demands.proofs.NsertRight.{PlanFits, stops, rooms, splits, boths}
 use Rattle.demands.proofs.Last.{ending, Last}
@@ -49,8 +49,8 @@ use Rattle.demands.proofs.Xtend.{xtend-by}
 use Rattle.demands.proofs.XtendAlone.{to-look}
 
 -- the transfers to the last block and of the lookup from there
-look-few : (v : Texts) (flag : Bool) (way : Way) (w q : Path) → length (lookedFrom v flag way w q).moves ≤ 6
-unfolding lookedFrom reading reached bringing flushMoves
+look-few : (v : Texts) (flag : Bool) (way : Way) (w q : Path) → length (looked_from v flag way w q).moves ≤ 6
+unfolding looked_from reading reached bringing flush_moves
 look-few v flag way w q = go flag way (eqb w.index 0)
   where
     go : (flag : Bool) (way : Way) (t : Bool)
@@ -65,7 +65,7 @@ look-few v flag way w q = go flag way (eqb w.index 0)
     go false (By y) false = omega arith
 
 -- a block that NSERT's test of new blocks would pass on the last path
-apart-new : (c : ℕ) (flag : Bool) (way : Way) (w : Path) (b : ℕ) → isNew c flag w b ≡ true → apart way w b ≡ true
+apart-new : (c : ℕ) (flag : Bool) (way : Way) (w : Path) (b : ℕ) → is_new c flag w b ≡ true → apart way w b ≡ true
 unfolding apart
 apart-new c flag way w b e = go way (eqb b w.index) (eqb b w.detail) refl refl e
   where
@@ -78,10 +78,10 @@ apart-new c flag way w b e = go way (eqb b w.index) (eqb b w.detail) refl refl e
 -- what a plan of NSERT does
 record Does (v : Texts) (flag : Bool) (work : List ℕ) (d : Insert) : Type 0 where
   effect : Effect
-  does : insertDone v flag work d ≡ passed effect
+  does : insert_done v flag work d ≡ passed effect
 
 does-it : (v : Texts) (flag : Bool) (work : List ℕ) (f : Free) (d : Insert) → PlanFits f d → Does v flag work d
-unfolding insertDone
+unfolding insert_done
 does-it v flag work f _ (stops w n) = record { effect = _; does = refl }
 does-it v flag work f _ (rooms w i n) = record { effect = _; does = refl }
 does-it v flag work f _ (splits w i d n e s) = record { effect = _; does = refl }
@@ -108,9 +108,9 @@ as-outcome st way ms e xs ns long = record {
   more-is = ap (λ (o : Outcome). length o.transfers) xs ∙ long ∙ ap (λ (o : Outcome). length o.transfers + besides way) (sym ns);
 }
 
-module _ (st : State) (ss : List Section) (f : Free) (r : Ready (desc st).wpr st ss f) (kw : Key (desc st) (keyIn (desc st) st.work))
+module _ (st : State) (ss : List Section) (f : Free) (r : Ready (desc st).wpr st ss f) (kw : Key (desc st) (key_in (desc st) st.work))
     (L : Last (texts st) st.session.flag ss f) (alone : L.front ≡ [])
-    (under : val (keyIn (desc st) st.work) < lo (desc st) (ending L.before L.index L.low L.leaf)) where
+    (under : val (key_in (desc st) st.work) < lo (desc st) (ending L.before L.index L.low L.leaf)) where
   open scene st ss use {p, v, flag, w, K, rows}
 
   abbrev end : Place
@@ -119,74 +119,74 @@ module _ (st : State) (ss : List Section) (f : Free) (r : Ready (desc st).wpr st
   index-least : 1 ≤ L.index
   index-least = (index_in p end f _ _ L.at.held).0
 
-  module _ (q : Place) (is : ss ≡ tree_of q) (C : Covers (texts st) (keyIn (desc st) st.work) q) where
+  module _ (q : Place) (is : ss ≡ tree_of q) (C : Covers (texts st) (key_in (desc st) st.work) q) where
     -- the lookup's path, and the three tests
-    pub looked-at : (t : Bool) → notBehind v w (pathOf end) (pathOf q) ≡ t → extendAt v flag w L.way
-        ≡ cond t (passed (Before L.way (pathOf end) (insert-is.Stop (By (pathOf q)) outOfSequence)))
-        (insertBefore v flag w L.way (pathOf end) (pathOf q))
-    unfolding lookDeed
+    pub looked-at : (t : Bool) → not_behind v w (path_of end) (path_of q) ≡ t → extend_at v flag w L.way
+        ≡ cond t (passed (Before L.way (path_of end) (insert-is.Stop (By (path_of q)) out_of_sequence)))
+        (insert_before v flag w L.way (path_of end) (path_of q))
+    unfolding look_deed
     looked-at t e =
         to-look st ss f r kw L alone under
-        ∙ ap (λ (m : Checked Path). m >>= (λ c. cond (notBehind v w (pathOf end) c) (passed (Before L.way (pathOf end) (insert-is.Stop
-        (By c) outOfSequence)))
-        (insertBefore v flag w L.way (pathOf end) c))) C.path-is
-        ∙ ap (λ (b : Bool). cond b (passed (Before L.way (pathOf end) (insert-is.Stop (By (pathOf q)) outOfSequence)))
-        (insertBefore v flag w L.way (pathOf end) (pathOf q))) e
+        ∙ ap (λ (m : Checked Path). m >>= (λ c. cond (not_behind v w (path_of end) c) (passed (Before L.way (path_of end) (insert-is.Stop
+        (By c) out_of_sequence)))
+        (insert_before v flag w L.way (path_of end) c))) C.path-is
+        ∙ ap (λ (b : Bool). cond b (passed (Before L.way (path_of end) (insert-is.Stop (By (path_of q)) out_of_sequence)))
+        (insert_before v flag w L.way (path_of end) (path_of q))) e
 
     -- 5, "the lookup done"
-    pub five : notBehind v w (pathOf end) (pathOf q) ≡ true → Gives st ss (xtend st) outOfSequence 6 rows nothing ss f
-    unfolding extendDone insertDone listed stopping lookedFrom
+    pub five : not_behind v w (path_of end) (path_of q) ≡ true → Gives st ss (xtend st) out_of_sequence 6 rows nothing ss f
+    unfolding extend_done insert_done listed stopping looked_from
     five e =
-        let here : Reached = lookedFrom v flag L.way (pathOf end) (pathOf q) in
-        let A : At v flag ss f q (By (pathOf q)) = at-by v flag ss f r.sound.kept q is in
-        let back : KeptTree (textsLeft v here) here.flag ss f
-        = subst (λ (z : List Section). KeptTree (textsLeft v here) here.flag z f) (sym is) A.kept in
-        subst (λ (z : Outcome). Gives st ss z outOfSequence 6 rows nothing ss f)
-        (sym (xtend-by st ss f r kw L (Before L.way (pathOf end) (insert-is.Stop (By (pathOf q)) outOfSequence)) (stopping outOfSequence st.work here)
+        let here : Reached = looked_from v flag L.way (path_of end) (path_of q) in
+        let A : At v flag ss f q (By (path_of q)) = at-by v flag ss f r.sound.kept q is in
+        let back : KeptTree (texts_left v here) here.flag ss f
+        = subst (λ (z : List Section). KeptTree (texts_left v here) here.flag z f) (sym is) A.kept in
+        subst (λ (z : Outcome). Gives st ss z out_of_sequence 6 rows nothing ss f)
+        (sym (xtend-by st ss f r kw L (Before L.way (path_of end) (insert-is.Stop (By (path_of q)) out_of_sequence)) (stopping out_of_sequence st.work here)
         (looked-at true e) refl))
-        (stop-gives st ss f r.sound r.opened here 6 (look-few v flag L.way (pathOf end) (pathOf q)) back outOfSequence st.work)
+        (stop-gives st ss f r.sound r.opened here 6 (look-few v flag L.way (path_of end) (path_of q)) back out_of_sequence st.work)
 
     -- the plan is NSERT's, whose new blocks are apart from the last path
-    module _ (e : notBehind (texts st) (keyIn (desc st) st.work) (pathOf (ending L.before L.index L.low L.leaf)) (pathOf q) ≡ false)
-        (l : look (texts st) st.session.flag (keyIn (desc st) st.work) ≡ passed (Missing (pathOf q))) (d : Insert)
-        (plan-is : insertDeed (texts st) st.session.flag (keyIn (desc st) st.work) ≡ passed d) (fits : PlanFits f d) where
-      apart-is : newApart L.way (pathOf end) d ≡ true
-      unfolding newApart
+    module _ (e : not_behind (texts st) (key_in (desc st) st.work) (path_of (ending L.before L.index L.low L.leaf)) (path_of q) ≡ false)
+        (l : look (texts st) st.session.flag (key_in (desc st) st.work) ≡ passed (Missing (path_of q))) (d : Insert)
+        (plan-is : insert_deed (texts st) st.session.flag (key_in (desc st) st.work) ≡ passed d) (fits : PlanFits f d) where
+      apart-is : new_apart L.way (path_of end) d ≡ true
+      unfolding new_apart
       apart-is = go d fits
         where
-          away : (b : ℕ) → isNew v.current flag (pathOf end) b ≡ true → apart L.way (pathOf end) b ≡ true
-          away b h = apart-new v.current flag L.way (pathOf end) b h
+          away : (b : ℕ) → is_new v.current flag (path_of end) b ≡ true → apart L.way (path_of end) b ≡ true
+          away b h = apart-new v.current flag L.way (path_of end) b h
 
-          first : 1 ≤ freeCount f → apart L.way (pathOf end) (next f) ≡ true
+          first : 1 ≤ free_count f → apart L.way (path_of end) (next f) ≡ true
           first some = away (next f) (new-pass v flag ss f r.sound.kept end L.at.is (next f) (next-outside p _ _ ss f r.sound.kept.holds some))
 
-          second : 2 ≤ freeCount f → apart L.way (pathOf end) (next (taken f)) ≡ true
+          second : 2 ≤ free_count f → apart L.way (path_of end) (next (taken f)) ≡ true
           second two =
-              let some : 1 ≤ freeCount f = omega arith in
+              let some : 1 ≤ free_count f = omega arith in
               away (next (taken f)) (new-pass v flag ss f r.sound.kept end L.at.is (next (taken f))
               (second-outside p _ _ ss f r.sound.kept.holds some (omega (arith, taken-count f some))))
 
-          go : (d : Insert) → PlanFits f d → newApart L.way (pathOf end) d ≡ true
+          go : (d : Insert) → PlanFits f d → new_apart L.way (path_of end) d ≡ true
           go _ (stops c n) = refl
           go _ (rooms c i n) = refl
-          go _ (splits c i t n z some) = ap (apart L.way (pathOf end)) z ∙ first some
+          go _ (splits c i t n z some) = ap (apart L.way (path_of end)) z ∙ first some
           go _ (boths c i b t n y z two) = rw (y, z, first (omega arith), second two)
 
-      pub before-deed : extendAt v flag w L.way ≡ passed (Before L.way (pathOf end) d)
-      unfolding insertBefore insertAfter
+      pub before-deed : extend_at v flag w L.way ≡ passed (Before L.way (path_of end) d)
+      unfolding insert_before insert_after
       before-deed =
           looked-at false e
-          ∙ ap (λ (m : Checked Insert). m >>= (λ c. require (newApart L.way (pathOf end) c) badFile >> passed (Before L.way (pathOf end) c))) planned
-          ∙ ap (λ (b : Bool). require b badFile >> passed (Before L.way (pathOf end) d)) apart-is
+          ∙ ap (λ (m : Checked Insert). m >>= (λ c. require (new_apart L.way (path_of end) c) bad_file >> passed (Before L.way (path_of end) c))) planned
+          ∙ ap (λ (b : Bool). require b bad_file >> passed (Before L.way (path_of end) d)) apart-is
         where
-          by-look : insertDeed v flag w ≡ insertAfter v flag w (Missing (pathOf q))
-          by-look = unfold insertDeed in ap (λ (m : Checked Look). m >>= (λ c. insertAfter v flag w c)) l
+          by-look : insert_deed v flag w ≡ insert_after v flag w (Missing (path_of q))
+          by-look = unfold insert_deed in ap (λ (m : Checked Look). m >>= (λ c. insert_after v flag w c)) l
 
-          planned : insertAfter v flag w (Missing (pathOf q)) ≡ passed d
+          planned : insert_after v flag w (Missing (path_of q)) ≡ passed d
           planned = sym by-look ∙ plan-is
 
       pub as_called : AsCalled st L.way
-      unfolding extendDone besides
+      unfolding extend_done besides
       as_called = as-outcome st L.way (moves L.way) one.effect xs ns (long L.way)
         where
           one : Does v flag st.work d
@@ -198,15 +198,15 @@ module _ (st : State) (ss : List Section) (f : Free) (r : Ready (desc st).wpr st
           moves : Way → List Transfer
           moves way = (reading L.index (reached v flag way)).moves ++ (two way).effect.transfers
 
-          done : extendDone v flag st.work (Before L.way (pathOf end) d) ≡ passed (listed (moves L.way) one.effect)
+          done : extend_done v flag st.work (Before L.way (path_of end) d) ≡ passed (listed (moves L.way) one.effect)
           done =
-              ap (λ (m : Checked Effect). m >>= (λ e. insertDone v (reached v flag L.way).flag st.work d >>=
+              ap (λ (m : Checked Effect). m >>= (λ e. insert_done v (reached v flag L.way).flag st.work d >>=
               (λ t. passed (listed ((reading L.index (reached v flag L.way)).moves ++ t.transfers) e)))) one.does
               ∙ ap (λ (m : Checked Effect). m >>= (λ t. passed (listed ((reading L.index (reached v flag L.way)).moves ++ t.transfers) one.effect)))
               (two L.way).does
 
           xs : xtend st ≡ outcome st.session (listed (moves L.way) one.effect)
-          xs = xtend-by st ss f r kw L (Before L.way (pathOf end) d) (listed (moves L.way) one.effect) before-deed done
+          xs = xtend-by st ss f r kw L (Before L.way (path_of end) d) (listed (moves L.way) one.effect) before-deed done
 
           ns : nsert st ≡ outcome st.session one.effect
           ns = nsert-by st ss f r d one.effect plan-is one.does

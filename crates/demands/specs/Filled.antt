@@ -4,12 +4,12 @@ use Rattle.std.specs.Prelude.{ℕ, zero, suc, ◌+◌, ◌-◌, ◌/◌, ◌≤�
 use Rattle.numbers.specs.Numbers.{done}
 use Rattle.drum.specs.declared.Description.{Description}
 use Rattle.drum.specs.Params.{FD, FI}
-use Rattle.layout.specs.Tree.{Leaf, Section, Tree, lastIn, leafBlocks, leavesOf, contents}
+use Rattle.layout.specs.Tree.{Leaf, Section, Tree, last_in, leaf_blocks, leaves_of, contents}
 use Rattle.layout.specs.Holds.{Holds}
-use Rattle.rules.specs.State.{Session, State, Outcome, desc, lent, keyIn}
-use Rattle.rules.specs.Open.{create, openFile}
+use Rattle.rules.specs.State.{Session, State, Outcome, desc, lent, key_in}
+use Rattle.rules.specs.Open.{create, open_file}
 use Rattle.rules.specs.Requests.{Request, opening, closing, seeking, advancing, inserting, deleting, updating, extending, left, tally}
-use Rattle.demands.specs.Formula.{acceptedBy}
+use Rattle.demands.specs.Formula.{accepted_by}
 use Rattle.demands.specs.Promises.{put_back}
 use Rattle.demands.specs.Answers.{ordinary}
 
@@ -20,14 +20,14 @@ ButLast P Q (x ∷ []) = Q x
 ButLast P Q (x ∷ y ∷ xs) = P x × ButLast P Q (y ∷ xs)
 
 -- n numbers from b on
-unfoldable pub countFrom : ℕ → ℕ → List ℕ
-countFrom b zero = []
-countFrom b (suc n) = b ∷ countFrom (suc b) n
+unfoldable pub count_from : ℕ → ℕ → List ℕ
+count_from b zero = []
+count_from b (suc n) = b ∷ count_from (suc b) n
 
 -- while there is one section: its index block is CREATE's block 1, and its detail blocks are 2, 3, .. in the order of their keys
 unfoldable pub OneInOrder : List Section → Type 0
 OneInOrder [] = Unit {0}
-OneInOrder (s ∷ []) = (s.block ≡ 1) × (leafBlocks s.leaves ≡ countFrom 2 (length s.leaves))
+OneInOrder (s ∷ []) = (s.block ≡ 1) × (leaf_blocks s.leaves ≡ count_from 2 (length s.leaves))
 OneInOrder (s ∷ u ∷ ss) = Unit {0}
 
 -- a detail block with FD records, and one with no more
@@ -48,7 +48,7 @@ MostIndex p s = length s.leaves ≤ FI p
 
 -- a detail block whose bound is the key of its last record, and any one
 abbrev pub Tight : Description → Leaf → Type 0
-Tight p l = l.bound ≡ keyIn p (lastIn l.records)
+Tight p l = l.bound ≡ key_in p (last_in l.records)
 
 -- any detail block
 abbrev pub Any : Leaf → Type 0
@@ -59,20 +59,20 @@ pub record Filled (p : Description) (t : Tree) : Type 0 where
   -- "head of the free chain (0 none)": none
   pub chain : t.chain ≡ []
   -- "Fewer than FD records: insert": every detail block but the last has FD records, the last has no more
-  pub details : ButLast (Full p) (Most p) (leavesOf t)
+  pub details : ButLast (Full p) (Most p) (leaves_of t)
   -- "If the index holds FI or more, the entry starts a new index block and section": every section but the last has FI detail blocks
   pub indexes : ButLast (FullIndex p) (MostIndex p) t.sections
   -- "the old bound becomes the key": every bound but the last is the key of the last record under it
-  pub bounds : ButLast (Tight p) Any (leavesOf t)
+  pub bounds : ButLast (Tight p) Any (leaves_of t)
   -- "lowest block never used": every block below it is in use
-  pub lowest : t.lowest ≡ 1 + length (leavesOf t) + length t.sections
+  pub lowest : t.lowest ≡ 1 + length (leaves_of t) + length t.sections
   -- "block 1: 1, ONES, 2", and new blocks from word 2
   pub order : OneInOrder t.sections
 
 -- the blocks in use, by R, the ordinary records: 1 + R/FD detail blocks, and over d of them 1 + (d-1)/FI index blocks, rounded down
 pub record CountedOf (p : Description) (t : Tree) : Type 0 where
-  pub details : length (leavesOf t) ≡ 1 + length (ordinary p (contents t)) / FD p
-  pub indexes : length t.sections ≡ 1 + (length (leavesOf t) - 1) / FI p
+  pub details : length (leaves_of t) ≡ 1 + length (ordinary p (contents t)) / FD p
+  pub indexes : length t.sections ≡ 1 + (length (leaves_of t) - 1) / FI p
 
 -- 1 for an NSERT or a DLETE that is accepted, and 0 for any other call
 unfoldable pub disturbs : Request → Outcome → ℕ
@@ -80,8 +80,8 @@ disturbs (opening marks) o = 0
 disturbs closing o = 0
 disturbs (seeking work) o = 0
 disturbs (advancing work) o = 0
-disturbs (inserting work) o = acceptedBy o
-disturbs (deleting work) o = acceptedBy o
+disturbs (inserting work) o = accepted_by o
+disturbs (deleting work) o = accepted_by o
 disturbs (updating work) o = 0
 disturbs (extending work) o = 0
 
@@ -96,13 +96,13 @@ StandsFilled st = (t : Tree) × Holds (desc st) (put_back st) t × Filled (desc 
 -- from an OPEN that answers 0, of a file that is so filled, any such calls, closing and reopening included
 abbrev pub StaysFilled : Type 0
 StaysFilled =
-    (st : State) (marks : List ℕ) → (openFile st marks).outcome.number ≡ done → (t : Tree) → Holds (desc st) st.file t → Filled (desc st) t
-    → (qs : List Request) → OnlyXtends (openFile st marks).outcome.after qs → StandsFilled (left (openFile st marks).outcome.after qs)
+    (st : State) (marks : List ℕ) → (open_file st marks).outcome.number ≡ done → (t : Tree) → Holds (desc st) st.file t → Filled (desc st) t
+    → (qs : List Request) → OnlyXtends (open_file st marks).outcome.after qs → StandsFilled (left (open_file st marks).outcome.after qs)
 
 -- from a CREATE and then an OPEN that both answer 0
 abbrev pub ExtendedFilled : Type 0
 ExtendedFilled =
     (session : Session) (f buffer work marks : List ℕ) → (create session.desc f).number ≡ done
     → let made = lent session (create session.desc f).file buffer work in
-    (openFile made marks).outcome.number ≡ done
-    → (qs : List Request) → OnlyXtends (openFile made marks).outcome.after qs → StandsFilled (left (openFile made marks).outcome.after qs)
+    (open_file made marks).outcome.number ≡ done
+    → (qs : List Request) → OnlyXtends (open_file made marks).outcome.after qs → StandsFilled (left (open_file made marks).outcome.after qs)

@@ -5,23 +5,23 @@ use Rattle.drum.specs.Params.{FD, FI}
 use Rattle.rules.specs.State.{State, desc}
 use Rattle.rules.specs.Requests.{Request, opening, closing, seeking, advancing, inserting, deleting, updating, extending}
 use Rattle.demands.specs.declared.Plan.{Plan}
-use Rattle.demands.specs.Formula.{hD, hI, M, allTransfers, AfterCreate}
+use Rattle.demands.specs.Formula.{h_d, h_i, M, all_transfers, AfterCreate}
 
 -- "3·(SEEK+UPDAT+NSERT) + 5·ADV + 6·DLETE + 4·XTEND + CLOSE", with "XTEND's 4 becomes 6" [F4, E6]
-unfoldable pub planShares : Plan → ℕ
-planShares plan = 3 * (plan.seeks + plan.updats + plan.nserts) + 5 * plan.advs + 6 * plan.dletes + 6 * plan.xtends + plan.closes
+unfoldable pub plan_shares : Plan → ℕ
+plan_shares plan = 3 * (plan.seeks + plan.updats + plan.nserts) + 5 * plan.advs + 6 * plan.dletes + 6 * plan.xtends + plan.closes
 
 -- "hD·S ≤ M, FD·X ≤ M": the most that S+X can be
-unfoldable pub planDetails : Description → Plan → ℕ
-planDetails p plan = plan.records / hD p + plan.records / FD p
+unfoldable pub plan_details : Description → Plan → ℕ
+plan_details p plan = plan.records / h_d p + plan.records / FD p
 
 -- "hI·s ≤ S+X, FI·x ≤ S+X": the most that s+x can be
-unfoldable pub planIndexes : Description → Plan → ℕ
-planIndexes p plan = planDetails p plan / hI p + planDetails p plan / FI p
+unfoldable pub plan_indexes : Description → Plan → ℕ
+plan_indexes p plan = plan_details p plan / h_i p + plan_details p plan / FI p
 
 -- "and the sum of transfers is at most .. + 4·(S+X) + s + x"
 unfoldable pub planned : Description → Plan → ℕ
-planned p plan = planShares plan + 4 * planDetails p plan + planIndexes p plan
+planned p plan = plan_shares plan + 4 * plan_details p plan + plan_indexes p plan
 
 -- ---- a run that keeps to a plan
 
@@ -31,20 +31,20 @@ calls seeks updats nserts advs dletes xtends closes =
     record { seeks = seeks; updats = updats; nserts = nserts; advs = advs; dletes = dletes; xtends = xtends; closes = closes; records = 0 }
 
 -- the plan of one call [F4]
-unfoldable pub oneCall : Request → Plan
-oneCall (opening marks) = calls 0 0 0 0 0 0 0
-oneCall (seeking work) = calls 1 0 0 0 0 0 0
-oneCall (updating work) = calls 0 1 0 0 0 0 0
-oneCall (inserting work) = calls 0 0 1 0 0 0 0
-oneCall (advancing work) = calls 0 0 0 1 0 0 0
-oneCall (deleting work) = calls 0 0 0 0 1 0 0
-oneCall (extending work) = calls 0 0 0 0 0 1 0
-oneCall closing = calls 0 0 0 0 0 0 1
+unfoldable pub one_call : Request → Plan
+one_call (opening marks) = calls 0 0 0 0 0 0 0
+one_call (seeking work) = calls 1 0 0 0 0 0 0
+one_call (updating work) = calls 0 1 0 0 0 0 0
+one_call (inserting work) = calls 0 0 1 0 0 0 0
+one_call (advancing work) = calls 0 0 0 1 0 0 0
+one_call (deleting work) = calls 0 0 0 0 1 0 0
+one_call (extending work) = calls 0 0 0 0 0 1 0
+one_call closing = calls 0 0 0 0 0 0 1
 
 -- how many calls of a kind a run has: "calls counted whether refused or not"
 unfoldable pub count_of : (Plan → ℕ) → List Request → ℕ
 count_of kind [] = 0
-count_of kind (q ∷ qs) = kind (oneCall q) + count_of kind qs
+count_of kind (q ∷ qs) = kind (one_call q) + count_of kind qs
 
 -- no more calls of any kind than planned, and no more "records accepted by NSERT and XTEND"
 pub record Keeps (plan : Plan) (st : State) (qs : List Request) : Type 0 where
@@ -59,7 +59,7 @@ pub record Keeps (plan : Plan) (st : State) (qs : List Request) : Type 0 where
 
 -- it costs no more transfers than are planned
 abbrev pub PlanHolds : Type 0
-PlanHolds = AfterCreate λ st qs. (plan : Plan) → Keeps plan st qs → allTransfers st qs ≤ planned (desc st) plan
+PlanHolds = AfterCreate λ st qs. (plan : Plan) → Keeps plan st qs → all_transfers st qs ≤ planned (desc st) plan
 
 -- of its records one may always plan as many as its NSERTs and XTENDs: a run on any words accepts no more
 abbrev pub RecordsWithin : Type 0

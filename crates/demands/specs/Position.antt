@@ -3,7 +3,7 @@
 use Rattle.std.specs.Prelude.{◌≡◌, true, false}
 use Rattle.numbers.specs.Numbers.{done, accepted}
 use Rattle.words.specs.Words.{put}
-use Rattle.rules.specs.State.{Session, State, Outcome, desc, keyIn}
+use Rattle.rules.specs.State.{Session, State, Outcome, desc, key_in}
 use Rattle.rules.specs.Requests.{Request, opening, closing, seeking, advancing, inserting, deleting, updating, extending}
 
 -- position is as it was
@@ -14,7 +14,7 @@ pub record PositionStays (s now : Session) : Type 0 where
 -- position is the key that then stands first in the workspace: its words over the first of the position's [C33, C35]
 pub record PositionIsKey (st now : State) : Type 0 where
   pub placed : now.session.placed ≡ true
-  pub position : now.session.position ≡ put st.session.position 0 (keyIn (desc st) now.work)
+  pub position : now.session.position ≡ put st.session.position 0 (key_in (desc st) now.work)
 
 -- SEEK, ADV, NSERT, DLETE, UPDAT, XTEND: by the number alone [C3, C9, C33]
 pub record MovesPosition (st : State) (o : Outcome) : Type 0 where

@@ -5,7 +5,7 @@ use Rattle.numbers.specs.Numbers.{accepted}
 use Rattle.drum.specs.Params.{FD, FI}
 use Rattle.rules.specs.State.{State, Outcome, desc}
 use Rattle.rules.specs.Requests.{Request, answer}
-use Rattle.demands.specs.Formula.{hD, hI, detailBlocks, indexBlocks, ofNsert, ofXtend, splitOff, startedNew, share}
+use Rattle.demands.specs.Formula.{h_d, h_i, detail_blocks, index_blocks, of_nsert, of_xtend, split_off, started_new, share}
 
 -- one call of a run
 pub record Turn : Type 0 where
@@ -38,33 +38,33 @@ abbrev pub stored : Turn → ℕ
 stored t = cond (accepted t.number) 1 0
 
 -- how many more detail blocks are in use, 0 where there are fewer [F2]
-abbrev pub moreDetails : State → Turn → ℕ
-moreDetails before t = detailBlocks t.after - detailBlocks before
+abbrev pub more_details : State → Turn → ℕ
+more_details before t = detail_blocks t.after - detail_blocks before
 
 -- how many more index blocks [F2]
-abbrev pub moreIndexes : State → Turn → ℕ
-moreIndexes before t = indexBlocks t.after - indexBlocks before
+abbrev pub more_indexes : State → Turn → ℕ
+more_indexes before t = index_blocks t.after - index_blocks before
 
 module _ (st : State) (ts : List Turn) where
   -- "Let M be records accepted by NSERT and XTEND"
   unfoldable pub M : ℕ
-  M = sum (λ before t. ofNsert (stored t) t.request + ofXtend (stored t) t.request) st ts
+  M = sum (λ before t. of_nsert (stored t) t.request + of_xtend (stored t) t.request) st ts
 
   -- "S, s detail and index splits by NSERT", and of an XTEND that stores as NSERT does "Such splits count in S and s" [F2, E5]
   unfoldable pub S : ℕ
-  S = sum (λ before t. splitOff (moreDetails before t) t.request before t.after) st ts
+  S = sum (λ before t. split_off (more_details before t) t.request before t.after) st ts
 
   -- index splits by NSERT, and by such an XTEND [F2, E5]
   unfoldable pub s : ℕ
-  s = sum (λ before t. splitOff (moreIndexes before t) t.request before t.after) st ts
+  s = sum (λ before t. split_off (more_indexes before t) t.request before t.after) st ts
 
   -- "X, x detail and index blocks started by XTEND"
   unfoldable pub X : ℕ
-  X = sum (λ before t. startedNew (moreDetails before t) t.request before t.after) st ts
+  X = sum (λ before t. started_new (more_details before t) t.request before t.after) st ts
 
   -- index blocks started by XTEND [F2]
   unfoldable pub x : ℕ
-  x = sum (λ before t. startedNew (moreIndexes before t) t.request before t.after) st ts
+  x = sum (λ before t. started_new (more_indexes before t) t.request before t.after) st ts
 
   -- "the sum of transfers", and "calls counted whether refused or not"
   unfoldable pub counts : ℕ
@@ -76,8 +76,8 @@ module _ (st : State) (ts : List Turn) where
 
 -- "hD·S ≤ M, FD·X ≤ M, hI·s ≤ S+X, FI·x ≤ S+X, and the sum of transfers is at most .. + 4·(S+X) + s + x"
 pub record Formula (st : State) (ts : List Turn) : Type 0 where
-  pub splits : hD (desc st) * S st ts ≤ M st ts
+  pub splits : h_d (desc st) * S st ts ≤ M st ts
   pub starts : FD (desc st) * X st ts ≤ M st ts
-  pub index-splits : hI (desc st) * s st ts ≤ S st ts + X st ts
+  pub index-splits : h_i (desc st) * s st ts ≤ S st ts + X st ts
   pub index-starts : FI (desc st) * x st ts ≤ S st ts + X st ts
   pub transfers : counts st ts ≤ shares st ts + 4 * (S st ts + X st ts) + s st ts + x st ts

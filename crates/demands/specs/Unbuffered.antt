@@ -2,7 +2,7 @@
 -- words". The law of it: with current 0 and the flag off, no call looks at the buffer's words.
 use Rattle.std.specs.Prelude.{ℕ, ◌≡◌, false, List, length}
 use Rattle.rules.specs.State.{Session, State, Outcome}
-use Rattle.rules.specs.Open.{openFile}
+use Rattle.rules.specs.Open.{open_file}
 use Rattle.rules.specs.Close.{view}
 use Rattle.rules.specs.Requests.{Request, answer, left}
 
@@ -35,7 +35,7 @@ Unbuffered = (st su : State) → Alike st su → (q : Request) → Indistinct (a
 
 -- OPEN's marks too
 abbrev pub UnbufferedMarks : Type 0
-UnbufferedMarks = (st su : State) → Alike st su → (marks : List ℕ) → (openFile st marks).marks ≡ (openFile su marks).marks
+UnbufferedMarks = (st su : State) → Alike st su → (marks : List ℕ) → (open_file st marks).marks ≡ (open_file su marks).marks
 
 -- and what VIEW lends back
 abbrev pub UnbufferedView : Type 0

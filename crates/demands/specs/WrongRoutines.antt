@@ -2,12 +2,12 @@
 -- first call and feigns the rest, and a made-up count. Demand 3 alone would pass the first". And three that answer, store and count as they should,
 -- each refused by one sentence of demand 2 alone: position, CLOSE, VIEW. Nothing is proved here.
 use Rattle.std.specs.Prelude.{ℕ, true, false, cond, ◌&&◌, ◌≡◌, List, [], eqb, length}
-use Rattle.numbers.specs.Numbers.{done, wrongSize, accepted}
+use Rattle.numbers.specs.Numbers.{done, wrong_size, accepted}
 use Rattle.numbers.specs.Checked.{between}
 use Rattle.words.specs.Words.{zeros}
 use Rattle.drum.specs.Params.{sized}
 use Rattle.drum.specs.Blocks.{block_at}
-use Rattle.rules.specs.State.{Session, State, Outcome, desc, lent, atRest, unchanged}
+use Rattle.rules.specs.State.{Session, State, Outcome, desc, lent, at_rest, unchanged}
 use Rattle.rules.specs.Requests.{Request, opening, closing, seeking, advancing, inserting, deleting, updating, extending, lending, answer}
 use Rattle.demands.specs.Durable.{ClosesBy}
 use Rattle.demands.specs.Routines.{Routine, Viewing, AfterOpenBy, RightCalls, PositionsAre, ViewsAre, Demand3By}
@@ -50,13 +50,13 @@ pub record ShutsOut (r : Routine) : Type 0 where
 -- a routine that opens what `answer` opens, and refuses every other call
 unfoldable pub refuser : Routine
 refuser st (opening marks) = answer st (opening marks)
-refuser st closing = unchanged st wrongSize
-refuser st (seeking work) = unchanged (lending work st) wrongSize
-refuser st (advancing work) = unchanged (lending work st) wrongSize
-refuser st (inserting work) = unchanged (lending work st) wrongSize
-refuser st (deleting work) = unchanged (lending work st) wrongSize
-refuser st (updating work) = unchanged (lending work st) wrongSize
-refuser st (extending work) = unchanged (lending work st) wrongSize
+refuser st closing = unchanged st wrong_size
+refuser st (seeking work) = unchanged (lending work st) wrong_size
+refuser st (advancing work) = unchanged (lending work st) wrong_size
+refuser st (inserting work) = unchanged (lending work st) wrong_size
+refuser st (deleting work) = unchanged (lending work st) wrong_size
+refuser st (updating work) = unchanged (lending work st) wrong_size
+refuser st (extending work) = unchanged (lending work st) wrong_size
 
 -- "Demand 3 alone would pass the first": it refuses everything and meets demand 3; its calls are not right
 pub record PassesAlone (r : Routine) : Type 0 where
@@ -86,15 +86,15 @@ forgetful st (updating work) = forgetting st (answer st (updating work))
 forgetful st (extending work) = forgetting st (answer st (extending work))
 
 -- `answer`, but for what CLOSE comes to
-unfoldable pub closingBy : (State → Outcome) → Routine
-closingBy close st (opening marks) = answer st (opening marks)
-closingBy close st closing = close st
-closingBy close st (seeking work) = answer st (seeking work)
-closingBy close st (advancing work) = answer st (advancing work)
-closingBy close st (inserting work) = answer st (inserting work)
-closingBy close st (deleting work) = answer st (deleting work)
-closingBy close st (updating work) = answer st (updating work)
-closingBy close st (extending work) = answer st (extending work)
+unfoldable pub closing_by : (State → Outcome) → Routine
+closing_by close st (opening marks) = answer st (opening marks)
+closing_by close st closing = close st
+closing_by close st (seeking work) = answer st (seeking work)
+closing_by close st (advancing work) = answer st (advancing work)
+closing_by close st (inserting work) = answer st (inserting work)
+closing_by close st (deleting work) = answer st (deleting work)
+closing_by close st (updating work) = answer st (updating work)
+closing_by close st (extending work) = answer st (extending work)
 
 -- CLOSE's number and transfers, with another state left where the number is 0
 unfoldable pub feigning : State → Outcome → Outcome
@@ -102,11 +102,11 @@ feigning left o = record { number = o.number; transfers = o.transfers; after = c
 
 -- CLOSE drops a flagged buffer: it counts the write, and the session is closed, but nothing is written
 unfoldable pub dropping : Routine
-dropping = closingBy λ st. feigning (lent (atRest false st.session) st.file st.buffer st.work) (answer st closing)
+dropping = closing_by λ st. feigning (lent (at_rest false st.session) st.file st.buffer st.work) (answer st closing)
 
 -- CLOSE leaves the flagged buffer unwritten in an open session, position none: no call of that session misses a record, any other session does
 unfoldable pub unwritten : Routine
-unwritten = closingBy λ st.
+unwritten = closing_by λ st.
     let s = st.session in
     let still : Session = record { desc = s.desc; opened = s.opened; current = s.current; flag = s.flag; placed = false; position = zeros 63 } in
     feigning (lent still st.file st.buffer st.work) (answer st closing)

@@ -10,17 +10,17 @@ use borrow.Author.Tests.{eq-eqb, ne_eqb}
 use lib.Dec.{eqb}
 use lib.ListN.{length}
 use Rattle.words.specs.Words.{part, put}
-use Rattle.words.proofs.Parts.{length_part, length-put, getD-put-before}
+use Rattle.words.proofs.Parts.{length_part, length-put, get_or-put-before}
 use Rattle.table.specs.declared.Shape.{Shape}
 use Rattle.table.specs.Tables.{count, place, key_at, removed, replaced}
 use Rattle.table.proofs.Places.{row-le, row_lt}
 use Rattle.table.proofs.Lengths.{length_removed}
 use Rattle.drum.specs.declared.Description.{Description}
-use Rattle.drum.specs.Params.{I, masterShape, index_shape, detailShape}
-use Rattle.drum.specs.Blocks.{Fitting, block_at, putBlock}
+use Rattle.drum.specs.Params.{I, master_shape, index_shape, detail_shape}
+use Rattle.drum.specs.Blocks.{Fitting, block_at, put_block}
 use Rattle.drum.proofs.Good.{caps}
 use Rattle.drum.proofs.Forms.{index-tag}
-use Rattle.rules.specs.Dlete.{entryGone}
+use Rattle.rules.specs.Dlete.{entry_gone}
 use Rattle.dlete.specs.Fits.{HasEntry, EntryIn}
 use Rattle.dlete.specs.Freed.{handed}
 
@@ -35,16 +35,16 @@ pub record Removable (h : Shape) (t : List ℕ) (i : ℕ) : Type 0 where
   pub most : h.tag + count h t ≤ 262143
 
 -- the rows of each table begin behind its count
-pub master-base : (p : Description) (h : Shape) → h ≡ masterShape p → 1 ≤ h.base
-unfolding masterShape
+pub master-base : (p : Description) (h : Shape) → h ≡ master_shape p → 1 ≤ h.base
+unfolding master_shape
 master-base p h e = rw e (omega arith)
 
 pub index-base : (p : Description) (h : Shape) → h ≡ index_shape p → 1 ≤ h.base
 unfolding index_shape
 index-base p h e = rw e (omega arith)
 
-pub detail-base : (p : Description) (h : Shape) → h ≡ detailShape p → 1 ≤ h.base
-unfolding detailShape
+pub detail-base : (p : Description) (h : Shape) → h ≡ detail_shape p → 1 ≤ h.base
+unfolding detail_shape
 detail-base p h e = rw e (omega arith)
 
 -- a key written over the one of the entry before
@@ -58,7 +58,7 @@ module _ (k j : ℕ) (t key : List ℕ) (l : length key ≡ k) (h : 1 + j * (k +
   unfolding count
   over-count g =
       let r = row-le (j - 1) j (k + 1) (omega arith) in
-      ap (λ (x : ℕ). x - g.tag) (getD-put-before t (1 + (j - 1) * (k + 1)) key 0 (omega arith) (omega arith))
+      ap (λ (x : ℕ). x - g.tag) (get_or-put-before t (1 + (j - 1) * (k + 1)) key 0 (omega arith) (omega arith))
 
 module _ (p : Description) (t : List ℕ) (j : ℕ) (h : HasEntry p t j) where
   -- the entries lie in the text
@@ -135,11 +135,11 @@ module _ (p : Description) (t : List ℕ) (j : ℕ) (h : HasEntry p t j) where
       record { within = rw (count-handed, length-handed) e; below = rw n h.below; most = omega (arith, index-tag p h.good) }
 
 module _ (p : Description) (t : List ℕ) (j : ℕ) where
-  gone-is : entryGone p j t ≡ removed (index_shape p) j (handed p j t)
-  unfolding entryGone handed
+  gone-is : entry_gone p j t ≡ removed (index_shape p) j (handed p j t)
+  unfolding entry_gone handed
   gone-is = refl
 
-  pub length-gone : HasEntry p t j → length (entryGone p j t) ≡ p.wpb
+  pub length-gone : HasEntry p t j → length (entry_gone p j t) ≡ p.wpb
   length-gone h =
       let r = handed-removable p t j h in
       ap length gone-is ∙ length_removed (index_shape p) j (handed p j t) r.below r.within ∙ length-handed p t j h
@@ -165,7 +165,7 @@ module _ (p : Description) (t : List ℕ) (j : ℕ) where
     pub handed-most : h ≡ index_shape p → h.tag + count h u ≤ 262143
     handed-most eh = rw (eh, eu) (handed-removable p t j has).most
 
-  pub gone-by : (h : Shape) (u r : List ℕ) → r ≡ removed h j u → u ≡ handed p j t → h ≡ index_shape p → r ≡ entryGone p j t
+  pub gone-by : (h : Shape) (u r : List ℕ) → r ≡ removed h j u → u ≡ handed p j t → h ≡ index_shape p → r ≡ entry_gone p j t
   gone-by h u r er eu eh = removed-from h (index_shape p) j u (handed p j t) r eh eu er ∙ sym gone-is
 
 -- the index block by way of the buffer
@@ -176,6 +176,6 @@ module _ (p : Description) (f t : List ℕ) (b j : ℕ) (has : EntryIn p f b j) 
   pub entry_read : t ≡ block_at p f b → HasEntry p t j
   entry_read e = rw e has.entry
 
-pub entry-stored : (p : Description) (f g t u : List ℕ) (b j : ℕ) → t ≡ block_at p f b → u ≡ entryGone p j t → g ≡ putBlock p f b u
-    → g ≡ putBlock p f b (entryGone p j (block_at p f b))
+pub entry-stored : (p : Description) (f g t u : List ℕ) (b j : ℕ) → t ≡ block_at p f b → u ≡ entry_gone p j t → g ≡ put_block p f b u
+    → g ≡ put_block p f b (entry_gone p j (block_at p f b))
 entry-stored p f g t u b j et eu eg = rw (eg, eu, et)

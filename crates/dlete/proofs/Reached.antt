@@ -11,12 +11,12 @@ use Rattle.table.specs.declared.Shape.{Shape}
 use Rattle.table.specs.Tables.{count, place, removed}
 use Rattle.table.proofs.Places.{row-le}
 use Rattle.drum.specs.declared.Description.{Description}
-use Rattle.drum.specs.Params.{D, detailShape}
+use Rattle.drum.specs.Params.{D, detail_shape}
 use Rattle.drum.specs.Blocks.{Fitting, Texts, seen}
 use Rattle.drum.proofs.Good.{caps}
 use Rattle.drum.proofs.Forms.{detail-tag}
 use Rattle.rules.specs.declared.Way.{Way}
-use Rattle.rules.specs.Lookup.{reached, textAt, storing}
+use Rattle.rules.specs.Lookup.{reached, text_at, storing}
 use Rattle.rules.specs.Told.{gave, told}
 use Rattle.acts.specs.declared.Arrived.{Arrived}
 use Rattle.acts.specs.Reach.{Come, came, come}
@@ -29,32 +29,32 @@ module _ (p : Description) (cur : ℕ) (f b : List ℕ) (flag : Bool) (way : Way
   v = seen p cur f b
 
   module _ (fits : RemoveFits v flag way i) (e : came a g t ≡ come (reached v flag way)) (fit : Fitting p f b) where
-    reached-row : Removable (detailShape p) t i
-    unfolding detailShape
+    reached-row : Removable (detail_shape p) t i
+    unfolding detail_shape
     reached-row =
         let et : t ≡ (reached v flag way).buffer = ap (λ (z : Come). z.buffer) e in
-        let ex : t ≡ textAt v way = et ∙ reached-text v flag way in
+        let ex : t ≡ text_at v way = et ∙ reached-text v flag way in
         let n : length t ≡ p.wpb = ap length et ∙ (reached-fits v fit flag way fits.reached).buffer-is in
-        let m : count (detailShape p) t ≤ D p = rw ex (way-counts v flag way fits.reached).1 in
+        let m : count (detail_shape p) t ≤ D p = rw ex (way-counts v flag way fits.reached).1 in
         let q = caps p fit.good in
-        let r = row-le (count (detailShape p) t) (D p) p.wpr m in
+        let r = row-le (count (detail_shape p) t) (D p) p.wpr m in
         record { within = omega arith; below = rw ex fits.below; most = omega (arith, detail-tag p fit.good) }
 
-    pub reached-within : h ≡ detailShape p → place h (count h t) ≤ length t
+    pub reached-within : h ≡ detail_shape p → place h (count h t) ≤ length t
     reached-within eh = rw eh reached-row.within
 
-    pub reached-below : h ≡ detailShape p → i < count h t
+    pub reached-below : h ≡ detail_shape p → i < count h t
     reached-below eh = rw eh reached-row.below
 
-    pub reached-most : h ≡ detailShape p → h.tag + count h t ≤ 262143
+    pub reached-most : h ≡ detail_shape p → h.tag + count h t ≤ 262143
     reached-most eh = rw eh reached-row.most
 
-  pub removed-told : (u : List ℕ) → came a g t ≡ come (reached v flag way) → u ≡ removed h i t → h ≡ detailShape p
+  pub removed-told : (u : List ℕ) → came a g t ≡ come (reached v flag way) → u ≡ removed h i t → h ≡ detail_shape p
       → gave (record { number = done; transfers = a.transfers; current = a.current; flag = true; keyed = true }) g u []
       ≡ told v flag []
-      (passed (storing done [] (reached v flag way) (removed (detailShape p) i (reached v flag way).buffer)))
+      (passed (storing done [] (reached v flag way) (removed (detail_shape p) i (reached v flag way).buffer)))
   unfolding storing
   removed-told u e eu eh =
       let et : t ≡ (reached v flag way).buffer = ap (λ (z : Come). z.buffer) e in
-      let x : u ≡ removed (detailShape p) i (reached v flag way).buffer = removed-from h _ i t _ u eh et eu in
+      let x : u ≡ removed (detail_shape p) i (reached v flag way).buffer = removed-from h _ i t _ u eh et eu in
       λ j. record { number = done; transfers = (e j).transfers; current = (e j).current; flag = true; keyed = true; file = (e j).file; buffer = x j; work = [] }

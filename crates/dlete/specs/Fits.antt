@@ -2,18 +2,18 @@
 use Rattle.std.specs.Prelude.{ℕ, ◌≤◌, ◌<◌, ◌≡◌, Bool, true, List, length}
 use Rattle.table.specs.Tables.{count}
 use Rattle.drum.specs.declared.Description.{Description}
-use Rattle.drum.specs.Params.{I, goodParams, fileSize, detailShape, index_shape}
+use Rattle.drum.specs.Params.{I, good_params, file_size, detail_shape, index_shape}
 use Rattle.drum.specs.Blocks.{Block, block_at, Texts, text_of}
 use Rattle.rules.specs.declared.Path.{Path}
 use Rattle.rules.specs.declared.Way.{Way}
 use Rattle.rules.specs.declared.Delete.{Delete}
 use Rattle.rules.specs.declared.Delete.TheVariants.{Bad, Stop, Remove, Empty, Both}
-use Rattle.rules.specs.Lookup.{textAt}
+use Rattle.rules.specs.Lookup.{text_at}
 use Rattle.rules.specs.Fits.{PathFits, FlushFits, WayFits}
 
 -- the text of an index block, with an entry that is not the only one
 pub record HasEntry (p : Description) (t : List ℕ) (j : ℕ) : Type 0 where
-  pub good : goodParams p ≡ true
+  pub good : good_params p ≡ true
   pub text-is : length t ≡ p.wpb
   pub others : 1 < count (index_shape p) t
   pub most : count (index_shape p) t ≤ I p
@@ -21,7 +21,7 @@ pub record HasEntry (p : Description) (t : List ℕ) (j : ℕ) : Type 0 where
 
 -- the same of index block b, where it lies in the file
 pub record EntryIn (p : Description) (f : List ℕ) (b j : ℕ) : Type 0 where
-  pub file-is : length f ≡ fileSize p
+  pub file-is : length f ≡ file_size p
   pub block : Block p b
   pub entry : HasEntry p (block_at p f b) j
 
@@ -33,7 +33,7 @@ pub record StopFits (v : Texts) (flag : Bool) (w : Path) : Type 0 where
 -- a record taken out of its block: the way that reaches the block is good, and the record is in it
 pub record RemoveFits (v : Texts) (flag : Bool) (way : Way) (i : ℕ) : Type 0 where
   pub reached : WayFits v flag way
-  pub below : i < count (detailShape v.desc) (textAt v way)
+  pub below : i < count (detail_shape v.desc) (text_at v way)
 
 -- an emptied block: the way that reaches it, the path to it, and the head of the chain are good
 pub record EmptyFits (v : Texts) (flag : Bool) (way : Way) (w : Path) (head : ℕ) : Type 0 where

@@ -3,7 +3,7 @@ use Rattle.std.specs.Prelude.{ℕ, ◌+◌, ◌-◌, Bool, cond, List, eqb}
 use Rattle.table.specs.Tables.{count, key_at, replaced}
 use Rattle.drum.specs.declared.Description.{Description}
 use Rattle.drum.specs.Params.{index_shape}
-use Rattle.drum.specs.Blocks.{putBlock, written, freeText, Texts, text_of}
+use Rattle.drum.specs.Blocks.{put_block, written, free_text, Texts, text_of}
 use Rattle.rules.specs.declared.Path.{Path}
 use Rattle.rules.specs.declared.Way.{Way}
 use Rattle.rules.specs.Lookup.{reached}
@@ -19,4 +19,4 @@ handed p j t =
 unfoldable pub freed : Texts → Bool → Way → Path → ℕ → List ℕ
 freed v flag way w link =
     let p = v.desc in
-    putBlock p (putBlock p (written p (reached v flag way).moves v.file) w.index (text_of v w.index)) w.detail (freeText p link)
+    put_block p (put_block p (written p (reached v flag way).moves v.file) w.index (text_of v w.index)) w.detail (free_text p link)

@@ -4,12 +4,12 @@ ghost use Rattle.numbers.specs.Numbers.{done};
 ghost use Rattle.numbers.specs.Checked.{passed};
 ghost use Rattle.words.specs.Words.{zeros};
 ghost use Rattle.table.specs.Tables.{removed};
-ghost use Rattle.drum.specs.Params.{detailShape};
-ghost use Rattle.drum.specs.Blocks.{Fitting, block_at, putBlock};
+ghost use Rattle.drum.specs.Params.{detail_shape};
+ghost use Rattle.drum.specs.Blocks.{Fitting, block_at, put_block};
 ghost use Rattle.rules.specs.Lookup.{reached, storing};
-ghost use Rattle.rules.specs.Dlete.{entryGone, emptyAll, bothAll, emptyFile, bothFile, deleteDone};
+ghost use Rattle.rules.specs.Dlete.{entry_gone, empty_all, both_all, empty_file, both_file, delete_done};
 ghost use Rattle.rules.specs.Told.{gave, told};
-ghost use Rattle.acts.specs.Reach.{seenBy};
+ghost use Rattle.acts.specs.Reach.{seen_by};
 ghost use Rattle.dlete.specs.Fits.{HasEntry, EntryIn, RemoveFits, EmptyFits, OneFits, DeleteFits};
 ghost use Rattle.dlete.specs.Freed.{handed, freed};
 ghost use Rattle.words.specs.Slices.{was, became};
@@ -34,7 +34,7 @@ fn hand_bound(p: Description, t: &mut [u32], j: usize)
 // Takes entry j out of an index block's text.
 fn entry_gone(p: Description, t: &mut [u32], j: usize)
     requires { HasEntry p t.old j }
-    ensures { became t ≡ entryGone p j (was t) }
+    ensures { became t ≡ entry_gone p j (was t) }
 {
     hand_bound(p, t, j);
     table::remove_row(p.index_shape(), t, j);
@@ -43,7 +43,7 @@ fn entry_gone(p: Description, t: &mut [u32], j: usize)
 // The same in index block b of the file, by way of the buffer.
 fn gone_in(p: Description, file: &mut [u32], buffer: &mut [u32], b: usize, j: usize)
     requires { EntryIn p file.old b j × (length buffer.old ≡ p.wpb) }
-    ensures { became file ≡ putBlock p (was file) b (entryGone p j (block_at p (was file) b)) }
+    ensures { became file ≡ put_block p (was file) b (entry_gone p j (block_at p (was file) b)) }
 {
     drum::read_block(p, file, buffer, b);
     entry_gone(p, buffer, j);
@@ -53,9 +53,9 @@ fn gone_in(p: Description, file: &mut [u32], buffer: &mut [u32], b: usize, j: us
 // The stores up to the index block: a flagged buffer, the index block's current text, which may stand in the buffer alone, and the emptied
 // block with its link.
 fn free_detail(at: Held, file: &mut [u32], buffer: &[u32], way: Way, w: Path, link: usize) -> usize
-    requires { Fitting at.desc file.old buffer.now × EmptyFits (seenBy at file.old buffer.now) at.flag way w link }
-    ensures { (result ≡ length (reached (seenBy at (was file) (was buffer)) at.flag way).moves)
-        × (became file ≡ freed (seenBy at (was file) (was buffer)) at.flag way w link) }
+    requires { Fitting at.desc file.old buffer.now × EmptyFits (seen_by at file.old buffer.now) at.flag way w link }
+    ensures { (result ≡ length (reached (seen_by at (was file) (was buffer)) at.flag way).moves)
+        × (became file ≡ freed (seen_by at (was file) (was buffer)) at.flag way w link) }
 {
     let moved = acts::follow(at, file, buffer, way);
     acts::stage(at.desc, at.current, file, buffer, w.index);
@@ -72,9 +72,9 @@ fn empty_one(
     w: Path,
     head: usize,
 ) -> usize
-    requires { Fitting at.desc file.old buffer.old × OneFits (seenBy at file.old buffer.old) at.flag way w head }
-    ensures { (result ≡ length (emptyAll (seenBy at (was file) (was buffer)) at.flag way w head))
-        × (became file ≡ emptyFile (seenBy at (was file) (was buffer)) at.flag way w head) }
+    requires { Fitting at.desc file.old buffer.old × OneFits (seen_by at file.old buffer.old) at.flag way w head }
+    ensures { (result ≡ length (empty_all (seen_by at (was file) (was buffer)) at.flag way w head))
+        × (became file ≡ empty_file (seen_by at (was file) (was buffer)) at.flag way w head) }
 {
     let moved = free_detail(at, file, buffer, way, w, head);
     words::put_word(file, 1, w.detail);
@@ -84,9 +84,9 @@ fn empty_one(
 
 // The block and its index block are left empty: the index block is made the chain's head after the block, and its master entry goes.
 fn empty_both(at: Held, file: &mut [u32], buffer: &[u32], way: Way, w: Path, head: usize) -> usize
-    requires { Fitting at.desc file.old buffer.now × EmptyFits (seenBy at file.old buffer.now) at.flag way w head }
-    ensures { (result ≡ length (bothAll (seenBy at (was file) (was buffer)) at.flag way w head))
-        × (became file ≡ bothFile (seenBy at (was file) (was buffer)) at.flag way w head) }
+    requires { Fitting at.desc file.old buffer.now × EmptyFits (seen_by at file.old buffer.now) at.flag way w head }
+    ensures { (result ≡ length (both_all (seen_by at (was file) (was buffer)) at.flag way w head))
+        × (became file ≡ both_file (seen_by at (was file) (was buffer)) at.flag way w head) }
 {
     let p = at.desc;
     let moved = free_detail(at, file, buffer, way, w, head);
@@ -114,11 +114,11 @@ fn none_held(buffer: &mut [u32], transfers: usize) -> Done
 
 // The record is taken out of its block, which is not left empty.
 fn remove_record(at: Held, file: &mut [u32], buffer: &mut [u32], way: Way, i: usize) -> Done
-    requires { Fitting at.desc file.old buffer.old × RemoveFits (seenBy at file.old buffer.old) at.flag way i }
+    requires { Fitting at.desc file.old buffer.old × RemoveFits (seen_by at file.old buffer.old) at.flag way i }
     ensures { gave result (became file) (became buffer) []
-        ≡ told (seenBy at (was file) (was buffer)) at.flag []
-        (passed (storing done [] (reached (seenBy at (was file) (was buffer)) at.flag way)
-        (removed (detailShape at.desc) i (reached (seenBy at (was file) (was buffer)) at.flag way).buffer))) }
+        ≡ told (seen_by at (was file) (was buffer)) at.flag []
+        (passed (storing done [] (reached (seen_by at (was file) (was buffer)) at.flag way)
+        (removed (detail_shape at.desc) i (reached (seen_by at (was file) (was buffer)) at.flag way).buffer))) }
 {
     let p = at.desc;
     let here = acts::reach(at, file, buffer, way);
@@ -134,10 +134,10 @@ fn remove_record(at: Held, file: &mut [u32], buffer: &mut [u32], way: Way, i: us
 
 // Does what was planned.
 pub fn do_dlete(deed: Delete, at: Held, file: &mut [u32], buffer: &mut [u32]) -> Done
-    requires { Fitting at.desc file.old buffer.old × DeleteFits (seenBy at file.old buffer.old) at.flag deed }
+    requires { Fitting at.desc file.old buffer.old × DeleteFits (seen_by at file.old buffer.old) at.flag deed }
     ensures { gave result (became file) (became buffer) []
-        ≡ told (seenBy at (was file) (was buffer)) at.flag []
-        (deleteDone (seenBy at (was file) (was buffer)) at.flag [] deed) }
+        ≡ told (seen_by at (was file) (was buffer)) at.flag []
+        (delete_done (seen_by at (was file) (was buffer)) at.flag [] deed) }
 {
     match deed {
         Delete::Bad => Done::refused(BAD_FILE, at.current, at.flag),

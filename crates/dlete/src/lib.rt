@@ -4,7 +4,7 @@ mod plan;
 
 ghost use Rattle.std.specs.Prelude.{◌≡◌, length};
 ghost use Rattle.drum.specs.Blocks.{Fitting};
-ghost use Rattle.rules.specs.Dlete.{dleteSteps};
+ghost use Rattle.rules.specs.Dlete.{dlete_steps};
 ghost use Rattle.rules.specs.Told.{Follows};
 
 use drum::Description;
@@ -20,7 +20,7 @@ pub fn dlete(
     work: &[u32],
 ) -> Done
     requires { Fitting p file.old buffer.old × (length work.now ≡ p.wpr) }
-    ensures { Follows result dleteSteps p current flag file buffer work }
+    ensures { Follows result dlete_steps p current flag file buffer work }
 {
     let deed = plan::plan_dlete(p, current, flag, file, buffer, work);
     let at = Held {

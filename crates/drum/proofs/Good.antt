@@ -8,7 +8,7 @@ use native.Mathlib.Omega.{arith}
 use borrow.Author.Tests.{le-leb, leb-true, eq-eqb, eqb-true, not-true, not-false}
 use Rattle.words.proofs.All.{and_both}
 use Rattle.drum.specs.declared.Description.{Description}
-use Rattle.drum.specs.Params.{D, I, FD, FI, masterSize, fileSize, every, mostSections, goodParams, sizeIf, sized}
+use Rattle.drum.specs.Params.{D, I, FD, FI, master_size, file_size, every, most_sections, good_params, size_if, sized}
 
 -- tests that all hold, one by one
 abbrev pub Hold : List Bool → Type 0
@@ -33,14 +33,14 @@ pub record Good (p : Description) : Type 0 where
   pub space-records : p.space ≤ D p - 2
   pub space-entries : p.space ≤ I p - 2
   pub control-least : 1 ≤ p.control
-  pub control-most : p.control ≤ mostSections
+  pub control-most : p.control ≤ most_sections
   pub n-least : 2 ≤ p.n
   pub n-most : p.n ≤ 262142
   pub form-least : 1 ≤ p.form
   pub form-most : p.form ≤ 2
 
-pub good-facts : (p : Description) → goodParams p ≡ true → Good p
-unfolding goodParams
+pub good-facts : (p : Description) → good_params p ≡ true → Good p
+unfolding good_params
 good-facts p h =
     let (even, (w₁, (w₂, (k₁, (k₂, (key, (d, (i, (sd, (si, (c₁, (c₂, (n₁, (n₂, (f₁, (f₂, u)))))))))))))))) = every-hold _ h in
     record {
@@ -62,15 +62,15 @@ good-facts p h =
       form-most = leb-true _ _ f₂;
     }
 
-pub good-yes : (p : Description) → Good p → goodParams p ≡ true
-unfolding goodParams every
+pub good-yes : (p : Description) → Good p → good_params p ≡ true
+unfolding good_params every
 good-yes p g =
     simp (eq-eqb _ _ g.wpb-even, le-leb _ _ g.wpb-least, le-leb _ _ g.wpb-most, le-leb _ _ g.k-least, le-leb _ _ g.k-most, le-leb _ _ g.key, le-leb _ _ g.two_records, le-leb _ _ g.two-entries, le-leb _ _ g.space-records, le-leb _ _ g.space-entries, le-leb _ _ g.control-least, le-leb _ _ g.control-most, le-leb _ _ g.n-least, le-leb _ _ g.n-most, le-leb _ _ g.form-least, le-leb _ _ g.form-most)
 
-pub good-no : (p : Description) → (Good p → ⊥) → goodParams p ≡ false
-good-no p f = go (goodParams p) refl
+pub good-no : (p : Description) → (Good p → ⊥) → good_params p ≡ false
+good-no p f = go (good_params p) refl
   where
-    go : (b : Bool) → goodParams p ≡ b → goodParams p ≡ false
+    go : (b : Bool) → good_params p ≡ b → good_params p ≡ false
     go true e = absurd (f (good-facts p e))
     go false e = e
 
@@ -88,14 +88,14 @@ pub record Caps (p : Description) : Type 0 where
   pub fd-least : 2 ≤ FD p
   pub fi-least : 2 ≤ FI p
   pub sections-most : p.control * (p.k + 1) ≤ 1048512
-  pub sections-fit : 3 + p.control * (p.k + 1) ≤ masterSize p
-  pub master-is : masterSize p ≤ 4 + p.control * (p.k + 1)
-  pub master-most : masterSize p ≤ 1048516
+  pub sections-fit : 3 + p.control * (p.k + 1) ≤ master_size p
+  pub master-is : master_size p ≤ 4 + p.control * (p.k + 1)
+  pub master-most : master_size p ≤ 1048516
   pub blocks-most : p.n * p.wpb ≤ 1073733632
-  pub file-is : fileSize p ≡ masterSize p + p.n * p.wpb
+  pub file-is : file_size p ≡ master_size p + p.n * p.wpb
 
-pub caps : (p : Description) → goodParams p ≡ true → Caps p
-unfolding D I FD FI masterSize fileSize
+pub caps : (p : Description) → good_params p ≡ true → Caps p
+unfolding D I FD FI master_size file_size
 caps p h =
     let g = good-facts p h in
     let r : (p.wpb - 1) / p.wpr * p.wpr ≤ p.wpb - 1 = div-mul-le_self (p.wpb - 1) p.wpr in
@@ -131,8 +131,8 @@ caps p h =
 
 -- a file and a buffer of the right lengths
 pub record Sized (p : Description) (file buffer : ℕ) : Type 0 where
-  pub good : goodParams p ≡ true
-  pub file-is : file ≡ fileSize p
+  pub good : good_params p ≡ true
+  pub file-is : file ≡ file_size p
   pub buffer-is : buffer ≡ p.wpb
 
 pub sized-facts : (p : Description) (file buffer : ℕ) → sized p file buffer ≡ true → Sized p file buffer
@@ -143,17 +143,17 @@ sized-facts p file buffer h =
 
 -- a size is taken of good parameters alone; t is the code's test of them
 module _ (p : Description) (t : Bool) where
-  pub was-good : t ≡ goodParams p → not t ≡ false → goodParams p ≡ true
+  pub was-good : t ≡ good_params p → not t ≡ false → good_params p ≡ true
   was-good e h = sym e ∙ not-false t h
 
-  pub size_none : (n : ℕ) → t ≡ goodParams p → not t ≡ true → 0 ≡ sizeIf p n
-  unfolding sizeIf
+  pub size_none : (n : ℕ) → t ≡ good_params p → not t ≡ true → 0 ≡ size_if p n
+  unfolding size_if
   size_none n e h = simp (sym e ∙ not-true t h)
 
-  pub size-some : (n r : ℕ) → r ≡ n → t ≡ goodParams p → not t ≡ false → r ≡ sizeIf p n
-  unfolding sizeIf
+  pub size-some : (n r : ℕ) → r ≡ n → t ≡ good_params p → not t ≡ false → r ≡ size_if p n
+  unfolding size_if
   size-some n r i e h = simp (was-good e h) i
 
-pub size-good : (p : Description) (n r : ℕ) → r ≡ sizeIf p n → goodParams p ≡ true → r ≡ n
-unfolding sizeIf
+pub size-good : (p : Description) (n r : ℕ) → r ≡ size_if p n → good_params p ≡ true → r ≡ n
+unfolding size_if
 size-good p n r e g = e ∙ simp g

@@ -13,7 +13,7 @@ use Rattle.words.specs.Words.{part}
 use Rattle.drum.specs.declared.Description.{Description}
 use Rattle.drum.specs.Params.{start}
 use Rattle.drum.specs.Blocks.{Fitting, Block, block_at, seen, text_of}
-use Rattle.drum.specs.Parts.{Borrowed, Part, part_of, word_of, partText, textPart}
+use Rattle.drum.specs.Parts.{Borrowed, Part, part_of, word_of, part_text, text_part}
 use Rattle.drum.proofs.Good.{caps}
 use Rattle.drum.proofs.Blocks.{block_within}
 
@@ -33,22 +33,22 @@ module _ (p : Description) (current : ℕ) (file buffer : Borrowed) (b : ℕ) wh
   tested : Bool → Part
   tested t = record { address = cond t buffer.ref_ptr (word_of file (start p b)); words = cond t buffer.now (block_at p file.now b) }
 
-  by-test : (t : Bool) → eqb b current ≡ t → tested t ≡ textPart p current file buffer b
-  unfolding tested partText text_of
+  by-test : (t : Bool) → eqb b current ≡ t → tested t ≡ text_part p current file buffer b
+  unfolding tested part_text text_of
   by-test t e = ap tested (sym e)
 
-  pub text-here : b ≡ current → part_of buffer ≡ textPart p current file buffer b
+  pub text-here : b ≡ current → part_of buffer ≡ text_part p current file buffer b
   unfolding tested
   text-here e = by-test true (eq-eqb b current e)
 
   pub text-elsewhere : (at : ℕ) → at ≡ start p b → (b ≡ current → ⊥)
-      → ◌≡◌ {A = Part} (record { address = word_of file at; words = take (at + p.wpb - at) (drop at file.now) }) (textPart p current file buffer b)
+      → ◌≡◌ {A = Part} (record { address = word_of file at; words = take (at + p.wpb - at) (drop at file.now) }) (text_part p current file buffer b)
   unfolding tested block_at part
   text-elsewhere at e h =
       let n : at + p.wpb - at ≡ p.wpb = omega arith in
       (λ j. record { address = word_of file (e j); words = take (n j) (drop (e j) file.now) }) ∙ by-test false (ne_eqb b current h)
 
 -- its words alone
-pub text-words : (p : Description) (current : ℕ) (file buffer : Borrowed) (b : ℕ) (r : Borrowed) → part_of r ≡ textPart p current file buffer b
+pub text-words : (p : Description) (current : ℕ) (file buffer : Borrowed) (b : ℕ) (r : Borrowed) → part_of r ≡ text_part p current file buffer b
     → r.now ≡ text_of (seen p current file.now buffer.now) b
 text-words p current file buffer b r e = ap (λ (x : Part). x.words) e

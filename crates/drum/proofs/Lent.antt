@@ -11,12 +11,12 @@ use Rattle.table.specs.declared.Shape.{Shape}
 use Rattle.table.specs.Tables.{count, place, inserted, replaced, laid}
 use Rattle.table.specs.Splits.{renamed}
 use Rattle.drum.specs.declared.Description.{Description}
-use Rattle.drum.specs.Params.{fileSize, start, indexKind, index_shape, tag_of}
-use Rattle.drum.specs.Blocks.{Fitting, Block, block_at, putBlock}
+use Rattle.drum.specs.Params.{file_size, start, index_kind, index_shape, tag_of}
+use Rattle.drum.specs.Blocks.{Fitting, Block, block_at, put_block}
 use Rattle.drum.specs.Inside.{HasBlock, Takes}
 use Rattle.drum.proofs.Good.{caps}
 use Rattle.drum.proofs.Forms.{entries-read}
-use Rattle.drum.proofs.Blocks.{block_within, length-block, length-putBlock, block_same, block-over, lent-block}
+use Rattle.drum.proofs.Blocks.{block_within, length-block, length-put_block, block_same, block-over, lent-block}
 
 module _ (p : Description) (f : List ℕ) (b : ℕ) where
   -- the block lies in the file
@@ -48,7 +48,7 @@ module _ (p : Description) (f : List ℕ) (b : ℕ) where
       z = omega arith
 
   -- it is the count of an index block, with its tag
-  pub first-entries : (a n g r : ℕ) → r ≡ n - g → n ≡ get_or f a 0 → g ≡ tag_of p indexKind → HasBlock p f b → a ≡ start p b
+  pub first-entries : (a n g r : ℕ) → r ≡ n - g → n ≡ get_or f a 0 → g ≡ tag_of p index_kind → HasBlock p f b → a ≡ start p b
       → r ≡ count (index_shape p) (block_at p f b)
   first-entries a n g r er en eg h e = entries-read p (block_at p f b) r n g er (first_word a n en h e) eg
 
@@ -64,30 +64,30 @@ module _ (p : Description) (f : List ℕ) (b : ℕ) where
 
   -- a text that comes back is the block's then
   pub given_back : (a : ℕ) (t : List ℕ) → HasBlock p f b → a ≡ start p b → length t ≡ length (mid_of a (a + p.wpb - a) f)
-      → put_mid a (a + p.wpb - a) f t ≡ putBlock p f b t
+      → put_mid a (a + p.wpb - a) f t ≡ put_block p f b t
   given_back a t h e k = lent-block p f t b a (a + p.wpb - a) e (omega arith) (k ∙ lent_length a h e)
 
   -- each change of the words that are lent is that change of the block
   changed-back : (g : List ℕ → List ℕ) (a : ℕ) (t : List ℕ) → HasBlock p f b → a ≡ start p b → t ≡ g (mid_of a (a + p.wpb - a) f)
-      → length t ≡ length (mid_of a (a + p.wpb - a) f) → put_mid a (a + p.wpb - a) f t ≡ putBlock p f b (g (block_at p f b))
-  changed-back g a t h e et k = given_back a t h e k ∙ ap (putBlock p f b) (et ∙ ap g (lent a e))
+      → length t ≡ length (mid_of a (a + p.wpb - a) f) → put_mid a (a + p.wpb - a) f t ≡ put_block p f b (g (block_at p f b))
+  changed-back g a t h e et k = given_back a t h e k ∙ ap (put_block p f b) (et ∙ ap g (lent a e))
 
   module _ (a : ℕ) (t : List ℕ) where
     pub laid-back : (n : ℕ) (rows : List ℕ) → t ≡ laid (length (mid_of a (a + p.wpb - a) f)) n rows → HasBlock p f b → a ≡ start p b
-        → length t ≡ length (mid_of a (a + p.wpb - a) f) → put_mid a (a + p.wpb - a) f t ≡ putBlock p f b (laid p.wpb n rows)
+        → length t ≡ length (mid_of a (a + p.wpb - a) f) → put_mid a (a + p.wpb - a) f t ≡ put_block p f b (laid p.wpb n rows)
     laid-back n rows et h e k =
-        given_back a t h e k ∙ ap (putBlock p f b) (et ∙ ap (λ (w : ℕ). laid w n rows) (lent_length a h e))
+        given_back a t h e k ∙ ap (put_block p f b) (et ∙ ap (λ (w : ℕ). laid w n rows) (lent_length a h e))
 
     pub inserted-back : (h : Shape) (i : ℕ) (r : List ℕ) → t ≡ inserted h i r (mid_of a (a + p.wpb - a) f) → HasBlock p f b → a ≡ start p b
-        → length t ≡ length (mid_of a (a + p.wpb - a) f) → put_mid a (a + p.wpb - a) f t ≡ putBlock p f b (inserted h i r (block_at p f b))
+        → length t ≡ length (mid_of a (a + p.wpb - a) f) → put_mid a (a + p.wpb - a) f t ≡ put_block p f b (inserted h i r (block_at p f b))
     inserted-back h i r et has e k = changed-back (inserted h i r) a t has e et k
 
     pub replaced-back : (h : Shape) (i : ℕ) (r : List ℕ) → t ≡ replaced h i r (mid_of a (a + p.wpb - a) f) → HasBlock p f b → a ≡ start p b
-        → length t ≡ length (mid_of a (a + p.wpb - a) f) → put_mid a (a + p.wpb - a) f t ≡ putBlock p f b (replaced h i r (block_at p f b))
+        → length t ≡ length (mid_of a (a + p.wpb - a) f) → put_mid a (a + p.wpb - a) f t ≡ put_block p f b (replaced h i r (block_at p f b))
     replaced-back h i r et has e k = changed-back (replaced h i r) a t has e et k
 
     pub renamed-back : (h : Shape) (i x : ℕ) → t ≡ set (mid_of a (a + p.wpb - a) f) (place h i + h.width) x → HasBlock p f b → a ≡ start p b
-        → length t ≡ length (mid_of a (a + p.wpb - a) f) → put_mid a (a + p.wpb - a) f t ≡ putBlock p f b (renamed h i x (block_at p f b))
+        → length t ≡ length (mid_of a (a + p.wpb - a) f) → put_mid a (a + p.wpb - a) f t ≡ put_block p f b (renamed h i x (block_at p f b))
     unfolding renamed
     renamed-back h i x et has e k = changed-back (renamed h i x) a t has e et k
 
@@ -107,25 +107,25 @@ pub held : (p : Description) (f b : List ℕ) (x : ℕ) → Fitting p f b → 1 
 held p f b x fit l m = record { good = fit.good; file-is = fit.file-is; least = l; most = m }
 
 -- and has them still when one of them was written
-pub held-still : (p : Description) (f g : List ℕ) (b x : ℕ) (t : List ℕ) → g ≡ putBlock p f b t → length t ≡ p.wpb → HasBlock p f b → HasBlock p f x → HasBlock p g x
+pub held-still : (p : Description) (f g : List ℕ) (b x : ℕ) (t : List ℕ) → g ≡ put_block p f b t → length t ≡ p.wpb → HasBlock p f b → HasBlock p f x → HasBlock p g x
 held-still p f g b x t e n h k =
     record {
       good = k.good;
-      file-is = ap length e ∙ length-putBlock p f h.file-is b (h.least, h.most) t n;
+      file-is = ap length e ∙ length-put_block p f h.file-is b (h.least, h.most) t n;
       least = k.least;
       most = k.most;
     }
 
 -- a block changed twice
 pub changed-twice : (p : Description) (f f₁ f₂ : List ℕ) (b : ℕ) (t u : List ℕ) → HasBlock p f b → length t ≡ p.wpb → length u ≡ p.wpb
-    → f₁ ≡ putBlock p f b t → (g : List ℕ → List ℕ) → f₂ ≡ putBlock p f₁ b (g (block_at p f₁ b)) → g t ≡ u → f₂ ≡ putBlock p f b u
+    → f₁ ≡ put_block p f b t → (g : List ℕ → List ℕ) → f₂ ≡ put_block p f₁ b (g (block_at p f₁ b)) → g t ≡ u → f₂ ≡ put_block p f b u
 changed-twice p f f₁ f₂ b t u h ht hu e₁ g e₂ e =
     let hf = h.file-is in
     let hb : Block p b = (h.least, h.most) in
     e₂
-    ∙ ap (λ (y : List ℕ). putBlock p y b (g (block_at p y b))) e₁
-    ∙ ap (λ (y : List ℕ). putBlock p (putBlock p f b t) b (g y)) (block_same p f hf b hb t ht)
-    ∙ ap (putBlock p (putBlock p f b t) b) e
+    ∙ ap (λ (y : List ℕ). put_block p y b (g (block_at p y b))) e₁
+    ∙ ap (λ (y : List ℕ). put_block p (put_block p f b t) b (g y)) (block_same p f hf b hb t ht)
+    ∙ ap (put_block p (put_block p f b t) b) e
     ∙ block-over p f hf b hb t ht u hu
 
 -- a count, rows and zeros, by a store, a copy and zeros
@@ -160,6 +160,6 @@ module _ (p : Description) (f b : List ℕ) (x a : ℕ) (e : a ≡ start p x) (f
       let n = length_part a p.wpb f block-end ∙ sym fit.buffer-is in
       q ∙ put_all b (part a p.wpb f) n ∙ ap (λ (y : ℕ). part y p.wpb f) e
 
-  pub written-by : (g : List ℕ) → g ≡ put f a (part 0 p.wpb b) → g ≡ putBlock p f x b
-  unfolding putBlock
+  pub written-by : (g : List ℕ) → g ≡ put f a (part 0 p.wpb b) → g ≡ put_block p f x b
+  unfolding put_block
   written-by g q = q ∙ ap (put f a) (part-all p.wpb b fit.buffer-is) ∙ ap (λ (y : ℕ). put f y b) e

@@ -10,13 +10,13 @@ use mir.Val.{Fits}
 use Rattle.table.specs.Tables.{count}
 use Rattle.table.proofs.Places.{row_lt}
 use Rattle.drum.specs.declared.Description.{Description}
-use Rattle.drum.specs.Params.{D, I, goodParams, detailShape}
+use Rattle.drum.specs.Params.{D, I, good_params, detail_shape}
 use Rattle.drum.specs.Blocks.{Fitting, seen, text_of}
 use Rattle.drum.proofs.Good.{caps}
-use Rattle.drum.proofs.Blocks.{length-textOf}
+use Rattle.drum.proofs.Blocks.{length-text_of}
 
 -- good parameters
-module _ (p : Description) (good : goodParams p ≡ true) where
+module _ (p : Description) (good : good_params p ≡ true) where
   pub block-wide : 6 ≤ p.wpb
   block-wide = (caps p good).facts.wpb-least
 
@@ -49,7 +49,7 @@ module _ (p : Description) (good : goodParams p ≡ true) where
 module _ (p : Description) (cur : ℕ) (f b t : List ℕ) (a : ℕ) (e : t ≡ text_of (seen p cur f b) a)
     (fit : Fitting p f b) (least : 1 ≤ a) (most : a ≤ p.n) where
   pub text-long : length t ≡ p.wpb
-  text-long = ap length e ∙ length-textOf (seen p cur f b) a fit (least, most)
+  text-long = ap length e ∙ length-text_of (seen p cur f b) a fit (least, most)
 
   pub text-some : 0 < length t
   text-some =
@@ -58,8 +58,8 @@ module _ (p : Description) (cur : ℕ) (f b t : List ℕ) (a : ℕ) (e : t ≡ t
       omega arith
 
 -- the last row of a block lies in it
-module _ (p : Description) (t : List ℕ) (n : ℕ) (en : n ≡ count (detailShape p) t) (good : goodParams p ≡ true)
-    (long : length t ≡ p.wpb) (least : 1 ≤ count (detailShape p) t) (most : count (detailShape p) t ≤ D p) where
+module _ (p : Description) (t : List ℕ) (n : ℕ) (en : n ≡ count (detail_shape p) t) (good : good_params p ≡ true)
+    (long : length t ≡ p.wpb) (least : 1 ≤ count (detail_shape p) t) (most : count (detail_shape p) t ≤ D p) where
   pub last_within : 1 + (n - 1) * p.wpr + p.k ≤ length t
   last_within =
       let g = caps p good in

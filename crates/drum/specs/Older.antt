@@ -2,11 +2,11 @@
 -- proved here.
 use Rattle.std.specs.Prelude.{◌-◌, ◌%◌, ◌≤◌, ◌≡◌, Bool, true, [], ◌∷◌, leb, eqb}
 use Rattle.drum.specs.declared.Description.{Description}
-use Rattle.drum.specs.Params.{D, I, every, goodParams}
+use Rattle.drum.specs.Params.{D, I, every, good_params}
 
 -- document 01's table: "CONTROL, sections: 1..4095" [P7]
-unfoldable pub olderParams : Description → Bool
-olderParams p =
+unfoldable pub older_params : Description → Bool
+older_params p =
     every
     (eqb (p.wpb % 2) 0 ∷ leb 6 p.wpb ∷ leb p.wpb 4096
     ∷ leb 1 p.k ∷ leb p.k 63
@@ -19,5 +19,5 @@ olderParams p =
 
 -- with CONTROL up to 4095 and the first block form a description is good exactly as before, and all that were good are
 pub record OlderOpen : Type 0 where
-  pub below : (p : Description) → p.control ≤ 4095 → p.form ≡ 1 → goodParams p ≡ olderParams p
-  pub still : (p : Description) → olderParams p ≡ true → p.form ≡ 1 → goodParams p ≡ true
+  pub below : (p : Description) → p.control ≤ 4095 → p.form ≡ 1 → good_params p ≡ older_params p
+  pub still : (p : Description) → older_params p ≡ true → p.form ≡ 1 → good_params p ≡ true

@@ -23,9 +23,9 @@ abbrev pub word_of : Borrowed → ℕ → ℕ × ℕ
 word_of s n = (s.ref_ptr.0, n * 4 + s.ref_ptr.1)
 
 -- "Current text of a block: the buffer if it is the current block, else the file": where it lies [S4]
-unfoldable pub partText : Description → ℕ → Borrowed → Borrowed → ℕ → ℕ × ℕ
-partText p current file buffer b = cond (eqb b current) buffer.ref_ptr (word_of file (start p b))
+unfoldable pub part_text : Description → ℕ → Borrowed → Borrowed → ℕ → ℕ × ℕ
+part_text p current file buffer b = cond (eqb b current) buffer.ref_ptr (word_of file (start p b))
 
 -- the current text of block b as a part [S4, S5]
-abbrev pub textPart : Description → ℕ → Borrowed → Borrowed → ℕ → Part
-textPart p current file buffer b = record { address = partText p current file buffer b; words = text_of (seen p current file.now buffer.now) b }
+abbrev pub text_part : Description → ℕ → Borrowed → Borrowed → ℕ → Part
+text_part p current file buffer b = record { address = part_text p current file buffer b; words = text_of (seen p current file.now buffer.now) b }

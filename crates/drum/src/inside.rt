@@ -5,7 +5,7 @@ ghost use Rattle.words.specs.Slices.{was, became};
 ghost use Rattle.table.specs.Tables.{count, place, inserted, replaced, laid};
 ghost use Rattle.table.specs.Splits.{renamed};
 ghost use Rattle.drum.specs.Params.{index_shape};
-ghost use Rattle.drum.specs.Blocks.{block_at, putBlock, freeText};
+ghost use Rattle.drum.specs.Blocks.{block_at, put_block, free_text};
 ghost use Rattle.drum.specs.Inside.{HasBlock, Takes};
 
 use super::{Description, kinds};
@@ -14,7 +14,7 @@ use table::Shape;
 // Writes block b anew: a count, rows, and zeros.
 pub fn lay_block(p: Description, file: &mut [u32], b: usize, count: usize, rows: &[u32])
     requires { HasBlock p file.old b × (1 + length rows.now ≤ p.wpb) × (count ≤ 262143) }
-    ensures { became file ≡ putBlock p (was file) b (laid p.wpb count (was rows)) }
+    ensures { became file ≡ put_block p (was file) b (laid p.wpb count (was rows)) }
 {
     let start = p.start(b);
     let end = start + p.wpb;
@@ -24,7 +24,7 @@ pub fn lay_block(p: Description, file: &mut [u32], b: usize, count: usize, rows:
 // Writes block b as a free block: its kind where the form has one, its link, and zeros.
 pub fn free_block(p: Description, file: &mut [u32], b: usize, link: usize)
     requires { HasBlock p file.old b × (link ≤ 262143) }
-    ensures { became file ≡ putBlock p (was file) b (freeText p link) }
+    ensures { became file ≡ put_block p (was file) b (free_text p link) }
 {
     let start = p.start(b);
     let end = start + p.wpb;
@@ -60,7 +60,7 @@ fn lay_rows(t: &mut [u32], count: usize, rows: &[u32])
 pub fn insert_in(p: Description, file: &mut [u32], b: usize, h: Shape, i: usize, row: &[u32])
     requires { HasBlock p file.old b × Takes h i (block_at p file.old b) × (h.stride ≤ length row.now) }
     ensures { became file
-        ≡ putBlock p (was file) b (inserted h i (part 0 h.stride (was row)) (block_at p (was file) b)) }
+        ≡ put_block p (was file) b (inserted h i (part 0 h.stride (was row)) (block_at p (was file) b)) }
 {
     let start = p.start(b);
     let end = start + p.wpb;
@@ -70,7 +70,7 @@ pub fn insert_in(p: Description, file: &mut [u32], b: usize, h: Shape, i: usize,
 // Writes a key over that of row i of block b.
 pub fn set_key_in(p: Description, file: &mut [u32], b: usize, h: Shape, i: usize, key: &[u32])
     requires { HasBlock p file.old b × (place h i + h.width ≤ p.wpb) × (h.width ≤ length key.now) }
-    ensures { became file ≡ putBlock p (was file) b (replaced h i (part 0 h.width (was key)) (block_at p (was file) b)) }
+    ensures { became file ≡ put_block p (was file) b (replaced h i (part 0 h.width (was key)) (block_at p (was file) b)) }
 {
     let start = p.start(b);
     let end = start + p.wpb;
@@ -80,7 +80,7 @@ pub fn set_key_in(p: Description, file: &mut [u32], b: usize, h: Shape, i: usize
 // Lets entry i of block b name block x.
 pub fn set_name_in(p: Description, file: &mut [u32], b: usize, h: Shape, i: usize, x: usize)
     requires { HasBlock p file.old b × (place h i + h.width < p.wpb) × (x ≤ 262143) }
-    ensures { became file ≡ putBlock p (was file) b (renamed h i x (block_at p (was file) b)) }
+    ensures { became file ≡ put_block p (was file) b (renamed h i x (block_at p (was file) b)) }
 {
     let start = p.start(b);
     let end = start + p.wpb;

@@ -3,8 +3,8 @@
 ghost use Rattle.std.specs.Prelude.{◌≡◌, ◌-◌, ◌<◌, length};
 ghost use Rattle.words.specs.Slices.{was};
 ghost use Rattle.table.specs.Tables.{count};
-ghost use Rattle.drum.specs.Params.{index_shape, detailShape};
-ghost use Rattle.drum.specs.Blocks.{link_in, isFree};
+ghost use Rattle.drum.specs.Params.{index_shape, detail_shape};
+ghost use Rattle.drum.specs.Blocks.{link_in, is_free};
 
 use super::Description;
 
@@ -29,7 +29,7 @@ pub fn entries_in(p: Description, t: &[u32]) -> usize
 // How many records the text of a detail block says that it has.
 pub fn records_in(p: Description, t: &[u32]) -> usize
     requires { 0 < length t.now }
-    ensures { result ≡ count (detailShape p) (was t) }
+    ensures { result ≡ count (detail_shape p) (was t) }
 {
     less(words::word_at(t, 0), p.tag(Description::DETAIL))
 }
@@ -37,7 +37,7 @@ pub fn records_in(p: Description, t: &[u32]) -> usize
 // Whether a text's word 0 says that the block is free.
 pub fn is_free(p: Description, t: &[u32]) -> bool
     requires { 0 < length t.now }
-    ensures { result ≡ isFree p (was t) }
+    ensures { result ≡ is_free p (was t) }
 {
     if p.form != Description::SECOND {
         return true;

@@ -4,10 +4,10 @@ pub mod inside;
 pub mod kinds;
 
 ghost use Rattle.std.specs.Prelude.{◌≡◌, true, [], ◌∷◌, ◌+◌, ◌*◌, ◌-◌, ◌≤◌, ◌<◌, leb};
-ghost use Rattle.drum.specs.Params.{D, I, FD, FI, masterSize, fileSize, sizeIf, start as start_of};
-ghost use Rattle.drum.specs.Params.{every, goodParams, mostSections, sized, tag_of, masterShape, index_shape, detailShape};
-ghost use Rattle.drum.specs.Blocks.{linkPlace, block_at, putBlock, Fitting, Block, text_of, at_entry};
-ghost use Rattle.drum.specs.Parts.{part_of, textPart};
+ghost use Rattle.drum.specs.Params.{D, I, FD, FI, master_size, file_size, size_if, start as start_of};
+ghost use Rattle.drum.specs.Params.{every, good_params, most_sections, sized, tag_of, master_shape, index_shape, detail_shape};
+ghost use Rattle.drum.specs.Blocks.{link_place, block_at, put_block, Fitting, Block, text_of, at_entry};
+ghost use Rattle.drum.specs.Parts.{part_of, text_part};
 ghost use Rattle.words.specs.Slices.{was, became};
 
 use table::Shape;
@@ -187,7 +187,7 @@ impl Description {
 
     // Where a free block has its link.
     pub fn link_place(self) -> usize
-        ensures { result ≡ linkPlace self }
+        ensures { result ≡ link_place self }
     {
         if self.form == Self::SECOND {
             return 1;
@@ -197,7 +197,7 @@ impl Description {
 
     // Whether the parameters keep document 01's table.
     pub fn is_good(self) -> bool
-        ensures { result ≡ goodParams self }
+        ensures { result ≡ good_params self }
     {
         let wpb = self.wpb;
         let k = self.k;
@@ -224,23 +224,23 @@ impl Description {
 
     // The words of the master, and of the file, of parameters that are good.
     fn master_words(self) -> usize
-        requires { goodParams self ≡ true }
-        ensures { result ≡ masterSize self }
+        requires { good_params self ≡ true }
+        ensures { result ≡ master_size self }
     {
         let w = 3 + self.control * (self.k + 1);
         w + w % 2
     }
 
     fn file_words(self) -> usize
-        requires { goodParams self ≡ true }
-        ensures { result ≡ fileSize self }
+        requires { good_params self ≡ true }
+        ensures { result ≡ file_size self }
     {
         self.master_words() + self.n * self.wpb
     }
 
     // The words of the master; 0 where the parameters are not good.
     pub fn master_size(self) -> usize
-        ensures { result ≡ sizeIf self (masterSize self) }
+        ensures { result ≡ size_if self (master_size self) }
     {
         if !self.is_good() {
             return 0;
@@ -250,7 +250,7 @@ impl Description {
 
     // The words of the file; 0 where the parameters are not good.
     pub fn file_size(self) -> usize
-        ensures { result ≡ sizeIf self (fileSize self) }
+        ensures { result ≡ size_if self (file_size self) }
     {
         if !self.is_good() {
             return 0;
@@ -260,7 +260,7 @@ impl Description {
 
     // Where block b starts; block N + 1 would start where the file ends.
     pub fn start(self, b: usize) -> usize
-        requires { (goodParams self ≡ true) × (1 ≤ b) × (b ≤ self.n + 1) }
+        requires { (good_params self ≡ true) × (1 ≤ b) × (b ≤ self.n + 1) }
         ensures { result ≡ start_of self b }
     {
         self.master_words() + (b - 1) * self.wpb
@@ -268,8 +268,8 @@ impl Description {
 
     // The tables of a file.
     pub fn master_shape(self) -> Shape
-        requires { goodParams self ≡ true }
-        ensures { result ≡ masterShape self }
+        requires { good_params self ≡ true }
+        ensures { result ≡ master_shape self }
     {
         Shape {
             base: 3,
@@ -280,7 +280,7 @@ impl Description {
     }
 
     pub fn index_shape(self) -> Shape
-        requires { goodParams self ≡ true }
+        requires { good_params self ≡ true }
         ensures { result ≡ index_shape self }
     {
         Shape {
@@ -292,7 +292,7 @@ impl Description {
     }
 
     pub fn detail_shape(self) -> Shape
-        ensures { result ≡ detailShape self }
+        ensures { result ≡ detail_shape self }
     {
         Shape {
             base: 1,
@@ -321,7 +321,7 @@ fn has_room(p: Description) -> bool
     ensures { result
         ≡ every
         (leb 2 (D p) ∷ leb 2 (I p) ∷ leb p.space (D p - 2) ∷ leb p.space (I p - 2)
-        ∷ leb 1 p.control ∷ leb p.control mostSections ∷ leb 2 p.n ∷ leb p.n 262142 ∷ leb 1 p.form ∷ leb p.form 2 ∷ []) }
+        ∷ leb 1 p.control ∷ leb p.control most_sections ∷ leb 2 p.n ∷ leb p.n 262142 ∷ leb 1 p.form ∷ leb p.form 2 ∷ []) }
 {
     let d = p.d();
     let i = p.i();
@@ -369,7 +369,7 @@ pub fn read_block(p: Description, file: &[u32], buffer: &mut [u32], b: usize)
 // Writes the buffer over block b of the file.
 pub fn write_block(p: Description, file: &mut [u32], buffer: &[u32], b: usize)
     requires { Fitting p file.old buffer.now × Block p b }
-    ensures { became file ≡ putBlock p (was file) b (was buffer) }
+    ensures { became file ≡ put_block p (was file) b (was buffer) }
 {
     let wpb = p.wpb;
     let start = p.start(b);
@@ -385,7 +385,7 @@ pub fn text_part<'a>(
     b: usize,
 ) -> &'a [u32]
     requires { Fitting p file.now buffer.now × Block p b }
-    ensures { part_of result ≡ textPart p current file.entry buffer.entry b }
+    ensures { part_of result ≡ text_part p current file.entry buffer.entry b }
 {
     if b == current {
         return buffer;

@@ -7,10 +7,10 @@ use native.Mathlib.Omega.{arith}
 use lib.ListN.{length}
 use borrow.Author.Rules.{rules}
 use Rattle.drum.specs.declared.Description.{Description}
-use Rattle.drum.specs.Params.{goodParams}
+use Rattle.drum.specs.Params.{good_params}
 use Rattle.drum.specs.Blocks.{Fitting}
 use Rattle.drum.proofs.Good.{caps}
-use Rattle.face.specs.Checks.{refusing, plainChecks, keyedChecks}
+use Rattle.face.specs.Checks.{refusing, plain_checks, keyed_checks}
 use Rattle.face.proofs.Refusing.{Lent, keyed-lent, plain-lent}
 
 lent-fitting : (p : Description) (f b : List ℕ) (work : ℕ) → Lent p (length f) (length b) work → Fitting p f b
@@ -22,7 +22,7 @@ lent-most p file buffer work h = (caps p h.good).facts.k-most
 lent-room : (p : Description) (file buffer work : ℕ) → Lent p file buffer work → p.k ≤ work
 lent-room p file buffer work h = let g = caps p h.good in let l = h.work-is in omega arith
 
-module _ (p : Description) (opened : Bool) (f b w : List ℕ) (reads n : ℕ) (e : refusing n ≡ keyedChecks p opened (length f) (length b) w reads)
+module _ (p : Description) (opened : Bool) (f b w : List ℕ) (reads n : ℕ) (e : refusing n ≡ keyed_checks p opened (length f) (length b) w reads)
     (z : n ≡ 0) where
   keyed-passed : Lent p (length f) (length b) (length w)
   keyed-passed = keyed-lent p opened (length f) (length b) w reads n e z
@@ -39,7 +39,7 @@ module _ (p : Description) (opened : Bool) (f b w : List ℕ) (reads n : ℕ) (e
   pub keyed-room : (m : ℕ) → m ≡ length w → p.k ≤ m
   keyed-room m i = rw i (lent-room p (length f) (length b) (length w) keyed-passed)
 
-module _ (p : Description) (opened : Bool) (f b w : List ℕ) (n : ℕ) (e : refusing n ≡ plainChecks p opened (length f) (length b) (length w)) (z : n ≡ 0) where
+module _ (p : Description) (opened : Bool) (f b w : List ℕ) (n : ℕ) (e : refusing n ≡ plain_checks p opened (length f) (length b) (length w)) (z : n ≡ 0) where
   plain-passed : Lent p (length f) (length b) (length w)
   plain-passed = plain-lent p opened (length f) (length b) (length w) n e z
 
@@ -59,7 +59,7 @@ module _ (p : Description) (opened : Bool) (f b w : List ℕ) (n : ℕ) (e : ref
   position-room m i = rw i plain-most
 
 -- a keyed call reads no more words than a record has
-pub key-in-record : (p : Description) → goodParams p ≡ true → p.k ≤ p.wpr
+pub key-in-record : (p : Description) → good_params p ≡ true → p.k ≤ p.wpr
 key-in-record p h = (caps p h).facts.key
 
 -- what the methods of these calls name

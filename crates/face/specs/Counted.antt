@@ -1,7 +1,7 @@
 -- What a caller can see of a call: one side of every public promise.
 use Rattle.std.specs.Prelude.{ℕ, cond, List, length}
 use Rattle.rules.specs.declared.Done.{Done}
-use Rattle.rules.specs.State.{Session, State, Outcome, keyIn, holding, positioned}
+use Rattle.rules.specs.State.{Session, State, Outcome, key_in, holding, positioned}
 use Rattle.rules.specs.Open.{Opened}
 
 -- an outcome as a caller can see it: "Each result carries its count, which is the length of the list" [T3]
@@ -20,12 +20,12 @@ pub record CountedOpen : Type 0 where
   pub marks : List ℕ
 
 -- OPEN's outcome so seen [T3]
-abbrev pub countedOpen : Opened → CountedOpen
-countedOpen o = record { outcome = counted o.outcome; marks = o.marks }
+abbrev pub counted_open : Opened → CountedOpen
+counted_open o = record { outcome = counted o.outcome; marks = o.marks }
 
 -- the session of an answer: with the current block and flag that the steps leave, and position the key that stands first in the workspace where
 -- they say so [C33]
 abbrev pub next : Session → Done → List ℕ → Session
 next s d w =
     let here = holding d.current d.flag s in
-    cond d.keyed (positioned (keyIn s.desc w) here) here
+    cond d.keyed (positioned (key_in s.desc w) here) here

@@ -2,7 +2,7 @@
 use Rattle.std.specs.Prelude.{ℕ, Bool, cond, ◌&&◌, [], length}
 use Rattle.numbers.specs.Checked.{between}
 use Rattle.drum.specs.Params.{sized}
-use Rattle.drum.specs.Parts.{Borrowed, Part, partText}
+use Rattle.drum.specs.Parts.{Borrowed, Part, part_text}
 use Rattle.rules.specs.State.{Session, lent}
 use Rattle.rules.specs.Close.{view}
 
@@ -11,10 +11,10 @@ unfoldable pub shown : Session → ℕ → ℕ → ℕ → Bool
 shown s file buffer b = s.opened && (sized s.desc file buffer && between 1 s.desc.n b)
 
 -- where VIEW's part lies; an empty part lies at the file's first word [S5]
-unfoldable pub viewAt : Session → Borrowed → Borrowed → ℕ → ℕ × ℕ
-viewAt s file buffer b =
-    cond (shown s (length file.now) (length buffer.now) b) (partText s.desc s.current file buffer b) file.ref_ptr
+unfoldable pub view_at : Session → Borrowed → Borrowed → ℕ → ℕ × ℕ
+view_at s file buffer b =
+    cond (shown s (length file.now) (length buffer.now) b) (part_text s.desc s.current file buffer b) file.ref_ptr
 
 -- what VIEW lends back
-abbrev pub viewPart : Session → Borrowed → Borrowed → ℕ → Part
-viewPart s file buffer b = record { address = viewAt s file buffer b; words = view (lent s file.now buffer.now []) b }
+abbrev pub view_part : Session → Borrowed → Borrowed → ℕ → Part
+view_part s file buffer b = record { address = view_at s file buffer b; words = view (lent s file.now buffer.now []) b }

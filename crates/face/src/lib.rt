@@ -1,7 +1,7 @@
 // What every face of the routine shares: what is refused before the steps of a call that is lent a workspace.
 ghost use Rattle.std.specs.Prelude.{◌≡◌, true, ◌≤◌};
-ghost use Rattle.drum.specs.Params.{goodParams};
-ghost use Rattle.face.specs.Checks.{refusing, plainChecks, keyedChecks};
+ghost use Rattle.drum.specs.Params.{good_params};
+ghost use Rattle.face.specs.Checks.{refusing, plain_checks, keyed_checks};
 ghost use Rattle.words.specs.Slices.{was};
 
 use drum::Description;
@@ -9,7 +9,7 @@ use numbers::{IS_CLOSED, WRONG_KEY, WRONG_SIZE};
 
 // The first refusal of a call that is lent a workspace, or 0.
 pub fn refused_plain(p: Description, opened: bool, file: usize, buffer: usize, work: usize) -> u32
-    ensures { refusing result ≡ plainChecks p opened file buffer work }
+    ensures { refusing result ≡ plain_checks p opened file buffer work }
 {
     if !p.is_sized(file, buffer) {
         return WRONG_SIZE;
@@ -32,8 +32,8 @@ pub fn refused_key(
     work: &[u32],
     reads: usize,
 ) -> u32
-    requires { goodParams p ≡ true → reads ≤ p.wpr }
-    ensures { refusing result ≡ keyedChecks p opened file buffer (was work) reads }
+    requires { good_params p ≡ true → reads ≤ p.wpr }
+    ensures { refusing result ≡ keyed_checks p opened file buffer (was work) reads }
 {
     let number = refused_plain(p, opened, file, buffer, work.len());
     if number != 0 {

@@ -6,23 +6,23 @@ use mathlib.Core.List.{List, [], ◌∷◌}
 use mathlib.Core.Option.{none, some}
 use lib.ListN.{length, drop}
 use Rattle.words.specs.Words.{part}
-use Rattle.words.specs.Keys.{sameKey}
+use Rattle.words.specs.Keys.{same_key}
 use Rattle.words.proofs.Parts.{part-all}
 use Rattle.texts.specs.Texts.{bytes}
 use Rattle.drum.specs.declared.Description.{Description}
 use native.Mathlib.Numerals.{add-one}
 use borrow.Author.Tests.{lt-ltb, le-ltb, le-leb, lt-leb, eq-eqb, ne_eqb, not-true, not-false}
-use Rattle.lines.specs.Lines.{isBlank, isDigit, named, carries}
+use Rattle.lines.specs.Lines.{is_blank, is_digit, named, carries}
 use Rattle.lines.specs.declared.Named.{Named}
 use Rattle.rules.specs.declared.Call.{Call}
 use Rattle.faults.specs.declared.Fault.{Fault}
 use Rattle.faults.specs.declared.Fault.TheVariants.{Empty, NotPlayed, NoCall, Count, NoNumber, AboveTop, NotSix}
 use Rattle.faults.specs.declared.nearest.Near.{Near}
 use Rattle.faults.specs.declared.watch.Watch.{Watch}
-use Rattle.faults.specs.Watching.{wordsWith, oddWith, seen}
+use Rattle.faults.specs.Watching.{words_with, odd_with, seen}
 use Rattle.faults.specs.Nearest.{upper, same, agreeing, alike, nearer, nearest}
-use Rattle.faults.specs.Faults.{nameFault, numbersFault, namedFault, callFault}
-use Rattle.faults.specs.First.{wordsFault}
+use Rattle.faults.specs.Faults.{name_fault, numbers_fault, named_fault, call_fault}
+use Rattle.faults.specs.First.{words_fault}
 use Rattle.faults.specs.Sentences.{visible}
 
 -- a byte that is shown
@@ -62,81 +62,81 @@ module _ (a b u : ℕ) (e : u ≡ upper a) where
 
 -- how many words have begun
 module _ (w : Watch) where
-  pub words_inside : w.inside ≡ true → w.words ≡ wordsWith w
-  unfolding wordsWith
+  pub words_inside : w.inside ≡ true → w.words ≡ words_with w
+  unfolding words_with
   words_inside h = simp h
 
-  pub words_more : w.inside ≡ false → w.words < 4294967295 → w.words + 1 ≡ wordsWith w
-  unfolding wordsWith
+  pub words_more : w.inside ≡ false → w.words < 4294967295 → w.words + 1 ≡ words_with w
+  unfolding words_with
   words_more h k = simp (h, lt-ltb _ _ k, add-one)
 
-  pub words-full : w.inside ≡ false → 4294967295 ≤ w.words → w.words ≡ wordsWith w
-  unfolding wordsWith
+  pub words-full : w.inside ≡ false → 4294967295 ≤ w.words → w.words ≡ words_with w
+  unfolding words_with
   words-full h k = simp (h, le-ltb _ _ k)
 
 -- the first word that is not all digits
 module _ (w : Watch) (n b : ℕ) where
-  pub odd-kept : (w.odd ≡ 0 → ⊥) → w.odd ≡ oddWith w n b
-  unfolding oddWith
+  pub odd-kept : (w.odd ≡ 0 → ⊥) → w.odd ≡ odd_with w n b
+  unfolding odd_with
   odd-kept h = simp (ne_eqb _ _ h)
 
-  module _ (z : w.odd ≡ 0) (r : Bool) (e : r ≡ isDigit b) where
-    pub odd-digit : r ≡ true → 0 ≡ oddWith w n b
-    unfolding oddWith
+  module _ (z : w.odd ≡ 0) (r : Bool) (e : r ≡ is_digit b) where
+    pub odd-digit : r ≡ true → 0 ≡ odd_with w n b
+    unfolding odd_with
     odd-digit h = simp (eq-eqb _ _ z, sym e ∙ h)
 
-    pub odd-here : r ≡ false → not w.named ≡ true → n ≡ oddWith w n b
-    unfolding oddWith
+    pub odd-here : r ≡ false → not w.named ≡ true → n ≡ odd_with w n b
+    unfolding odd_with
     odd-here h k = simp (eq-eqb _ _ z, sym e ∙ h, not-true w.named k)
 
-    pub odd-name : r ≡ false → not w.named ≡ false → n ≡ 1 → 0 ≡ oddWith w n b
-    unfolding oddWith
+    pub odd-name : r ≡ false → not w.named ≡ false → n ≡ 1 → 0 ≡ odd_with w n b
+    unfolding odd_with
     odd-name h k m = simp (eq-eqb _ _ z, sym e ∙ h, not-false w.named k, eq-eqb _ _ m)
 
-    pub odd-behind : r ≡ false → not w.named ≡ false → (n ≡ 1 → ⊥) → n ≡ oddWith w n b
-    unfolding oddWith
+    pub odd-behind : r ≡ false → not w.named ≡ false → (n ≡ 1 → ⊥) → n ≡ odd_with w n b
+    unfolding odd_with
     odd-behind h k m = simp (eq-eqb _ _ z, sym e ∙ h, not-false w.named k, ne_eqb _ _ m)
 
 -- a byte of the line
-module _ (w : Watch) (b : ℕ) (r : Bool) (e : r ≡ isBlank b) where
+module _ (w : Watch) (b : ℕ) (r : Bool) (e : r ≡ is_blank b) where
   pub seen-blank : r ≡ true → record { named = w.named; inside = false; words = w.words; odd = w.odd } ≡ seen w b
   unfolding seen
   seen-blank h = simp (sym e ∙ h)
 
-  pub seen-letter : (n o : ℕ) → r ≡ false → n ≡ wordsWith w → o ≡ oddWith w n b
+  pub seen-letter : (n o : ℕ) → r ≡ false → n ≡ words_with w → o ≡ odd_with w n b
       → record { named = w.named; inside = true; words = n; odd = o } ≡ seen w b
   unfolding seen
   seen-letter n o h p q =
-      let s : seen w b ≡ record { named = w.named; inside = true; words = wordsWith w; odd = oddWith w (wordsWith w) b } = simp (sym e ∙ h) in
-      (λ j. record { named = w.named; inside = true; words = p j; odd = (q ∙ ap (λ (m : ℕ). oddWith w m b) p) j }) ∙ sym s
+      let s : seen w b ≡ record { named = w.named; inside = true; words = words_with w; odd = odd_with w (words_with w) b } = simp (sym e ∙ h) in
+      (λ j. record { named = w.named; inside = true; words = p j; odd = (q ∙ ap (λ (m : ℕ). odd_with w m b) p) j }) ∙ sym s
 
 -- a line that names a call
 module _ (w : Watch) (c : Call) (takes : ℕ) where
-  pub numbers-odd : (w.odd ≡ 0 → ⊥) → NoNumber w.odd ≡ numbersFault w c takes
-  unfolding numbersFault
+  pub numbers-odd : (w.odd ≡ 0 → ⊥) → NoNumber w.odd ≡ numbers_fault w c takes
+  unfolding numbers_fault
   numbers-odd h = simp (ne_eqb _ _ h)
 
   pub numbers-count : (n m : ℕ) → w.odd ≡ 0 → n ≡ w.words - 1 → m ≡ w.words - 1 → (n ≡ takes → ⊥)
-      → Count c takes m ≡ numbersFault w c takes
-  unfolding numbersFault
+      → Count c takes m ≡ numbers_fault w c takes
+  unfolding numbers_fault
   numbers-count n m z e d h = ap (Count c takes) d ∙ simp (eq-eqb _ _ z, ne_eqb _ _ (λ (q : w.words - 1 ≡ takes). h (e ∙ q)))
 
-  pub numbers-above : (n : ℕ) → w.odd ≡ 0 → n ≡ w.words - 1 → n ≡ takes → AboveTop ≡ numbersFault w c takes
-  unfolding numbersFault
+  pub numbers-above : (n : ℕ) → w.odd ≡ 0 → n ≡ w.words - 1 → n ≡ takes → AboveTop ≡ numbers_fault w c takes
+  unfolding numbers_fault
   numbers-above n z e h = simp (eq-eqb _ _ z, eq-eqb _ _ (sym e ∙ h))
 
 -- a first line not of six numbers
 module _ (w : Watch) where
-  pub first-odd : (w.odd ≡ 0 → ⊥) → NoNumber w.odd ≡ wordsFault w
-  unfolding wordsFault
+  pub first-odd : (w.odd ≡ 0 → ⊥) → NoNumber w.odd ≡ words_fault w
+  unfolding words_fault
   first-odd h = simp (ne_eqb _ _ h)
 
-  pub first_count : w.odd ≡ 0 → (w.words ≡ 6 → ⊥) → NotSix w.words ≡ wordsFault w
-  unfolding wordsFault
+  pub first_count : w.odd ≡ 0 → (w.words ≡ 6 → ⊥) → NotSix w.words ≡ words_fault w
+  unfolding words_fault
   first_count z h = simp (eq-eqb _ _ z, ne_eqb _ _ h)
 
-  pub first_above : w.odd ≡ 0 → w.words ≡ 6 → AboveTop ≡ wordsFault w
-  unfolding wordsFault
+  pub first_above : w.odd ≡ 0 → w.words ≡ 6 → AboveTop ≡ words_fault w
+  unfolding words_fault
   first_above z h = simp (eq-eqb _ _ z, eq-eqb _ _ h)
 
 -- how much a word is like a text, and which call is nearer
@@ -156,29 +156,29 @@ module _ (w t : List ℕ) (near : Near) (c : Call) (s : ℕ) (e : s ≡ alike w 
 
 -- a line whose first word names no call
 module _ (w : Watch) (word : List ℕ) where
-  pub name-empty : w.words ≡ 0 → Empty ≡ nameFault w word
-  unfolding nameFault
+  pub name-empty : w.words ≡ 0 → Empty ≡ name_fault w word
+  unfolding name_fault
   name-empty h = simp (eq-eqb _ _ h)
 
-  module _ (r : Bool) (e : r ≡ sameKey (part 0 (length word) word) (86 ∷ 73 ∷ 69 ∷ 87 ∷ [])) (z : w.words ≡ 0 → ⊥) where
-    is_view : sameKey word (86 ∷ 73 ∷ 69 ∷ 87 ∷ []) ≡ r
+  module _ (r : Bool) (e : r ≡ same_key (part 0 (length word) word) (86 ∷ 73 ∷ 69 ∷ 87 ∷ [])) (z : w.words ≡ 0 → ⊥) where
+    is_view : same_key word (86 ∷ 73 ∷ 69 ∷ 87 ∷ []) ≡ r
     is_view = sym (rw (part-all (length word) word refl) at e)
 
-    pub name-view : r ≡ true → NotPlayed ≡ nameFault w word
-    unfolding nameFault bytes
+    pub name-view : r ≡ true → NotPlayed ≡ name_fault w word
+    unfolding name_fault bytes
     name-view h = simp (ne_eqb _ _ z, is_view ∙ h)
 
-    pub name-other : (near : Named) → r ≡ false → near ≡ nearest word → NoCall near ≡ nameFault w word
-    unfolding nameFault bytes
+    pub name-other : (near : Named) → r ≡ false → near ≡ nearest word → NoCall near ≡ name_fault w word
+    unfolding name_fault bytes
     name-other near h n = ap NoCall n ∙ simp (ne_eqb _ _ z, is_view ∙ h)
 
 -- a line of calls, by the call that its first word names
 module _ (p : Description) (w : Watch) (word : List ℕ) (f : Fault) where
-  pub call_none : f ≡ nameFault w word → none ≡ named (part 0 (length word) word) → f ≡ callFault p w word
-  unfolding callFault namedFault
-  call_none g e = g ∙ ap (namedFault p w word) (e ∙ ap named (part-all (length word) word refl))
+  pub call_none : f ≡ name_fault w word → none ≡ named (part 0 (length word) word) → f ≡ call_fault p w word
+  unfolding call_fault named_fault
+  call_none g e = g ∙ ap (named_fault p w word) (e ∙ ap named (part-all (length word) word refl))
 
-  pub call-some : (c : Call) (n : ℕ) → f ≡ numbersFault w c n → n ≡ carries p c → some c ≡ named (part 0 (length word) word)
-      → f ≡ callFault p w word
-  unfolding callFault namedFault
-  call-some c n g m e = g ∙ ap (numbersFault w c) m ∙ ap (namedFault p w word) (e ∙ ap named (part-all (length word) word refl))
+  pub call-some : (c : Call) (n : ℕ) → f ≡ numbers_fault w c n → n ≡ carries p c → some c ≡ named (part 0 (length word) word)
+      → f ≡ call_fault p w word
+  unfolding call_fault named_fault
+  call-some c n g m e = g ∙ ap (numbers_fault w c) m ∙ ap (named_fault p w word) (e ∙ ap named (part-all (length word) word refl))

@@ -9,7 +9,7 @@ use lib.Seq.{drop-cons}
 use borrow.Author.Tests.{eq-eqb, ne_eqb}
 use Rattle.words.specs.Words.{part, put}
 use Rattle.words.proofs.Parts.{put-snoc, part-snoc, length_part}
-use Rattle.lines.specs.Lines.{isLineFeed}
+use Rattle.lines.specs.Lines.{is_line_feed}
 use Rattle.faults.specs.declared.watch.Watch.{Watch}
 use Rattle.faults.specs.Watching.{seen, watched}
 use Rattle.faults.specs.Nearest.{same, agreeing}
@@ -22,12 +22,12 @@ module _ (w₀ w : Watch) (from at : ℕ) (bytes : List ℕ) (e : watched w₀ (
   look-out h = sym (e ∙ rw (drop_of_length-le bytes h))
 
   pub look-over : at < length bytes → get_or bytes at 0 ≡ 10 → w ≡ watched w₀ (drop from bytes)
-  unfolding watched isLineFeed
+  unfolding watched is_line_feed
   look-over h q = sym (e ∙ rw (drop-cons bytes at 0 h, eq-eqb _ _ q))
 
   pub look-more : (v : Watch) → at < length bytes → (get_or bytes at 0 ≡ 10 → ⊥) → v ≡ seen w (get_or bytes at 0)
       → watched w₀ (drop from bytes) ≡ watched v (drop (at + 1) bytes)
-  unfolding watched isLineFeed
+  unfolding watched is_line_feed
   look-more v h q g = e ∙ (rw (add-one at, drop-cons bytes at 0 h, ne_eqb _ _ q)) ∙ ap (λ (x : Watch). watched x (drop (at + 1) bytes)) (sym g)
 
 -- what agrees from here on and what was counted come to the whole

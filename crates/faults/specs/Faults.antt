@@ -1,7 +1,7 @@
 -- What is wrong with a line of calls that document 01 calls a bad one. The word is the first of the line.
 use Rattle.std.specs.Prelude.{ℕ, ◌-◌, Bool, cond, List, eqb}
 use Rattle.std.proofs.Math.Option.{Option, none, some}
-use Rattle.words.specs.Keys.{sameKey}
+use Rattle.words.specs.Keys.{same_key}
 use Rattle.drum.specs.declared.Description.{Description}
 use Rattle.rules.specs.declared.Call.{Call}
 use Rattle.texts.specs.Texts.{bytes}
@@ -12,19 +12,19 @@ use Rattle.faults.specs.declared.watch.Watch.{Watch}
 use Rattle.faults.specs.Nearest.{nearest}
 
 -- "a line that is no such call (nor is VIEW)": its first word names none
-unfoldable pub nameFault : Watch → List ℕ → Fault
-nameFault w word = cond (eqb w.words 0) Empty (cond (sameKey word (bytes "VIEW")) NotPlayed (NoCall (nearest word)))
+unfoldable pub name_fault : Watch → List ℕ → Fault
+name_fault w word = cond (eqb w.words 0) Empty (cond (same_key word (bytes "VIEW")) NotPlayed (NoCall (nearest word)))
 
 -- "the key or record that kind carries": so many numbers are to stand behind the name; "A number above 4294967295 makes its line a bad one"
-unfoldable pub numbersFault : Watch → Call → ℕ → Fault
-numbersFault w c takes =
+unfoldable pub numbers_fault : Watch → Call → ℕ → Fault
+numbers_fault w c takes =
     cond (eqb w.odd 0) (cond (eqb (w.words - 1) takes) AboveTop (Count c takes (w.words - 1))) (NoNumber w.odd)
 
 -- "a line that is no such call", by the call that its first word names [O6]
-unfoldable pub namedFault : Description → Watch → List ℕ → Option Call → Fault
-namedFault p w word none = nameFault w word
-namedFault p w word (some c) = numbersFault w c (carries p c)
+unfoldable pub named_fault : Description → Watch → List ℕ → Option Call → Fault
+named_fault p w word none = name_fault w word
+named_fault p w word (some c) = numbers_fault w c (carries p c)
 
 -- "a line that is no such call .. prints `BAD LINE`": what is wrong with it
-unfoldable pub callFault : Description → Watch → List ℕ → Fault
-callFault p w word = namedFault p w word (named word)
+unfoldable pub call_fault : Description → Watch → List ℕ → Fault
+call_fault p w word = named_fault p w word (named word)

@@ -2,7 +2,7 @@
 use Rattle.std.specs.Prelude.{ℕ, ◌-◌, ◌/◌, ◌%◌, Bool, false, cond, ◌&&◌, ◌≡◌, leb, eqb}
 use Rattle.std.proofs.Math.Option.{Option, none, some}
 use Rattle.drum.specs.declared.Description.{Description}
-use Rattle.drum.specs.Params.{D, I, goodParams, fileSize, mostSections}
+use Rattle.drum.specs.Params.{D, I, good_params, file_size, most_sections}
 use Rattle.faults.specs.declared.Fault.{Fault}
 use Rattle.faults.specs.declared.Fault.TheVariants.{Empty, NotPlayed, NoCall, Count, NoNumber, AboveTop, NotSix, OutOfRange, TooLarge}
 use Rattle.faults.specs.declared.Parameter.{Parameter}
@@ -14,48 +14,48 @@ unfoldable pub within : ℕ → ℕ → ℕ → Bool
 within least value most = leb least value && leb value most
 
 -- "WPB, words per block: even, 6..4096"
-unfoldable pub wpbGood : ℕ → Bool
-wpbGood wpb = eqb (wpb % 2) 0 && within 6 wpb 4096
+unfoldable pub wpb_good : ℕ → Bool
+wpb_good wpb = eqb (wpb % 2) 0 && within 6 wpb 4096
 
 -- "D = (WPB−1)/WPR .. at least 2": the most that WPR may be
 unfoldable pub half : Description → ℕ
 half p = (p.wpb - 1) / 2
 
 -- "K, key words: 1..63" and "I = (WPB−1)/(K+1) .. at least 2": the most that K may be
-unfoldable pub mostKey : Description → ℕ
-mostKey p = cond (leb 64 (half p)) 63 (half p - 1)
+unfoldable pub most_key : Description → ℕ
+most_key p = cond (leb 64 (half p)) 63 (half p - 1)
 
 -- "SPACE: 0..D−2 and 0..I−2": the most that it may be
-unfoldable pub mostSpace : Description → ℕ
-mostSpace p = cond (leb (D p) (I p)) (D p - 2) (I p - 2)
+unfoldable pub most_space : Description → ℕ
+most_space p = cond (leb (D p) (I p)) (D p - 2) (I p - 2)
 
 -- "parameters out of range": one of them, its value and its range [O7]
-unfoldable pub outFault : Parameter → ℕ → ℕ → ℕ → Fault
-outFault what value least most = OutOfRange what value least most
+unfoldable pub out_fault : Parameter → ℕ → ℕ → ℕ → Fault
+out_fault what value least most = OutOfRange what value least most
 
 -- what follows, where a parameter is within its range
 unfoldable pub ranged : Parameter → ℕ → ℕ → ℕ → Fault → Fault
-ranged what value least most more = cond (within least value most) more (outFault what value least most)
+ranged what value least most more = cond (within least value most) more (out_fault what value least most)
 
 -- the first parameter out of range; where the others are within theirs it is N
-unfoldable pub rangeFault : Description → Fault
-rangeFault p =
+unfoldable pub range_fault : Description → Fault
+range_fault p =
     cond
-    (wpbGood p.wpb)
-    (ranged K p.k 1 (mostKey p)
+    (wpb_good p.wpb)
+    (ranged K p.k 1 (most_key p)
     (ranged Wpr p.wpr p.k (half p)
-    (ranged Space p.space 0 (mostSpace p)
-    (ranged Control p.control 1 mostSections (outFault N p.n 2 262142)))))
-    (outFault Wpb p.wpb 6 4096)
+    (ranged Space p.space 0 (most_space p)
+    (ranged Control p.control 1 most_sections (out_fault N p.n 2 262142)))))
+    (out_fault Wpb p.wpb 6 4096)
 
 -- "a first line not of six numbers, prints `BAD LINE`": what is wrong with it
-unfoldable pub wordsFault : Watch → Fault
-wordsFault w = cond (eqb w.odd 0) (cond (eqb w.words 6) AboveTop (NotSix w.words)) (NoNumber w.odd)
+unfoldable pub words_fault : Watch → Fault
+words_fault w = cond (eqb w.odd 0) (cond (eqb w.words 6) AboveTop (NotSix w.words)) (NoNumber w.odd)
 
 -- the same; "parameters out of range"; "A file above 8,192 words"
-unfoldable pub firstFault : Watch → Option Description → Fault
-firstFault w none = wordsFault w
-firstFault w (some p) = cond (goodParams p) (TooLarge (fileSize p)) (rangeFault p)
+unfoldable pub first_fault : Watch → Option Description → Fault
+first_fault w none = words_fault w
+first_fault w (some p) = cond (good_params p) (TooLarge (file_size p)) (range_fault p)
 
 -- a parameter is told, and it is out of the range that is told
 abbrev pub Outside : Fault → Type 0
@@ -66,7 +66,7 @@ Outside (Count c takes given) = ⊥
 Outside (NoNumber word) = ⊥
 Outside AboveTop = ⊥
 Outside (NotSix given) = ⊥
-Outside (OutOfRange Wpb value least most) = wpbGood value ≡ false
+Outside (OutOfRange Wpb value least most) = wpb_good value ≡ false
 Outside (OutOfRange Wpr value least most) = within least value most ≡ false
 Outside (OutOfRange K value least most) = within least value most ≡ false
 Outside (OutOfRange Space value least most) = within least value most ≡ false

@@ -27,17 +27,17 @@ unfoldable pub alike : List ℕ → List ℕ → ℕ
 alike w t = agreeing w t + agreeing (drop 1 w) t + agreeing w (drop 1 t)
 
 -- no call yet: two letters are lacking
-unfoldable pub nothingNear : Near
-nothingNear = record { call = Create; size = 2; score = 0 }
+unfoldable pub nothing_near : Near
+nothing_near = record { call = Create; size = 2; score = 0 }
 
 -- the call c of the name t, where the word is more like it than like the one before
 unfoldable pub nearer : List ℕ → Near → Call → List ℕ → Near
 nearer w near c t = cond (leb (alike w t) near.score) near (record { call = c; size = length t; score = alike w t })
 
 -- the nearest of some calls, the first of equals
-unfoldable pub nearestIn : List ℕ → Near → List Call → Near
-nearestIn w near [] = near
-nearestIn w near (c ∷ cs) = nearestIn w (nearer w near c (spelling c)) cs
+unfoldable pub nearest_in : List ℕ → Near → List Call → Near
+nearest_in w near [] = near
+nearest_in w near (c ∷ cs) = nearest_in w (nearer w near c (spelling c)) cs
 
 -- that call, if no more than one letter of its name is lacking
 unfoldable pub meant : Near → Named
@@ -45,4 +45,4 @@ meant near = cond (ltb 1 (near.size - near.score)) Nothing (Kind near.call)
 
 -- the call that a word may mean
 unfoldable pub nearest : List ℕ → Named
-nearest w = meant (nearestIn w nothingNear kinds)
+nearest w = meant (nearest_in w nothing_near kinds)

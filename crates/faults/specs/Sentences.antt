@@ -29,42 +29,42 @@ suggestion Nothing = []
 suggestion (Kind c) = bytes "; " ++ (spelling c ++ bytes "?")
 
 -- of a first word that names no call [O6]
-unfoldable pub noCallText : List ℕ → Named → List ℕ
-noCallText word near = visibles word ++ (bytes " is no call" ++ suggestion near)
+unfoldable pub no_call_text : List ℕ → Named → List ℕ
+no_call_text word near = visibles word ++ (bytes " is no call" ++ suggestion near)
 
 -- how many numbers a call takes [O4]
-unfoldable pub takesText : ℕ → List ℕ
-takesText takes = cond (eqb takes 1) (bytes " takes 1 number,") (figure (bytes " takes") takes (bytes " numbers,"))
+unfoldable pub takes_text : ℕ → List ℕ
+takes_text takes = cond (eqb takes 1) (bytes " takes 1 number,") (figure (bytes " takes") takes (bytes " numbers,"))
 
 -- "the key or record that kind carries": so many numbers are taken, and so many given [O4]
-unfoldable pub countText : Call → ℕ → ℕ → List ℕ
-countText c takes given = spelling c ++ (takesText takes ++ figure (bytes "") given (bytes " given"))
+unfoldable pub count_text : Call → ℕ → ℕ → List ℕ
+count_text c takes given = spelling c ++ (takes_text takes ++ figure (bytes "") given (bytes " given"))
 
 -- a parameter by the name that document 01 gives it, and its value; WPB is "even" [O7]
-unfoldable pub isText : Parameter → ℕ → List ℕ
-isText Wpb value = figure (bytes "WPB is") value (bytes ": even,")
-isText Wpr value = figure (bytes "WPR is") value (bytes ":")
-isText K value = figure (bytes "K is") value (bytes ":")
-isText Space value = figure (bytes "SPACE is") value (bytes ":")
-isText Control value = figure (bytes "CONTROL is") value (bytes ":")
-isText N value = figure (bytes "N is") value (bytes ":")
+unfoldable pub is_text : Parameter → ℕ → List ℕ
+is_text Wpb value = figure (bytes "WPB is") value (bytes ": even,")
+is_text Wpr value = figure (bytes "WPR is") value (bytes ":")
+is_text K value = figure (bytes "K is") value (bytes ":")
+is_text Space value = figure (bytes "SPACE is") value (bytes ":")
+is_text Control value = figure (bytes "CONTROL is") value (bytes ":")
+is_text N value = figure (bytes "N is") value (bytes ":")
 
 -- a parameter out of its range [O7]
-unfoldable pub rangeText : Parameter → ℕ → ℕ → ℕ → List ℕ
-rangeText what value least most = isText what value ++ (figure (bytes "") least (bytes " to") ++ figure (bytes "") most (bytes ""))
+unfoldable pub range_text : Parameter → ℕ → ℕ → ℕ → List ℕ
+range_text what value least most = is_text what value ++ (figure (bytes "") least (bytes " to") ++ figure (bytes "") most (bytes ""))
 
 -- each fault in words; `word` is the line's first
-unfoldable pub faultText : List ℕ → Fault → List ℕ
-faultText word faults.Empty = bytes "no word; a call is expected"
-faultText word faults.NotPlayed = bytes "VIEW is not played"
-faultText word (faults.NoCall near) = noCallText word near
-faultText word (faults.Count c takes given) = countText c takes given
-faultText word (faults.NoNumber n) = figure (bytes "word") n (bytes " is no number")
-faultText word faults.AboveTop = bytes "a number is above 4294967295"
-faultText word (faults.NotSix given) = figure (bytes "WPB WPR K SPACE CONTROL N are expected, 6 numbers,") given (bytes " given")
-faultText word (faults.OutOfRange what value least most) = rangeText what value least most
-faultText word (faults.TooLarge size) = figure (bytes "the file has") size (bytes " words, 8192 at most are played")
+unfoldable pub fault_text : List ℕ → Fault → List ℕ
+fault_text word faults.Empty = bytes "no word; a call is expected"
+fault_text word faults.NotPlayed = bytes "VIEW is not played"
+fault_text word (faults.NoCall near) = no_call_text word near
+fault_text word (faults.Count c takes given) = count_text c takes given
+fault_text word (faults.NoNumber n) = figure (bytes "word") n (bytes " is no number")
+fault_text word faults.AboveTop = bytes "a number is above 4294967295"
+fault_text word (faults.NotSix given) = figure (bytes "WPB WPR K SPACE CONTROL N are expected, 6 numbers,") given (bytes " given")
+fault_text word (faults.OutOfRange what value least most) = range_text what value least most
+fault_text word (faults.TooLarge size) = figure (bytes "the file has") size (bytes " words, 8192 at most are played")
 
 -- with the line's number in front
 unfoldable pub sentence : ℕ → List ℕ → Fault → List ℕ
-sentence line word fault = figure (bytes "line") line (bytes ": ") ++ (faultText word fault ++ bytes "\n")
+sentence line word fault = figure (bytes "line") line (bytes ": ") ++ (fault_text word fault ++ bytes "\n")

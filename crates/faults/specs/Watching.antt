@@ -1,6 +1,6 @@
 -- What a fault is told by, beside what is kept of a line: its words counted, and the first that is not all digits.
 use Rattle.std.specs.Prelude.{ℕ, suc, Bool, true, false, cond, not, ◌&&◌, List, [], ◌∷◌, ltb, eqb}
-use Rattle.lines.specs.Lines.{isBlank, isLineFeed, isDigit, topNumber}
+use Rattle.lines.specs.Lines.{is_blank, is_line_feed, is_digit, top_number}
 use Rattle.faults.specs.declared.watch.Watch.{Watch}
 
 -- a line of which nothing is read: whether its first word is a name
@@ -8,22 +8,22 @@ unfoldable pub unwatched : Bool → Watch
 unwatched named = record { named = named; inside = false; words = 0; odd = 0 }
 
 -- "Words of a line are separated by one or more blanks": how many have begun with a byte more of one, counted up to a bound
-unfoldable pub wordsWith : Watch → ℕ
-wordsWith w = cond w.inside w.words (cond (ltb w.words topNumber) (suc w.words) w.words)
+unfoldable pub words_with : Watch → ℕ
+words_with w = cond w.inside w.words (cond (ltb w.words top_number) (suc w.words) w.words)
 
 -- "A number is one or more digits 0-9": the first word that is not all digits, a name left out, where b is a byte of word n
-unfoldable pub oddWith : Watch → ℕ → ℕ → ℕ
-oddWith w n b = cond (eqb w.odd 0) (cond (isDigit b) 0 (cond (w.named && eqb n 1) 0 n)) w.odd
+unfoldable pub odd_with : Watch → ℕ → ℕ → ℕ
+odd_with w n b = cond (eqb w.odd 0) (cond (is_digit b) 0 (cond (w.named && eqb n 1) 0 n)) w.odd
 
 -- a byte of the line
 unfoldable pub seen : Watch → ℕ → Watch
 seen w b =
     cond
-    (isBlank b)
+    (is_blank b)
     (record { named = w.named; inside = false; words = w.words; odd = w.odd })
-    (record { named = w.named; inside = true; words = wordsWith w; odd = oddWith w (wordsWith w) b })
+    (record { named = w.named; inside = true; words = words_with w; odd = odd_with w (words_with w) b })
 
 -- bytes up to the first line feed
 unfoldable pub watched : Watch → List ℕ → Watch
 watched w [] = w
-watched w (b ∷ l) = cond (isLineFeed b) w (watched (seen w b) l)
+watched w (b ∷ l) = cond (is_line_feed b) w (watched (seen w b) l)

@@ -1,6 +1,6 @@
 // The parts that sentences are made of, put into lent bytes one after the other, as in `texts`: each from byte `at` on.
 ghost use Rattle.std.specs.Prelude.{◌≡◌, ◌+◌, ◌≤◌, length};
-ghost use Rattle.faults.specs.Sentences.{visible as visibleOf, visibles, figure, takesText, isText, suggestion};
+ghost use Rattle.faults.specs.Sentences.{visible as visible_of, visibles, figure, takes_text, is_text, suggestion};
 ghost use Rattle.faults.specs.Promise.{Wrote, room};
 ghost use Rattle.words.specs.Slices.{was};
 
@@ -9,7 +9,7 @@ use lines::Named;
 
 // A byte that can be shown, and ? for any other.
 fn visible(b: u8) -> u8
-    ensures { result ≡ visibleOf b }
+    ensures { result ≡ visible_of b }
 {
     if b < 33 {
         return b'?';
@@ -46,7 +46,7 @@ pub fn put_figure(out: &mut [u8], at: usize, before: &[u8], n: usize, after: &[u
 // How many numbers a call takes.
 pub fn put_takes(out: &mut [u8], at: usize, takes: usize) -> usize
     requires { at + 40 ≤ length out.old }
-    ensures { Wrote result out at (takesText takes) 40 }
+    ensures { Wrote result out at (takes_text takes) 40 }
 {
     if takes == 1 {
         return texts::put_bytes(out, at, b" takes 1 number,");
@@ -57,7 +57,7 @@ pub fn put_takes(out: &mut [u8], at: usize, takes: usize) -> usize
 // What a parameter is.
 pub fn put_is(out: &mut [u8], at: usize, what: Parameter, value: usize) -> usize
     requires { at + 40 ≤ length out.old }
-    ensures { Wrote result out at (isText what value) 40 }
+    ensures { Wrote result out at (is_text what value) 40 }
 {
     match what {
         Parameter::Wpb => put_figure(out, at, b"WPB is", value, b": even,"),

@@ -1,8 +1,8 @@
 // What is wrong with a first line: its words, a parameter out of range, or the size of the file that it asks for.
 ghost use Rattle.std.specs.Prelude.{◌≡◌, ◌-◌};
-ghost use Rattle.lines.specs.Promise.{givenAs};
-ghost use Rattle.faults.specs.First.{within as withinOf, wpbGood, half as half_of, mostKey};
-ghost use Rattle.faults.specs.First.{mostSpace, outFault, ranged as rangedOf, rangeFault, wordsFault, firstFault};
+ghost use Rattle.lines.specs.Promise.{given_as};
+ghost use Rattle.faults.specs.First.{within as within_of, wpb_good, half as half_of, most_key};
+ghost use Rattle.faults.specs.First.{most_space, out_fault, ranged as ranged_of, range_fault, words_fault, first_fault};
 
 use super::watch::Watch;
 use super::{Fault, Parameter};
@@ -10,13 +10,13 @@ use drum::Description;
 use lines::Parameters;
 
 fn is_within(least: usize, value: usize, most: usize) -> bool
-    ensures { result ≡ withinOf least value most }
+    ensures { result ≡ within_of least value most }
 {
     least <= value && value <= most
 }
 
 fn is_wpb(wpb: usize) -> bool
-    ensures { result ≡ wpbGood wpb }
+    ensures { result ≡ wpb_good wpb }
 {
     if wpb % 2 != 0 {
         return false;
@@ -37,7 +37,7 @@ fn half(p: Description) -> usize
 
 // The most words of a key, with two entries to a block.
 fn most_key(p: Description) -> usize
-    ensures { result ≡ mostKey p }
+    ensures { result ≡ most_key p }
 {
     let most = half(p);
     if 64 <= most {
@@ -60,7 +60,7 @@ fn less_two(x: usize) -> usize
 
 // The most that SPACE may be.
 fn most_space(p: Description) -> usize
-    ensures { result ≡ mostSpace p }
+    ensures { result ≡ most_space p }
 {
     let d = p.d();
     let i = p.i();
@@ -71,7 +71,7 @@ fn most_space(p: Description) -> usize
 }
 
 fn out_fault(what: Parameter, value: usize, least: usize, most: usize) -> Fault
-    ensures { result ≡ outFault what value least most }
+    ensures { result ≡ out_fault what value least most }
 {
     Fault::OutOfRange {
         what,
@@ -83,7 +83,7 @@ fn out_fault(what: Parameter, value: usize, least: usize, most: usize) -> Fault
 
 // That the value is out of the range, else what is wrong besides.
 fn ranged(what: Parameter, value: usize, least: usize, most: usize, more: Fault) -> Fault
-    ensures { result ≡ rangedOf what value least most more }
+    ensures { result ≡ ranged_of what value least most more }
 {
     if is_within(least, value, most) {
         return more;
@@ -93,7 +93,7 @@ fn ranged(what: Parameter, value: usize, least: usize, most: usize, more: Fault)
 
 // The first parameter that is out of its range, where one is: the last is looked at first, and each before it comes before it.
 fn range_fault(p: Description) -> Fault
-    ensures { result ≡ rangeFault p }
+    ensures { result ≡ range_fault p }
 {
     if !is_wpb(p.wpb) {
         return out_fault(Parameter::Wpb, p.wpb, 6, 4096);
@@ -107,7 +107,7 @@ fn range_fault(p: Description) -> Fault
 
 // A first line that is not of six numbers.
 fn words_fault(w: Watch) -> Fault
-    ensures { result ≡ wordsFault w }
+    ensures { result ≡ words_fault w }
 {
     if w.odd != 0 {
         return Fault::NoNumber { word: w.odd };
@@ -120,7 +120,7 @@ fn words_fault(w: Watch) -> Fault
 
 // A first line with which no call is played.
 pub fn first_fault(w: Watch, given: Parameters) -> Fault
-    ensures { result ≡ firstFault w (givenAs given) }
+    ensures { result ≡ first_fault w (given_as given) }
 {
     match given {
         Parameters::Nothing => words_fault(w),

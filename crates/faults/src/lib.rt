@@ -7,7 +7,7 @@ mod sentence;
 mod watch;
 
 ghost use Rattle.std.specs.Prelude.{◌≡◌};
-ghost use Rattle.faults.specs.Faults.{nameFault, numbersFault, callFault};
+ghost use Rattle.faults.specs.Faults.{name_fault, numbers_fault, call_fault};
 ghost use Rattle.words.specs.Slices.{was};
 
 use drum::Description;
@@ -62,7 +62,7 @@ pub enum Fault {
 
 // A line whose first word, `word`, names no call.
 pub fn name_fault(w: Watch, word: &[u8]) -> Fault
-    ensures { result ≡ nameFault w (was word) }
+    ensures { result ≡ name_fault w (was word) }
 {
     if w.words == 0 {
         return Fault::Empty;
@@ -77,7 +77,7 @@ pub fn name_fault(w: Watch, word: &[u8]) -> Fault
 
 // A line that names a call which takes so many numbers.
 fn numbers_fault(w: Watch, call: Call, takes: usize) -> Fault
-    ensures { result ≡ numbersFault w call takes }
+    ensures { result ≡ numbers_fault w call takes }
 {
     if w.odd != 0 {
         return Fault::NoNumber { word: w.odd };
@@ -94,7 +94,7 @@ fn numbers_fault(w: Watch, call: Call, takes: usize) -> Fault
 
 // A line of calls that is no such call.
 pub fn call_fault(p: Description, w: Watch, word: &[u8]) -> Fault
-    ensures { result ≡ callFault p w (was word) }
+    ensures { result ≡ call_fault p w (was word) }
 {
     let kind = lines::call_named(word, word.len());
     match kind {

@@ -1,7 +1,7 @@
 // The call whose name is most like a word that names none.
 ghost use Rattle.std.specs.Prelude.{◌≡◌, ◌≤◌, ◌-◌, length, drop};
-ghost use Rattle.faults.specs.Nearest.{upper as upperOf, same as sameLetter, agreeing as agreeingIn, alike as alikeIn};
-ghost use Rattle.faults.specs.Nearest.{nothingNear, nearer as nearerOf, nearestIn, nearest as nearestTo};
+ghost use Rattle.faults.specs.Nearest.{upper as upper_of, same as same_letter, agreeing as agreeing_in, alike as alike_in};
+ghost use Rattle.faults.specs.Nearest.{nothing_near, nearer as nearer_of, nearest_in, nearest as nearest_to};
 ghost use Rattle.lines.specs.Lines.{kinds};
 ghost use Rattle.words.specs.Slices.{was};
 
@@ -18,7 +18,7 @@ pub struct Near {
 
 // A small letter as a capital.
 fn upper(b: u8) -> u8
-    ensures { result ≡ upperOf b }
+    ensures { result ≡ upper_of b }
 {
     if b < b'a' {
         return b;
@@ -31,7 +31,7 @@ fn upper(b: u8) -> u8
 
 // 1 where `a`, as a capital, is b.
 fn same(a: u8, b: u8) -> usize
-    ensures { (result ≡ sameLetter a b) × (result ≤ 1) }
+    ensures { (result ≡ same_letter a b) × (result ≤ 1) }
 {
     if upper(a) == b {
         return 1;
@@ -41,7 +41,7 @@ fn same(a: u8, b: u8) -> usize
 
 // At how many places the bytes of `word` from a on agree with those of `text` from b on.
 fn agreeing(word: &[u8], a: usize, text: &[u8], b: usize) -> usize
-    ensures { (result ≡ agreeingIn (drop a (was word)) (drop b (was text))) × (result ≤ length (was text)) }
+    ensures { (result ≡ agreeing_in (drop a (was word)) (drop b (was text))) × (result ≤ length (was text)) }
 {
     let mut i = a;
     let mut j = b;
@@ -60,7 +60,7 @@ fn agreeing(word: &[u8], a: usize, text: &[u8], b: usize) -> usize
 // How much the word is like a text: as it stands, and with a letter left out or added in front.
 fn alike(word: &[u8], text: &[u8]) -> usize
     requires { length text.now ≤ 8 }
-    ensures { result ≡ alikeIn (was word) (was text) }
+    ensures { result ≡ alike_in (was word) (was text) }
 {
     let whole = agreeing(word, 0, text, 0);
     let added = agreeing(word, 1, text, 0);
@@ -71,7 +71,7 @@ fn alike(word: &[u8], text: &[u8]) -> usize
 // The call whose name is `text`, where the word is more like it than like the one before.
 fn nearer(near: Near, word: &[u8], call: Call, text: &[u8]) -> Near
     requires { length text.now ≤ 8 }
-    ensures { result ≡ nearerOf (was word) near call (was text) }
+    ensures { result ≡ nearer_of (was word) near call (was text) }
 {
     let score = alike(word, text);
     if score <= near.score {
@@ -86,7 +86,7 @@ fn nearer(near: Near, word: &[u8], call: Call, text: &[u8]) -> Near
 
 // The call that the word is most like, the first of equals.
 fn nearest_near(word: &[u8]) -> Near
-    ensures { result ≡ nearestIn (was word) nothingNear kinds }
+    ensures { result ≡ nearest_in (was word) nothing_near kinds }
 {
     let nothing = Near {
         call: Call::Create,
@@ -116,7 +116,7 @@ fn lacking(near: Near) -> usize
 
 // That call, if no more than one letter of its name is lacking.
 pub fn nearest(word: &[u8]) -> Named
-    ensures { result ≡ nearestTo (was word) }
+    ensures { result ≡ nearest_to (was word) }
 {
     let near = nearest_near(word);
     if 1 < lacking(near) {

@@ -1,6 +1,6 @@
 // The sentence that says what is wrong with a line.
 ghost use Rattle.std.specs.Prelude.{◌+◌, ◌≤◌, length};
-ghost use Rattle.faults.specs.Sentences.{noCallText, countText, rangeText, faultText, sentence};
+ghost use Rattle.faults.specs.Sentences.{no_call_text, count_text, range_text, fault_text, sentence};
 ghost use Rattle.faults.specs.Promise.{Wrote};
 ghost use Rattle.words.specs.Slices.{was};
 
@@ -11,7 +11,7 @@ use rules::Call;
 
 fn put_no_call(out: &mut [u8], at: usize, word: &[u8], near: Named) -> usize
     requires { (at + 40 ≤ length out.old) × (length word.now ≤ 8) }
-    ensures { Wrote result out at (noCallText (was word) near) 40 }
+    ensures { Wrote result out at (no_call_text (was word) near) 40 }
 {
     let shown = put_visible(out, at, word);
     let said = texts::put_bytes(out, shown, b" is no call");
@@ -20,7 +20,7 @@ fn put_no_call(out: &mut [u8], at: usize, word: &[u8], near: Named) -> usize
 
 fn put_count(out: &mut [u8], at: usize, call: Call, takes: usize, given: usize) -> usize
     requires { at + 100 ≤ length out.old }
-    ensures { Wrote result out at (countText call takes given) 100 }
+    ensures { Wrote result out at (count_text call takes given) 100 }
 {
     let named = texts::put_name(out, at, call);
     let taken = put_takes(out, named, takes);
@@ -36,7 +36,7 @@ fn put_range(
     most: usize,
 ) -> usize
     requires { at + 100 ≤ length out.old }
-    ensures { Wrote result out at (rangeText what value least most) 100 }
+    ensures { Wrote result out at (range_text what value least most) 100 }
 {
     let is = put_is(out, at, what, value);
     let low = put_figure(out, is, b"", least, b" to");
@@ -45,7 +45,7 @@ fn put_range(
 
 fn put_fault(out: &mut [u8], at: usize, word: &[u8], fault: Fault) -> usize
     requires { (at + 120 ≤ length out.old) × (length word.now ≤ 8) }
-    ensures { Wrote result out at (faultText (was word) fault) 120 }
+    ensures { Wrote result out at (fault_text (was word) fault) 120 }
 {
     match fault {
         Fault::Empty => texts::put_bytes(out, at, b"no word; a call is expected"),

@@ -1,6 +1,6 @@
 // What a fault is told by, beside what `lines` keeps of a line: how many words it has, and the first that is not all digits.
 ghost use Rattle.std.specs.Prelude.{◌≡◌, ◌≤◌, ◌-◌, length, drop};
-ghost use Rattle.faults.specs.Watching.{unwatched, wordsWith, oddWith, seen, watched};
+ghost use Rattle.faults.specs.Watching.{unwatched, words_with, odd_with, seen, watched};
 ghost use Rattle.words.specs.Slices.{was};
 
 use lines::{is_blank, is_digit};
@@ -40,7 +40,7 @@ impl Watch {
 
     // How many words have begun with a byte more of one.
     fn words_with(self) -> usize
-        ensures { result ≡ wordsWith self }
+        ensures { result ≡ words_with self }
     {
         if self.inside {
             return self.words;
@@ -53,7 +53,7 @@ impl Watch {
 
     // The first word that is not all digits, where b is a byte of word n.
     fn odd_with(self, n: usize, b: u8) -> usize
-        ensures { result ≡ oddWith self n b }
+        ensures { result ≡ odd_with self n b }
     {
         if self.odd != 0 {
             return self.odd;

@@ -9,44 +9,44 @@ use native.Mathlib.Omega.{arith}
 use lib.ListN.{length, set, length-set}
 use lib.Seq.{get_or-set_other}
 use Rattle.drum.specs.declared.Description.{Description}
-use Rattle.drum.specs.Params.{fileSize, goodParams}
-use Rattle.drum.specs.Blocks.{Fitting, Block, Transfer, Write, written, putBlock, Texts, seen, text_of, sections}
+use Rattle.drum.specs.Params.{file_size, good_params}
+use Rattle.drum.specs.Blocks.{Fitting, Block, Transfer, Write, written, put_block, Texts, seen, text_of, sections}
 use Rattle.drum.proofs.Good.{caps}
-use Rattle.drum.proofs.Blocks.{block-other, text-current, text-other, length-textOf, length-putBlock}
+use Rattle.drum.proofs.Blocks.{block-other, text-current, text-other, length-text_of, length-put_block}
 use Rattle.drum.proofs.Written.{Moves, length-written, master-set-written, master-word-written}
 use Rattle.rules.specs.declared.Path.{Path}
 use Rattle.rules.specs.declared.Way.{Way}
 use Rattle.rules.specs.declared.Taken.{Taken}
-use Rattle.rules.specs.Lookup.{reached, textAt}
-use Rattle.rules.specs.Free.{withFree}
+use Rattle.rules.specs.Lookup.{reached, text_at}
+use Rattle.rules.specs.Free.{with_free}
 use Rattle.acts.proofs.Ways.{way-moves, length-followed, text-followed}
-use Rattle.free.specs.Readied.{ReadyFits, reachedFile, readyFile}
+use Rattle.free.specs.Readied.{ReadyFits, reached_file, ready_file}
 
 -- words 1 and 2 of the master, set before or after some transfers
-module _ (p : Description) (good : goodParams p ≡ true) (f : List ℕ) (hf : length f ≡ fileSize p) (head lowest : ℕ) where
-  pub length-free : length (withFree head lowest f) ≡ fileSize p
-  unfolding withFree
+module _ (p : Description) (good : good_params p ≡ true) (f : List ℕ) (hf : length f ≡ file_size p) (head lowest : ℕ) where
+  pub length-free : length (with_free head lowest f) ≡ file_size p
+  unfolding with_free
   length-free = length-set (set f 1 head) 2 lowest ∙ length-set f 1 head ∙ hf
 
-  pub sections-free : sections (withFree head lowest f) ≡ sections f
-  unfolding withFree
+  pub sections-free : sections (with_free head lowest f) ≡ sections f
+  unfolding with_free
   sections-free = get_or-set_other (set f 1 head) 2 0 lowest 0 (λ e. omega arith) ∙ get_or-set_other f 1 0 head 0 (λ e. omega arith)
 
-  pub free-written : (moves : List Transfer) → Moves p moves → withFree head lowest (written p moves f) ≡ written p moves (withFree head lowest f)
-  unfolding withFree
+  pub free-written : (moves : List Transfer) → Moves p moves → with_free head lowest (written p moves f) ≡ written p moves (with_free head lowest f)
+  unfolding with_free
   free-written moves h =
       let g = caps p good in
-      let l : length (set f 1 head) ≡ fileSize p = length-set f 1 head ∙ hf in
+      let l : length (set f 1 head) ≡ file_size p = length-set f 1 head ∙ hf in
       sym (master-set-written p (set f 1 head) l moves h 2 lowest (omega arith)
       ∙ ap (λ (x : List ℕ). set x 2 lowest) (master-set-written p f hf moves h 1 head (omega arith)))
 
 -- another block's text, once a block is written
-pub text-beside : (v : Texts) → length v.file ≡ fileSize v.desc → (i : ℕ) → Block v.desc i → (t : List ℕ) → length t ≡ v.desc.wpb
-    → (x : ℕ) → Block v.desc x → (x ≡ i → ⊥) → text_of (seen v.desc v.current (putBlock v.desc v.file i t) v.buffer) x ≡ text_of v x
+pub text-beside : (v : Texts) → length v.file ≡ file_size v.desc → (i : ℕ) → Block v.desc i → (t : List ℕ) → length t ≡ v.desc.wpb
+    → (x : ℕ) → Block v.desc x → (x ≡ i → ⊥) → text_of (seen v.desc v.current (put_block v.desc v.file i t) v.buffer) x ≡ text_of v x
 text-beside v hf i hi t ht x hx ne = by (ℕ_discrete x v.current)
   where
     u : Texts
-    u = seen v.desc v.current (putBlock v.desc v.file i t) v.buffer
+    u = seen v.desc v.current (put_block v.desc v.file i t) v.buffer
 
     by : Dec (x ≡ v.current) → text_of u x ≡ text_of v x
     by (yes e) = text-current u x e ∙ sym (text-current v x e)
@@ -60,27 +60,27 @@ module _ (v : Texts) (flag : Bool) (way : Way) (w : Path) (d : Taken) (fits : Re
   detail-block = (fits.path.detail-least, fits.path.detail-most)
 
   index-length : length (text_of v w.index) ≡ v.desc.wpb
-  index-length = length-textOf v w.index fit index-block
+  index-length = length-text_of v w.index fit index-block
 
   -- the file so far has its length, and its sections
-  pub length-reached : length (reachedFile v flag way d) ≡ fileSize v.desc
-  unfolding reachedFile
+  pub length-reached : length (reached_file v flag way d) ≡ file_size v.desc
+  unfolding reached_file
   length-reached =
-      length-written v.desc (withFree d.head d.lowest v.file) (length-free v.desc fit.good v.file fit.file-is d.head d.lowest)
+      length-written v.desc (with_free d.head d.lowest v.file) (length-free v.desc fit.good v.file fit.file-is d.head d.lowest)
       (reached v flag way).moves (way-moves v flag fit way fits.reached)
 
-  pub sections-reached : sections (reachedFile v flag way d) ≡ sections v.file
-  unfolding reachedFile
+  pub sections-reached : sections (reached_file v flag way d) ≡ sections v.file
+  unfolding reached_file
   sections-reached =
       let g = caps v.desc fit.good in
-      master-word-written v.desc (withFree d.head d.lowest v.file)
+      master-word-written v.desc (with_free d.head d.lowest v.file)
       (length-free v.desc fit.good v.file fit.file-is d.head d.lowest)
       (reached v flag way).moves (way-moves v flag fit way fits.reached) 0 (omega arith)
       ∙ sections-free v.desc fit.good v.file fit.file-is d.head d.lowest
 
-  pub length-ready : length (readyFile v flag way w d) ≡ fileSize v.desc
-  unfolding readyFile
-  length-ready = length-putBlock v.desc (reachedFile v flag way d) length-reached w.index index-block (text_of v w.index) index-length
+  pub length-ready : length (ready_file v flag way w d) ≡ file_size v.desc
+  unfolding ready_file
+  length-ready = length-put_block v.desc (reached_file v flag way d) length-reached w.index index-block (text_of v w.index) index-length
 
 module _ (p : Description) (cur : ℕ) (f b : List ℕ) (flag : Bool) (way : Way) (w : Path) (d : Taken) where
   abbrev v : Texts
@@ -103,8 +103,8 @@ module _ (p : Description) (cur : ℕ) (f b : List ℕ) (flag : Bool) (way : Way
     followed : List ℕ
     followed = written p (reached v flag way).moves f
 
-    module _ (f₂ : List ℕ) (e₂ : f₂ ≡ putBlock p f₁ w.index (text_of (seen p cur f₁ b) w.index)) where
-      staged : f₂ ≡ putBlock p followed w.index (text_of v w.index)
+    module _ (f₂ : List ℕ) (e₂ : f₂ ≡ put_block p f₁ w.index (text_of (seen p cur f₁ b) w.index)) where
+      staged : f₂ ≡ put_block p followed w.index (text_of v w.index)
       unfolding followed
       staged = let t = text-followed v flag fit way fits.reached w.index (index-block v flag way w d fits fit) in rw (e₂, e₁, t)
 
@@ -115,7 +115,7 @@ module _ (p : Description) (cur : ℕ) (f b : List ℕ) (flag : Bool) (way : Way
           let t = index-length v flag way w d fits fit in
           record {
             good = fit.good;
-            file-is = ap length staged ∙ length-putBlock p followed l w.index (index-block v flag way w d fits fit) (text_of v w.index) t;
+            file-is = ap length staged ∙ length-put_block p followed l w.index (index-block v flag way w d fits fit) (text_of v w.index) t;
             buffer-is = fit.buffer-is;
           }
 
@@ -126,17 +126,17 @@ module _ (p : Description) (cur : ℕ) (f b : List ℕ) (flag : Bool) (way : Way
           let l = staged-fits.file-is in
           omega arith
 
-      pub readied : (f₃ : List ℕ) → f₃ ≡ withFree d.head d.lowest f₂ → f₃ ≡ readyFile v flag way w d
-      unfolding readyFile reachedFile written followed
+      pub readied : (f₃ : List ℕ) → f₃ ≡ with_free d.head d.lowest f₂ → f₃ ≡ ready_file v flag way w d
+      unfolding ready_file reached_file written followed
       readied f₃ e₃ =
           let n = index-length v flag way w d fits fit in
-          e₃ ∙ ap (withFree d.head d.lowest) staged
+          e₃ ∙ ap (with_free d.head d.lowest) staged
           ∙ free-written p fit.good followed (length-followed v flag fit way fits.reached) d.head d.lowest
           (Write w.index (text_of v w.index) ∷ []) (index-block v flag way w d fits fit, n, tt)
-          ∙ ap (λ (z : List ℕ). putBlock p z w.index (text_of v w.index))
+          ∙ ap (λ (z : List ℕ). put_block p z w.index (text_of v w.index))
           (free-written p fit.good f fit.file-is d.head d.lowest (reached v flag way).moves (way-moves v flag fit way fits.reached))
 
-      pub loaded : (t : List ℕ) → t ≡ text_of (seen p cur f₂ b) w.detail → t ≡ textAt v way
+      pub loaded : (t : List ℕ) → t ≡ text_of (seen p cur f₂ b) w.detail → t ≡ text_at v way
       unfolding followed
       loaded t et =
           let k = detail-block v flag way w d fits fit in

@@ -4,7 +4,7 @@ use Rattle.numbers.specs.Checked.{Checked, passed, refused, ◌>>=◌, ◌>>◌,
 use Rattle.rules.specs.declared.Taken.{Taken}
 
 -- the lowest block never used, word 2, of n blocks
-unfoldable pub lowestGranted : ℕ → ℕ → Checked Taken
-lowestGranted n lowest = do
+unfoldable pub lowest_granted : ℕ → ℕ → Checked Taken
+lowest_granted n lowest = do
   within 1 (n + 1) lowest
   passed (cond (ltb n lowest) (record { block = 0; head = 0; lowest = lowest }) (record { block = lowest; head = 0; lowest = lowest + 1 }))

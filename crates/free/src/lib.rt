@@ -3,11 +3,11 @@
 mod ready;
 
 ghost use Rattle.std.specs.Prelude.{◌≡◌, true, not, ◌&&◌, ◌+◌, ◌≤◌, eqb, length};
-ghost use Rattle.drum.specs.Params.{goodParams};
+ghost use Rattle.drum.specs.Params.{good_params};
 ghost use Rattle.drum.specs.Blocks.{Fitting, at_entry};
-ghost use Rattle.rules.specs.Free.{granted, takeOne, takeTwo, storedNumber, isNew, isShort};
-ghost use Rattle.free.specs.Lowest.{lowestGranted};
-ghost use Rattle.free.specs.Answers.{asGrant, asGrants, as_number};
+ghost use Rattle.rules.specs.Free.{granted, take_one, take_two, stored_number, is_new, is_short};
+ghost use Rattle.free.specs.Lowest.{lowest_granted};
+ghost use Rattle.free.specs.Answers.{as_grant, as_grants, as_number};
 
 use drum::Description;
 use numbers::NONE_FREE;
@@ -41,7 +41,7 @@ fn wide(x: u32) -> usize
 // The lowest block never used is a new block, if there is one.
 fn take_lowest(n: usize, lowest: u32) -> Grant
     requires { n ≤ 262142 }
-    ensures { asGrant result ≡ lowestGranted n lowest }
+    ensures { as_grant result ≡ lowest_granted n lowest }
 {
     let low = wide(lowest);
     if low < 1 {
@@ -74,7 +74,7 @@ fn take_block<'a>(
     lowest: u32,
 ) -> Grant
     requires { Fitting p file.now buffer.now }
-    ensures { asGrant result ≡ granted (at_entry p current file buffer) head lowest }
+    ensures { as_grant result ≡ granted (at_entry p current file buffer) head lowest }
 {
     let n = p.n;
     if n < head {
@@ -100,7 +100,7 @@ fn take_block<'a>(
 
 // Whether block b is no other block of the call's transfers.
 fn is_new(current: usize, flag: bool, w: Path, b: usize) -> bool
-    ensures { result ≡ isNew current flag w b }
+    ensures { result ≡ is_new current flag w b }
 {
     if b == w.index {
         return false;
@@ -117,7 +117,7 @@ fn is_new(current: usize, flag: bool, w: Path, b: usize) -> bool
 // One new block for a call with the path w, tested.
 pub fn take_one<'a>(at: Held, file: &'a [u32], buffer: &'a [u32], w: Path) -> Grant
     requires { Fitting at.desc file.now buffer.now }
-    ensures { asGrant result ≡ takeOne (at_entry at.desc at.current file buffer) at.flag w }
+    ensures { as_grant result ≡ take_one (at_entry at.desc at.current file buffer) at.flag w }
 {
     let head = words::word_at(file, 1);
     let Grant::Got(d) = take_block(at.desc, at.current, file, buffer, head, file[2]) else {
@@ -135,7 +135,7 @@ pub fn take_one<'a>(at: Held, file: &'a [u32], buffer: &'a [u32], w: Path) -> Gr
 // Whether one of two new blocks is lacking, or a section.
 fn is_short<'a>(at: Held, file: &'a [u32], buffer: &'a [u32], d: usize, x: usize) -> bool
     requires { 1 ≤ length file.now }
-    ensures { result ≡ isShort (at_entry at.desc at.current file buffer) d x }
+    ensures { result ≡ is_short (at_entry at.desc at.current file buffer) d x }
 {
     if d == 0 {
         return true;
@@ -148,7 +148,7 @@ fn is_short<'a>(at: Held, file: &'a [u32], buffer: &'a [u32], d: usize, x: usize
 
 // Whether both are new blocks of the call, and not the same.
 fn are_new(at: Held, w: Path, d: usize, x: usize) -> bool
-    ensures { result ≡ (isNew at.current at.flag w d && (isNew at.current at.flag w x && not (eqb x d))) }
+    ensures { result ≡ (is_new at.current at.flag w d && (is_new at.current at.flag w x && not (eqb x d))) }
 {
     if x == d {
         return false;
@@ -162,7 +162,7 @@ fn are_new(at: Held, w: Path, d: usize, x: usize) -> bool
 // Two new blocks for a call with the path w, the detail block first, and a section: tested, and not the same.
 pub fn take_two<'a>(at: Held, file: &'a [u32], buffer: &'a [u32], w: Path) -> Grants
     requires { Fitting at.desc file.now buffer.now }
-    ensures { asGrants result ≡ takeTwo (at_entry at.desc at.current file buffer) at.flag w }
+    ensures { as_grants result ≡ take_two (at_entry at.desc at.current file buffer) at.flag w }
 {
     let head = words::word_at(file, 1);
     let Grant::Got(d) = take_block(at.desc, at.current, file, buffer, head, file[2]) else {
@@ -188,8 +188,8 @@ pub fn take_two<'a>(at: Held, file: &'a [u32], buffer: &'a [u32], w: Path) -> Gr
 
 // The number once a record is stored in a block that then holds n, with these words 1 and 2 of the master.
 pub fn stored(p: Description, n: usize, head: usize, lowest: u32) -> Number
-    requires { goodParams p ≡ true }
-    ensures { as_number result ≡ storedNumber p n head lowest }
+    requires { good_params p ≡ true }
+    ensures { as_number result ≡ stored_number p n head lowest }
 {
     let blocks = p.n;
     if n != p.d() {

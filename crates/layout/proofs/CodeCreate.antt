@@ -6,23 +6,23 @@ use Prim.Native.Nat.{ℕ, ◌+◌, ◌*◌, ◌-◌, ◌≤◌, ◌<◌}
 use native.Mathlib.Omega.{arith}
 use lib.ListN.{length, take, drop, set, replicate, length-set, length-append, length-replicate, replicate-append-replicate}
 use lib.Seq.{take_at, drop-append-add}
-use Rattle.words.specs.Words.{put, topWord, zeros}
+use Rattle.words.specs.Words.{put, top_word, zeros}
 use Rattle.words.specs.Keys.{ones}
 use Rattle.words.proofs.Parts.{put-snoc, put_all, put-after, set-put, drop-zeros}
 use Rattle.table.specs.Tables.{laid}
 use Rattle.table.proofs.Places.{row_lt}
 use Rattle.drum.specs.declared.Description.{Description}
-use Rattle.drum.specs.Params.{goodParams, masterSize, fileSize, start, tag_of, indexKind, detailKind, index_shape, detailShape}
+use Rattle.drum.specs.Params.{good_params, master_size, file_size, start, tag_of, index_kind, detail_kind, index_shape, detail_shape}
 use Rattle.drum.proofs.Good.{caps}
 use Rattle.drum.proofs.Forms.{tag-most}
-use Rattle.layout.specs.Create.{endRecord, created, masterOn, indexOn, detailOn}
+use Rattle.layout.specs.Create.{end_record, created, master_on, index_on, detail_on}
 
 -- a turn of the loop that writes ONES, and the block behind them
-pub ones-turn : (t t₀ : List ℕ) (at i k : ℕ) → t ≡ put t₀ at (ones i) → at + k ≤ length t₀ → i < k → set t (at + i) topWord ≡ put t₀ at (ones (i + 1))
+pub ones-turn : (t t₀ : List ℕ) (at i k : ℕ) → t ≡ put t₀ at (ones i) → at + k ≤ length t₀ → i < k → set t (at + i) top_word ≡ put t₀ at (ones (i + 1))
 ones-turn t t₀ at i k e h l =
-    let n : length (ones i) ≡ i = length-replicate i topWord in
+    let n : length (ones i) ≡ i = length-replicate i top_word in
     let p : at + length (ones i) < length t₀ = omega arith in
-    rw (e, ← replicate-append-replicate {A = ℕ} i 1 topWord) (rw n at (put-snoc t₀ at (ones i) topWord p))
+    rw (e, ← replicate-append-replicate {A = ℕ} i 1 top_word) (rw n at (put-snoc t₀ at (ones i) top_word p))
 
 pub ones-done : (t t₀ : List ℕ) (at k i : ℕ) → t ≡ put t₀ at (ones i) → i ≤ k → k ≤ i → t ≡ put t₀ at (ones k)
 ones-done t t₀ at k i e h l =
@@ -31,24 +31,24 @@ ones-done t t₀ at k i e h l =
 
 pub entry-turn : (t t₀ : List ℕ) (at k b : ℕ) → t ≡ put t₀ at (ones k) → at + k + 1 ≤ length t₀ → set t (at + k) b ≡ put t₀ at (ones k ++ (b ∷ []))
 entry-turn t t₀ at k b e h =
-    let n : length (ones k) ≡ k = length-replicate k topWord in
+    let n : length (ones k) ≡ k = length-replicate k top_word in
     let p : at + length (ones k) < length t₀ = omega arith in
     rw e (rw n at (put-snoc t₀ at (ones k) b p))
 
 -- where the first two blocks lie
 pub record Begins (p : Description) : Type 0 where
-  pub first : start p 1 ≡ masterSize p
-  pub second : start p 2 ≡ masterSize p + p.wpb
-  pub master : 4 + p.k ≤ masterSize p
+  pub first : start p 1 ≡ master_size p
+  pub second : start p 2 ≡ master_size p + p.wpb
+  pub master : 4 + p.k ≤ master_size p
   pub room : 2 + p.k ≤ p.wpb
   pub key : p.k ≤ p.wpr
   pub record-lt : p.wpr < p.wpb
   pub two : 2 ≤ p.n
   pub rest : p.n * p.wpb ≡ p.wpb + (p.wpb + (p.n - 2) * p.wpb)
-  pub file : fileSize p ≡ masterSize p + p.n * p.wpb
-  pub file-most : fileSize p ≤ 1074782148
+  pub file : file_size p ≡ master_size p + p.n * p.wpb
+  pub file-most : file_size p ≤ 1074782148
 
-pub begins : (p : Description) → goodParams p ≡ true → Begins p
+pub begins : (p : Description) → good_params p ≡ true → Begins p
 unfolding start
 begins p h =
     let c = caps p h in
@@ -98,7 +98,7 @@ join : (m n : ℕ) → zeros m ++ zeros n ≡ zeros (m + n)
 join m n = replicate-append-replicate {A = ℕ} m n 0
 
 ones-length : (k : ℕ) (s : List ℕ) → length (ones k ++ s) ≡ k + length s
-ones-length k s = length-append (ones k) s ∙ ap (λ (z : ℕ). z + length s) (length-replicate k topWord)
+ones-length k s = length-append (ones k) s ∙ ap (λ (z : ℕ). z + length s) (length-replicate k top_word)
 
 -- the texts of the first two blocks
 module _ (p : Description) (w : Begins p) where
@@ -108,9 +108,9 @@ module _ (p : Description) (w : Begins p) where
       let e : p.wpb - 1 - length (ones p.k ++ (2 ∷ [])) ≡ p.wpb - 2 - p.k = rw (ones-length p.k (2 ∷ [])) (omega arith) in
       rw (e, append_assoc)
 
-  detail-text : (c : ℕ) → laid p.wpb c (endRecord p) ++ zeros ((p.n - 2) * p.wpb)
+  detail-text : (c : ℕ) → laid p.wpb c (end_record p) ++ zeros ((p.n - 2) * p.wpb)
       ≡ c ∷ (ones p.k ++ zeros (p.wpb - 1 - p.k + (p.n - 2) * p.wpb))
-  unfolding laid endRecord
+  unfolding laid end_record
   detail-text c =
       let z : List ℕ = zeros (p.wpr - p.k) in
       let l : length (ones p.k ++ z) ≡ p.wpr = ones-length p.k z ∙ ap (λ (x : ℕ). p.k + x) (length-replicate (p.wpr - p.k) 0) ∙ omega arith in
@@ -165,7 +165,7 @@ module _ (k m b r : ℕ) (hm : 4 + k ≤ m) (hb : 2 + k ≤ b) where
       let g₂ : ℕ = b - 2 - k in
       let n₀ = ones-length k (1 ∷ []) in
       let n₁ = ones-length k (2 ∷ []) in
-      let nk : length (ones k) ≡ k = length-replicate k topWord in
+      let nk : length (ones k) ≡ k = length-replicate k top_word in
       let t₁ : m - 4 - k + (b + (b + r)) ≡ g₁ + (1 + length (ones k ++ (2 ∷ []))) + (g₂ + (b + r)) = omega arith in
       let t₂ : g₂ + (b + r) ≡ g₂ + (1 + length (ones k)) + (b - 1 - k + r) = omega arith in
       let a₁ = master-on f f₁ e e₁ ∙ ap (λ (z : ℕ). master ++ zeros z) t₁ in
@@ -180,41 +180,41 @@ pub sets-kept : (t t₁ u : List ℕ) (i x j y : ℕ) → length u ≡ length (s
 sets-kept t t₁ u i x j y e k = e ∙ length-set (set t₁ i x) j y ∙ length-set t₁ i x ∙ k
 
 -- a block's word 0, and what follows it
-pub laid-index : (t t₁ t₂ : List ℕ) (at n k : ℕ) → t₂ ≡ put t₁ (at + 1) (ones k ++ (2 ∷ [])) → t₁ ≡ set t at n → t₂ ≡ indexOn at n k t
-unfolding indexOn
+pub laid-index : (t t₁ t₂ : List ℕ) (at n k : ℕ) → t₂ ≡ put t₁ (at + 1) (ones k ++ (2 ∷ [])) → t₁ ≡ set t at n → t₂ ≡ index_on at n k t
+unfolding index_on
 laid-index t t₁ t₂ at n k e₂ e₁ = e₂ ∙ ap (λ (l : List ℕ). put l (at + 1) (ones k ++ (2 ∷ []))) e₁
 
-pub laid-detail : (t t₁ t₂ : List ℕ) (at n k : ℕ) → t₂ ≡ put t₁ (at + 1) (ones k) → t₁ ≡ set t at n → t₂ ≡ detailOn at n k t
-unfolding detailOn
+pub laid-detail : (t t₁ t₂ : List ℕ) (at n k : ℕ) → t₂ ≡ put t₁ (at + 1) (ones k) → t₁ ≡ set t at n → t₂ ≡ detail_on at n k t
+unfolding detail_on
 laid-detail t t₁ t₂ at n k e₂ e₁ = e₂ ∙ ap (λ (l : List ℕ). put l (at + 1) (ones k)) e₁
 
 -- one part after the other, and the words of a new file
 pub laid-master : (t t₁ t₂ : List ℕ) (k : ℕ) → t₂ ≡ put (set (set t₁ 0 1) 2 3) 3 (ones k ++ (1 ∷ [])) → t₁ ≡ put t 0 (zeros (length t))
-    → t₂ ≡ masterOn k (zeros (length t))
-unfolding masterOn
+    → t₂ ≡ master_on k (zeros (length t))
+unfolding master_on
 laid-master t t₁ t₂ k e₂ e₁ =
     let z : t₁ ≡ zeros (length t) = e₁ ∙ put_all t (zeros (length t)) (length-replicate (length t) 0) in
     e₂ ∙ ap (λ (l : List ℕ). put (set (set l 0 1) 2 3) 3 (ones k ++ (1 ∷ []))) z
 
-pub laid-blocks : (p : Description) (t t₁ t₂ : List ℕ) (first second g h : ℕ) → t₂ ≡ detailOn second (h + 1) p.k t₁ → t₁ ≡ indexOn first (g + 1) p.k t
-    → g ≡ tag_of p indexKind → h ≡ tag_of p detailKind
-    → t₂ ≡ detailOn second (tag_of p detailKind + 1) p.k (indexOn first (tag_of p indexKind + 1) p.k t)
+pub laid-blocks : (p : Description) (t t₁ t₂ : List ℕ) (first second g h : ℕ) → t₂ ≡ detail_on second (h + 1) p.k t₁ → t₁ ≡ index_on first (g + 1) p.k t
+    → g ≡ tag_of p index_kind → h ≡ tag_of p detail_kind
+    → t₂ ≡ detail_on second (tag_of p detail_kind + 1) p.k (index_on first (tag_of p index_kind + 1) p.k t)
 laid-blocks p t t₁ t₂ first second g h e₂ e₁ eg eh =
     e₂
-    ∙ (λ i. detailOn second (eh i + 1) p.k (e₁ i))
-    ∙ ap (λ (x : ℕ). detailOn second (tag_of p detailKind + 1) p.k (indexOn first (x + 1) p.k t)) eg
+    ∙ (λ i. detail_on second (eh i + 1) p.k (e₁ i))
+    ∙ ap (λ (x : ℕ). detail_on second (tag_of p detail_kind + 1) p.k (index_on first (x + 1) p.k t)) eg
 
 pub laid_out : (p : Description) (f f₁ f₂ : List ℕ) (first second : ℕ)
-    → f₂ ≡ detailOn second (tag_of p detailKind + 1) p.k (indexOn first (tag_of p indexKind + 1) p.k f₁)
-    → f₁ ≡ masterOn p.k (zeros (length f)) → first ≡ start p 1 → second ≡ start p 2 → length f ≡ fileSize p → goodParams p ≡ true → f₂ ≡ created p
-unfolding created masterOn indexOn detailOn index_shape detailShape
+    → f₂ ≡ detail_on second (tag_of p detail_kind + 1) p.k (index_on first (tag_of p index_kind + 1) p.k f₁)
+    → f₁ ≡ master_on p.k (zeros (length f)) → first ≡ start p 1 → second ≡ start p 2 → length f ≡ file_size p → good_params p ≡ true → f₂ ≡ created p
+unfolding created master_on index_on detail_on index_shape detail_shape
 laid_out p f f₁ f₂ first second e₂ e₁ q₁ q₂ size good =
     let w = begins p good in
     let r : ℕ = (p.n - 2) * p.wpb in
-    let t : length f ≡ masterSize p + (p.wpb + (p.wpb + r)) = omega arith in
+    let t : length f ≡ master_size p + (p.wpb + (p.wpb + r)) = omega arith in
     let e₃ = rw (q₁, q₂, w.first, w.second) at e₂ in
-    rw (index-text p w (tag_of p indexKind + 1), detail-text p w (tag_of p detailKind + 1))
-    (all-on p.k (masterSize p) p.wpb r w.master w.room (tag_of p indexKind + 1) (tag_of p detailKind + 1)
+    rw (index-text p w (tag_of p index_kind + 1), detail-text p w (tag_of p detail_kind + 1))
+    (all-on p.k (master_size p) p.wpb r w.master w.room (tag_of p index_kind + 1) (tag_of p detail_kind + 1)
     (zeros (length f)) f₁ _ f₂ (ap (λ (n : ℕ). zeros n) t) e₁ refl e₃)
 
 -- a tag as the code has it
@@ -222,14 +222,14 @@ pub tag-at-most : (p : Description) (kind g : ℕ) → g ≡ tag_of p kind → g
 tag-at-most p kind g e = rw e (tag-most p kind)
 
 -- what is written lies in the file
-module _ (p : Description) (good : goodParams p ≡ true) where
-  pub master-words : 4 + p.k ≤ fileSize p
+module _ (p : Description) (good : good_params p ≡ true) where
+  pub master-words : 4 + p.k ≤ file_size p
   master-words = let w = begins p good in omega arith
 
-  pub index-words : start p 1 + (2 + p.k) ≤ fileSize p
+  pub index-words : start p 1 + (2 + p.k) ≤ file_size p
   index-words = let w = begins p good in omega arith
 
-  pub detail-words : start p 2 + (1 + p.k) ≤ fileSize p
+  pub detail-words : start p 2 + (1 + p.k) ≤ file_size p
   detail-words = let w = begins p good in omega arith
 
   pub two_blocks : 2 ≤ p.n

@@ -10,9 +10,9 @@ use lib.ListN.{length, take, drop, get_or, set, replicate, drop_of_length-le, le
 use lib.Seq.{drop-cons, drop-length}
 use borrow.Author.Fill.{fill_more}
 use borrow.Author.Tests.{leb-true, lt-leb, le-leb, eq-eqb, ne_eqb}
-use Rattle.numbers.specs.Numbers.{badFile}
+use Rattle.numbers.specs.Numbers.{bad_file}
 use Rattle.numbers.specs.Checked.{passed, refused}
-use Rattle.words.specs.Words.{part, zeros, allAre, noneIs}
+use Rattle.words.specs.Words.{part, zeros, all_are, none_is}
 use Rattle.words.proofs.Parts.{part-turn, part_none}
 use Rattle.layout.specs.Inspect.{marked}
 use Rattle.layout.specs.Inspected.{flagged}
@@ -26,7 +26,7 @@ marked-in m b ms t ms' n q y l = go (leb 1 b) (leb b (length ms)) refl refl
     e : marked m b ms ≡ passed ms'
     e = moved t ms' (marked m b ms) q y
 
-    clash : refused badFile ≡ passed ms' → (1 ≤ b) × (b ≤ n)
+    clash : refused bad_file ≡ passed ms' → (1 ≤ b) × (b ≤ n)
     clash q = absurd (let z : ◌≡◌ {A = ℕ} 0 1 = cc in omega arith)
 
     go : (x y : Bool) → leb 1 b ≡ x → leb b (length ms) ≡ y → (1 ≤ b) × (b ≤ n)
@@ -36,17 +36,17 @@ marked-in m b ms t ms' n q y l = go (leb 1 b) (leb b (length ms)) refl refl
 
 -- a block is marked, if it is one of the file's and had no mark
 module _ (m b : ℕ) (ms : List ℕ) where
-  pub mark-zero : b < 1 → marked m b ms ≡ refused badFile
+  pub mark-zero : b < 1 → marked m b ms ≡ refused bad_file
   unfolding marked
   mark-zero h = simp (lt-leb _ _ h)
 
   module _ (l : 1 ≤ b) where
-    pub mark-high : length ms < b → marked m b ms ≡ refused badFile
+    pub mark-high : length ms < b → marked m b ms ≡ refused bad_file
     unfolding marked
     mark-high h = simp (le-leb _ _ l, lt-leb _ _ h)
 
     module _ (h : b ≤ length ms) where
-      pub mark-twice : (get_or ms (b - 1) 0 ≡ 0 → ⊥) → marked m b ms ≡ refused badFile
+      pub mark-twice : (get_or ms (b - 1) 0 ≡ 0 → ⊥) → marked m b ms ≡ refused bad_file
       unfolding marked
       mark-twice n = simp (le-leb _ _ l, le-leb _ _ h, ne_eqb _ _ n)
 
@@ -55,9 +55,9 @@ module _ (m b : ℕ) (ms : List ℕ) where
       mark_set e = simp (le-leb _ _ l, le-leb _ _ h, eq-eqb _ _ e)
 
 -- the first n all set: what is left gives what all give
-module _ (n i : ℕ) (l : List ℕ) (whole : Bool) (q : whole ≡ noneIs 0 (part i (n - i) l)) where
+module _ (n i : ℕ) (l : List ℕ) (whole : Bool) (q : whole ≡ none_is 0 (part i (n - i) l)) where
   pub set-done : n ≤ i → true ≡ whole
-  unfolding noneIs
+  unfolding none_is
   set-done h =
       let z : n - i ≡ 0 = omega arith in
       sym (q ∙ rw (z, part_none i l))
@@ -66,31 +66,31 @@ module _ (n i : ℕ) (l : List ℕ) (whole : Bool) (q : whole ≡ noneIs 0 (part
     turn : part i (n - i) l ≡ get_or l i 0 ∷ part (i + 1) (n - (i + 1)) l
     turn = simp zero-add at (part-turn 0 n i l h (omega arith))
 
-    pub set_next : (get_or l i 0 ≡ 0 → ⊥) → whole ≡ noneIs 0 (part (i + 1) (n - (i + 1)) l)
-    unfolding noneIs
+    pub set_next : (get_or l i 0 ≡ 0 → ⊥) → whole ≡ none_is 0 (part (i + 1) (n - (i + 1)) l)
+    unfolding none_is
     set_next e = q ∙ rw turn (simp (ne_eqb _ _ e))
 
     pub set-stop : get_or l i 0 ≡ 0 → false ≡ whole
-    unfolding noneIs
+    unfolding none_is
     set-stop e = sym (q ∙ rw turn (simp (eq-eqb _ _ e)))
 
-pub set-start : (n : ℕ) (l : List ℕ) → noneIs 0 (take n l) ≡ noneIs 0 (part 0 (n - 0) l)
+pub set-start : (n : ℕ) (l : List ℕ) → none_is 0 (take n l) ≡ none_is 0 (part 0 (n - 0) l)
 unfolding part
 set-start n l = simp sub-zero
 
 -- those from i on all 0: what is left gives what all give
-module _ (i : ℕ) (l : List ℕ) (whole : Bool) (q : whole ≡ allAre 0 (drop i l)) where
+module _ (i : ℕ) (l : List ℕ) (whole : Bool) (q : whole ≡ all_are 0 (drop i l)) where
   pub unset-done : length l ≤ i → true ≡ whole
-  unfolding allAre
+  unfolding all_are
   unset-done h = sym (q ∙ rw (drop_of_length-le l h))
 
   module _ (h : i < length l) where
-    pub unset-next : get_or l i 0 ≡ 0 → whole ≡ allAre 0 (drop (i + 1) l)
-    unfolding allAre
+    pub unset-next : get_or l i 0 ≡ 0 → whole ≡ all_are 0 (drop (i + 1) l)
+    unfolding all_are
     unset-next e = let s : i + 1 ≡ suc i = omega arith in q ∙ rw (s, drop-cons l i 0) (simp (eq-eqb _ _ e))
 
     pub unset-stop : (get_or l i 0 ≡ 0 → ⊥) → false ≡ whole
-    unfolding allAre
+    unfolding all_are
     unset-stop e = sym (q ∙ rw (drop-cons l i 0) (simp (ne_eqb _ _ e)))
 
 -- marks cleared one by one

@@ -9,7 +9,7 @@ use mir.Syntax.{w64}
 use mir.Val.{Fits}
 use Rattle.table.proofs.Places.{row-le, row_next}
 use Rattle.drum.specs.declared.Description.{Description}
-use Rattle.drum.specs.Params.{D, I, start, masterSize, fileSize, sizeIf}
+use Rattle.drum.specs.Params.{D, I, start, master_size, file_size, size_if}
 use Rattle.words.specs.Words.{part}
 use Rattle.drum.specs.Blocks.{block_at, Block}
 use Rattle.drum.proofs.Good.{caps, size-good}
@@ -77,11 +77,11 @@ module _ (n most stride w s z : ℕ) (room : 1 + most * stride ≤ w) (few : n �
 -- what good parameters say of the file, of a block's words, of a key and of counts
 module _ (p : Description) (f : List ℕ) (w : Fit p f) where
   pub file-short : length f ≤ 1074782148
-  unfolding fileSize
+  unfolding file_size
   file-short = let c = caps p w.good in omega (arith, w.size)
 
   pub file-long : p.k + 4 ≤ length f
-  unfolding fileSize
+  unfolding file_size
   file-long =
       let c = caps p w.good in
       let l = row-le 1 p.control (p.k + 1) c.facts.control-least in
@@ -113,7 +113,7 @@ module _ (p : Description) (f : List ℕ) (w : Fit p f) where
   start-inside b s e l h = omega (arith, w.size, block_within p b (l, h))
 
   pub in-file-end : (b s : ℕ) → s ≡ start p b → b ≤ p.n + 1 → s ≤ length f
-  unfolding start fileSize
+  unfolding start file_size
   in-file-end b s e k =
       let l : (b - 1) * p.wpb ≤ p.n * p.wpb = row-le (b - 1) p.n p.wpb (omega arith) in
       omega (arith, w.size)
@@ -134,8 +134,8 @@ module _ (p : Description) (f : List ℕ) (b s : ℕ) (e : s ≡ start p b) wher
 
 -- the entries of the master
 module _ (p : Description) (f : List ℕ) (n : ℕ) (w : Fit p f) (some : 1 ≤ n) (few : n ≤ p.control) where
-  entries-in : (3 + n * (p.k + 1) ≤ masterSize p) × (masterSize p ≤ length f) × (masterSize p ≤ 1048516)
-  unfolding fileSize
+  entries-in : (3 + n * (p.k + 1) ≤ master_size p) × (master_size p ≤ length f) × (master_size p ≤ 1048516)
+  unfolding file_size
   entries-in =
       let c = caps p w.good in
       let l = row-le n p.control (p.k + 1) few in
@@ -150,12 +150,12 @@ module _ (p : Description) (f : List ℕ) (n : ℕ) (w : Fit p f) (some : 1 ≤ 
   pub entries-end : Fits w64 (3 + n * (p.k + 1))
   entries-end = let h = entries-in in omega arith
 
-  module _ (m : ℕ) (e : m ≡ sizeIf p (masterSize p)) where
+  module _ (m : ℕ) (e : m ≡ size_if p (master_size p)) where
     pub behind-most : 3 + n * (p.k + 1) ≤ m
-    behind-most = omega (arith, entries-in, size-good p (masterSize p) m e w.good)
+    behind-most = omega (arith, entries-in, size-good p (master_size p) m e w.good)
 
     pub behind-inside : 3 + n * (p.k + 1) + (m - (3 + n * (p.k + 1))) ≤ length f
-    behind-inside = omega (arith, entries-in, size-good p (masterSize p) m e w.good)
+    behind-inside = omega (arith, entries-in, size-good p (master_size p) m e w.good)
 
 -- a block that was marked is one of the file's
 module _ (p : Description) (b m : ℕ) (ms ms' : List ℕ) (t : Bool) (q : marked m b ms ≡ flagged t ms') (y : not t ≡ false) (l : length ms ≡ p.n) where

@@ -9,11 +9,11 @@ use lib.Dec.{eqb}
 use lib.ListN.{length, get_or, drop, length-append, length-drop}
 use lib.Seq.{take_all}
 use borrow.Author.Tests.{eq-eqb, ne_eqb, not-true}
-use Rattle.words.specs.Words.{part, allAre, noneIs, zeros}
+use Rattle.words.specs.Words.{part, all_are, none_is, zeros}
 use Rattle.words.proofs.Parts.{part-all, part-append-low, part-append-high}
 use Rattle.words.proofs.Keys.{clash}
 use Rattle.words.proofs.All.{and_both}
-use Rattle.layout.specs.Tree.{Leaf, lastIn, boundOf, recordsIn, leafBlocks}
+use Rattle.layout.specs.Tree.{Leaf, last_in, bound_of, records_in, leaf_blocks}
 use Rattle.layout.specs.Holds.{All}
 use Rattle.layout.proofs.Good.{row_more}
 
@@ -34,8 +34,8 @@ module _ {A : Type 0} (P : A → Type 0) where
   all_right [] ys h = h
   all_right (x ∷ xs) ys (a, h) = all_right xs ys h
 
-pub all_blocks : (P : ℕ → Type 0) (ls : List Leaf) → All P (leafBlocks ls) → All (λ (l : Leaf). P l.block) ls
-unfolding All leafBlocks
+pub all_blocks : (P : ℕ → Type 0) (ls : List Leaf) → All P (leaf_blocks ls) → All (λ (l : Leaf). P l.block) ls
+unfolding All leaf_blocks
 all_blocks P [] h = tt
 all_blocks P (l ∷ ls) (a, h) = (a, all_blocks P ls h)
 
@@ -58,24 +58,24 @@ length-flatten stride (r ∷ rows) (e, h) =
     rw (length-append r (flatten rows), row_more (length rows) stride, length-flatten stride rows h, e)
 
 -- the last of a list
-pub last-right : (xs ys : List (List ℕ)) → 1 ≤ length ys → lastIn (xs ++ ys) ≡ lastIn ys
-unfolding lastIn
+pub last-right : (xs ys : List (List ℕ)) → 1 ≤ length ys → last_in (xs ++ ys) ≡ last_in ys
+unfolding last_in
 last-right [] ys h = refl
 last-right (x ∷ []) [] h = absurd (not-suc-le-zero h)
 last-right (x ∷ []) (y ∷ ys) h = refl
 last-right (x ∷ z ∷ xs) ys h = last-right (z ∷ xs) ys h
 
-pub bound-right : (xs ys : List Leaf) → 1 ≤ length ys → boundOf (xs ++ ys) ≡ boundOf ys
-unfolding boundOf
+pub bound-right : (xs ys : List Leaf) → 1 ≤ length ys → bound_of (xs ++ ys) ≡ bound_of ys
+unfolding bound_of
 bound-right [] ys h = refl
 bound-right (x ∷ []) [] h = absurd (not-suc-le-zero h)
 bound-right (x ∷ []) (y ∷ ys) h = refl
 bound-right (x ∷ z ∷ xs) ys h = bound-right (z ∷ xs) ys h
 
-pub records-append : (xs ys : List Leaf) → recordsIn (xs ++ ys) ≡ recordsIn xs ++ recordsIn ys
-unfolding recordsIn
+pub records-append : (xs ys : List Leaf) → records_in (xs ++ ys) ≡ records_in xs ++ records_in ys
+unfolding records_in
 records-append [] ys = refl
-records-append (x ∷ xs) ys = rw (records-append xs ys) (sym (append_assoc x.records (recordsIn xs) (recordsIn ys)))
+records-append (x ∷ xs) ys = rw (records-append xs ys) (sym (append_assoc x.records (records_in xs) (records_in ys)))
 
 -- the words from place a on
 pub part-rest : (a : ℕ) (f : List ℕ) → part a (length f - a) f ≡ drop a f
@@ -90,27 +90,27 @@ pub part-first : (x y : List ℕ) (w : ℕ) → length x ≡ w → part 0 w (x +
 part-first x y w e = part-append-low 0 w x y (omega arith) ∙ part-all w x e
 
 -- words by their places
-pub none-at : (x : ℕ) (l : List ℕ) (i : ℕ) → noneIs x l ≡ true → i < length l → get_or l i 0 ≡ x → ⊥
-unfolding noneIs
+pub none-at : (x : ℕ) (l : List ℕ) (i : ℕ) → none_is x l ≡ true → i < length l → get_or l i 0 ≡ x → ⊥
+unfolding none_is
 none-at x [] i e h q = not-suc-le-zero h
-none-at x (y ∷ l) zero e h q = clash (sym (eq-eqb y x q) ∙ not-true (eqb y x) (and_both (not (eqb y x)) (noneIs x l) e).0)
-none-at x (y ∷ l) (suc i) e h q = none-at x l i (and_both (not (eqb y x)) (noneIs x l) e).1 (omega arith) q
+none-at x (y ∷ l) zero e h q = clash (sym (eq-eqb y x q) ∙ not-true (eqb y x) (and_both (not (eqb y x)) (none_is x l) e).0)
+none-at x (y ∷ l) (suc i) e h q = none-at x l i (and_both (not (eqb y x)) (none_is x l) e).1 (omega arith) q
 
-pub none_from : (x : ℕ) (l : List ℕ) → ((i : ℕ) → i < length l → get_or l i 0 ≡ x → ⊥) → noneIs x l ≡ true
-unfolding noneIs
+pub none_from : (x : ℕ) (l : List ℕ) → ((i : ℕ) → i < length l → get_or l i 0 ≡ x → ⊥) → none_is x l ≡ true
+unfolding none_is
 none_from x [] h = refl
 none_from x (y ∷ l) h = simp (ne_eqb y x (h 0 (omega arith)), none_from x l (λ i k. h (suc i) (omega arith)))
 
-pub all_from : (x : ℕ) (l : List ℕ) → ((i : ℕ) → i < length l → get_or l i 0 ≡ x) → allAre x l ≡ true
-unfolding allAre
+pub all_from : (x : ℕ) (l : List ℕ) → ((i : ℕ) → i < length l → get_or l i 0 ≡ x) → all_are x l ≡ true
+unfolding all_are
 all_from x [] h = refl
 all_from x (y ∷ l) h = simp (eq-eqb y x (h 0 (omega arith)), all_from x l (λ i k. h (suc i) (omega arith)))
 
-pub all_none : (x : ℕ) → allAre x [] ≡ true
-unfolding allAre
+pub all_none : (x : ℕ) → all_are x [] ≡ true
+unfolding all_are
 all_none x = refl
 
-pub getD-zeros : (n i : ℕ) → get_or (zeros n) i 0 ≡ 0
-getD-zeros zero i = refl
-getD-zeros (suc n) zero = refl
-getD-zeros (suc n) (suc i) = getD-zeros n i
+pub get_or-zeros : (n i : ℕ) → get_or (zeros n) i 0 ≡ 0
+get_or-zeros zero i = refl
+get_or-zeros (suc n) zero = refl
+get_or-zeros (suc n) (suc i) = get_or-zeros n i

@@ -16,19 +16,19 @@ use Rattle.layout.specs.Inspect.{marked}
 use Rattle.layout.specs.Tree.{times}
 use Rattle.layout.specs.Holds.{All, OneTo}
 use Rattle.numbers.proofs.Passed.{clash, bind-passed}
-use Rattle.layout.proofs.Lists.{getD-zeros}
+use Rattle.layout.proofs.Lists.{get_or-zeros}
 
-unfoldable pub markAll : ℕ → List ℕ → List ℕ → Checked (List ℕ)
-markAll m [] ms = passed ms
-markAll m (b ∷ bs) ms = marked m b ms >>= markAll m bs
+unfoldable pub mark_all : ℕ → List ℕ → List ℕ → Checked (List ℕ)
+mark_all m [] ms = passed ms
+mark_all m (b ∷ bs) ms = marked m b ms >>= mark_all m bs
 
-pub mark-append : (m : ℕ) (xs ys ms : List ℕ) → markAll m (xs ++ ys) ms ≡ (markAll m xs ms >>= markAll m ys)
-unfolding markAll
+pub mark-append : (m : ℕ) (xs ys ms : List ℕ) → mark_all m (xs ++ ys) ms ≡ (mark_all m xs ms >>= mark_all m ys)
+unfolding mark_all
 mark-append m [] ys ms = refl
 mark-append m (x ∷ xs) ys ms = go (marked m x ms) (λ s. mark-append m xs ys s)
   where
-    go : (c : Checked (List ℕ)) → ((s : List ℕ) → markAll m (xs ++ ys) s ≡ (markAll m xs s >>= markAll m ys))
-        → (c >>= markAll m (xs ++ ys)) ≡ ((c >>= markAll m xs) >>= markAll m ys)
+    go : (c : Checked (List ℕ)) → ((s : List ℕ) → mark_all m (xs ++ ys) s ≡ (mark_all m xs s >>= mark_all m ys))
+        → (c >>= mark_all m (xs ++ ys)) ≡ ((c >>= mark_all m xs) >>= mark_all m ys)
     go (refused n) h = refl
     go (passed s) h = h s
 
@@ -57,7 +57,7 @@ unused ms b e = go (eqb (get_or ms (b - 1) 0) 0) refl
     go false q = absurd (let z : ◌≡◌ {A = ℕ} 0 1 = sym e ∙ simp q in omega arith)
 
 pub used-zeros : (n b : ℕ) → used (zeros n) b ≡ 0
-used-zeros n b = used-no (zeros n) b (getD-zeros n (b - 1))
+used-zeros n b = used-no (zeros n) b (get_or-zeros n (b - 1))
 
 -- one mark
 pub record Mark (m b : ℕ) (ms ms' : List ℕ) : Type 0 where
@@ -109,32 +109,32 @@ module _ (m : ℕ) (some : m ≡ 0 → ⊥) where
       go false q g = rw zero-add (used-same ms' ms c g)
 
   -- what is marked after
-  pub all-length : (bs ms ms' : List ℕ) → markAll m bs ms ≡ passed ms' → length ms' ≡ length ms
-  unfolding markAll
+  pub all-length : (bs ms ms' : List ℕ) → mark_all m bs ms ≡ passed ms' → length ms' ≡ length ms
+  unfolding mark_all
   all-length [] ms ms' e = let q : ms ≡ ms' = cc in ap length (sym q)
   all-length (b ∷ bs) ms ms' e =
-      let (s, e₁, e₂) = bind-passed (marked m b ms) (markAll m bs) ms' e in
+      let (s, e₁, e₂) = bind-passed (marked m b ms) (mark_all m bs) ms' e in
       all-length bs s ms' e₂ ∙ mark-length m b ms s (mark-facts m b ms s e₁)
 
-  pub all-used : (bs ms ms' : List ℕ) → markAll m bs ms ≡ passed ms' → (c : ℕ) → 1 ≤ c → used ms' c ≡ times c bs + used ms c
-  unfolding markAll times
+  pub all-used : (bs ms ms' : List ℕ) → mark_all m bs ms ≡ passed ms' → (c : ℕ) → 1 ≤ c → used ms' c ≡ times c bs + used ms c
+  unfolding mark_all times
   all-used [] ms ms' e c h = let q : ms ≡ ms' = cc in rw (zero-add, q)
   all-used (b ∷ bs) ms ms' e c h =
-      let (s, e₁, e₂) = bind-passed (marked m b ms) (markAll m bs) ms' e in
+      let (s, e₁, e₂) = bind-passed (marked m b ms) (mark_all m bs) ms' e in
       omega (arith, all-used bs s ms' e₂ c h, step-used b c ms s (mark-facts m b ms s e₁) h)
 
-  pub all-inside : (bs ms ms' : List ℕ) → markAll m bs ms ≡ passed ms' → All (OneTo (length ms)) bs
-  unfolding markAll All
+  pub all-inside : (bs ms ms' : List ℕ) → mark_all m bs ms ≡ passed ms' → All (OneTo (length ms)) bs
+  unfolding mark_all All
   all-inside [] ms ms' e = tt
   all-inside (b ∷ bs) ms ms' e =
-      let (s, e₁, e₂) = bind-passed (marked m b ms) (markAll m bs) ms' e in
+      let (s, e₁, e₂) = bind-passed (marked m b ms) (mark_all m bs) ms' e in
       let w = mark-facts m b ms s e₁ in
       (w.inside, rw (mark-length m b ms s w) at (all-inside bs s ms' e₂))
 
   -- and it passes where that can be
   pub all_pass : (bs ms : List ℕ) → All (OneTo (length ms)) bs → ((c : ℕ) → OneTo (length ms) c → times c bs + used ms c ≤ 1)
-      → (ms' : List ℕ) × (markAll m bs ms ≡ passed ms')
-  unfolding markAll times All
+      → (ms' : List ℕ) × (mark_all m bs ms ≡ passed ms')
+  unfolding mark_all times All
   all_pass [] ms i h = (ms, refl)
   all_pass (b ∷ bs) ms (i, is) h =
       let f : get_or ms (b - 1) 0 ≡ 0 = unused ms b (here (eqb b b) (eq-eqb b b refl) (h b i)) in
@@ -149,12 +149,12 @@ module _ (m : ℕ) (some : m ≡ 0 → ⊥) where
       here false q l = absurd (let z : ◌≡◌ {A = ℕ} 0 1 = cc in omega arith)
 
   -- the marks themselves
-  pub all-mark : (bs ms ms' : List ℕ) → markAll m bs ms ≡ passed ms' → (c : ℕ) → 1 ≤ c
+  pub all-mark : (bs ms ms' : List ℕ) → mark_all m bs ms ≡ passed ms' → (c : ℕ) → 1 ≤ c
       → get_or ms' (c - 1) 0 ≡ cond (leb 1 (times c bs)) m (get_or ms (c - 1) 0)
-  unfolding markAll times
+  unfolding mark_all times
   all-mark [] ms ms' e c h = let q : ms ≡ ms' = cc in rw q
   all-mark (b ∷ bs) ms ms' e c h =
-      let (s, e₁, e₂) = bind-passed (marked m b ms) (markAll m bs) ms' e in
+      let (s, e₁, e₂) = bind-passed (marked m b ms) (mark_all m bs) ms' e in
       go (eqb c b) (all-mark bs s ms' e₂ c h) (step-mark b c ms s (mark-facts m b ms s e₁) h)
     where
       both-same : (t : Bool) → cond t m m ≡ m

@@ -9,21 +9,21 @@ use lib.ListN.{length, length-set}
 use Rattle.words.specs.Words.{zeros}
 use Rattle.table.specs.Tables.{laid}
 use Rattle.drum.specs.declared.Description.{Description}
-use Rattle.drum.specs.Params.{D, I, masterSize, fileSize, start, goodParams, index_shape, detailShape}
-use Rattle.drum.specs.Blocks.{block_at, freeText}
+use Rattle.drum.specs.Params.{D, I, master_size, file_size, start, good_params, index_shape, detail_shape}
+use Rattle.drum.specs.Blocks.{block_at, free_text}
 use Rattle.drum.proofs.Good.{good-facts, good-yes}
-use Rattle.drum.proofs.Blocks.{length-freeText}
+use Rattle.drum.proofs.Blocks.{length-free_text}
 use Rattle.drum.proofs.Forms.{laid-count}
-use Rattle.drum.proofs.FreeTexts.{link-freeText}
-use Rattle.layout.specs.Turned.{otherForm, turnedIndex, turnedDetail, turnedFree, turnedText}
+use Rattle.drum.proofs.FreeTexts.{link-free_text}
+use Rattle.layout.specs.Turned.{other_form, turned_index, turned_detail, turned_free, turned_text}
 
-module _ (p : Description) (good : goodParams p ≡ true) where
+module _ (p : Description) (good : good_params p ≡ true) where
   -- good parameters are good in the other form
-  pub good-other : goodParams (otherForm p) ≡ true
-  unfolding otherForm D I
+  pub good-other : good_params (other_form p) ≡ true
+  unfolding other_form D I
   good-other =
       let g = good-facts p good in
-      good-yes (otherForm p) (record {
+      good-yes (other_form p) (record {
         wpb-even = g.wpb-even;
         wpb-least = g.wpb-least;
         wpb-most = g.wpb-most;
@@ -43,59 +43,59 @@ module _ (p : Description) (good : goodParams p ≡ true) where
       })
 
   -- and the other of the other form is the first
-  pub form-back : otherForm (otherForm p) ≡ p
-  unfolding otherForm
+  pub form-back : other_form (other_form p) ≡ p
+  unfolding other_form
   form-back =
       let g = good-facts p good in
       let e : 3 - (3 - p.form) ≡ p.form = omega (arith, g.form-most) in
       λ j. record { wpb = p.wpb; wpr = p.wpr; k = p.k; space = p.space; control = p.control; n = p.n; form = e j }
 
 -- a block lies where it lay
-pub other_block : (p : Description) (f : List ℕ) (b : ℕ) → block_at (otherForm p) f b ≡ block_at p f b
-unfolding block_at start masterSize otherForm
+pub other_block : (p : Description) (f : List ℕ) (b : ℕ) → block_at (other_form p) f b ≡ block_at p f b
+unfolding block_at start master_size other_form
 other_block p f b = refl
 
-pub other-start : (p : Description) (b : ℕ) → start (otherForm p) b ≡ start p b
-unfolding start masterSize otherForm
+pub other-start : (p : Description) (b : ℕ) → start (other_form p) b ≡ start p b
+unfolding start master_size other_form
 other-start p b = refl
 
-pub other-master : (p : Description) → masterSize (otherForm p) ≡ masterSize p
-unfolding masterSize otherForm
+pub other-master : (p : Description) → master_size (other_form p) ≡ master_size p
+unfolding master_size other_form
 other-master p = refl
 
-pub other-size : (p : Description) → fileSize (otherForm p) ≡ fileSize p
-unfolding fileSize masterSize otherForm
+pub other-size : (p : Description) → file_size (other_form p) ≡ file_size p
+unfolding file_size master_size other_form
 other-size p = refl
 
 -- a text by its mark: of an index block, of a detail block, of a chained one, of one never used
 module _ (p : Description) where
   pub index-turned : (n : ℕ) (rows : List ℕ)
-      → turnedText p 3 (laid p.wpb ((index_shape p).tag + n) rows) ≡ laid p.wpb ((index_shape (otherForm p)).tag + n) rows
-  unfolding turnedText turnedIndex laid
+      → turned_text p 3 (laid p.wpb ((index_shape p).tag + n) rows) ≡ laid p.wpb ((index_shape (other_form p)).tag + n) rows
+  unfolding turned_text turned_index laid
   index-turned n rows =
-      ap (λ (c : ℕ). ((index_shape (otherForm p)).tag + c) ∷ (rows ++ zeros (p.wpb - 1 - length rows))) (laid-count (index_shape p) p.wpb n rows)
+      ap (λ (c : ℕ). ((index_shape (other_form p)).tag + c) ∷ (rows ++ zeros (p.wpb - 1 - length rows))) (laid-count (index_shape p) p.wpb n rows)
 
   pub detail-turned : (n : ℕ) (rows : List ℕ)
-      → turnedText p 1 (laid p.wpb ((detailShape p).tag + n) rows) ≡ laid p.wpb ((detailShape (otherForm p)).tag + n) rows
-  unfolding turnedText turnedDetail laid
+      → turned_text p 1 (laid p.wpb ((detail_shape p).tag + n) rows) ≡ laid p.wpb ((detail_shape (other_form p)).tag + n) rows
+  unfolding turned_text turned_detail laid
   detail-turned n rows =
-      ap (λ (c : ℕ). ((detailShape (otherForm p)).tag + c) ∷ (rows ++ zeros (p.wpb - 1 - length rows))) (laid-count (detailShape p) p.wpb n rows)
+      ap (λ (c : ℕ). ((detail_shape (other_form p)).tag + c) ∷ (rows ++ zeros (p.wpb - 1 - length rows))) (laid-count (detail_shape p) p.wpb n rows)
 
-  pub free-turned : (link : ℕ) → goodParams p ≡ true → turnedText p 2 (freeText p link) ≡ freeText (otherForm p) link
-  unfolding turnedText turnedFree
-  free-turned link good = ap (freeText (otherForm p)) (link-freeText p link good)
+  pub free-turned : (link : ℕ) → good_params p ≡ true → turned_text p 2 (free_text p link) ≡ free_text (other_form p) link
+  unfolding turned_text turned_free
+  free-turned link good = ap (free_text (other_form p)) (link-free_text p link good)
 
-  pub unused-turned : (t : List ℕ) → turnedText p 0 t ≡ t
-  unfolding turnedText
+  pub unused-turned : (t : List ℕ) → turned_text p 0 t ≡ t
+  unfolding turned_text
   unused-turned t = refl
 
   -- a turned text is as long
-  pub length-turned : (m : ℕ) (t : List ℕ) → goodParams p ≡ true → length t ≡ p.wpb → length (turnedText p m t) ≡ p.wpb
-  unfolding turnedText turnedIndex turnedDetail turnedFree otherForm
+  pub length-turned : (m : ℕ) (t : List ℕ) → good_params p ≡ true → length t ≡ p.wpb → length (turned_text p m t) ≡ p.wpb
+  unfolding turned_text turned_index turned_detail turned_free other_form
   length-turned m t good e = go (eqb m 3) (eqb m 1) (eqb m 2)
     where
-      go : (x y z : Bool) → length (cond x (turnedIndex p t) (cond y (turnedDetail p t) (cond z (turnedFree p t) t))) ≡ p.wpb
+      go : (x y z : Bool) → length (cond x (turned_index p t) (cond y (turned_detail p t) (cond z (turned_free p t) t))) ≡ p.wpb
       go true y z = length-set t 0 _ ∙ e
       go false true z = length-set t 0 _ ∙ e
-      go false false true = length-freeText (otherForm p) _ (good-other p good)
+      go false false true = length-free_text (other_form p) _ (good-other p good)
       go false false false = e

@@ -12,25 +12,25 @@ use borrow.Author.Tests.{leb-true, leb-false}
 use Rattle.words.specs.Words.{zeros}
 use Rattle.table.specs.Tables.{laid}
 use Rattle.drum.specs.declared.Description.{Description}
-use Rattle.drum.specs.Params.{D, I, goodParams, indexKind, detailKind, index_shape, detailShape}
+use Rattle.drum.specs.Params.{D, I, good_params, index_kind, detail_kind, index_shape, detail_shape}
 use Rattle.drum.specs.Blocks.{sections, block_at, Block}
 use Rattle.drum.proofs.Good.{caps}
 use Rattle.drum.proofs.Forms.{tag-first, tag-second}
 use Rattle.drum.proofs.FreeTexts.{second-free}
 use Rattle.layout.specs.Inspect.{named}
-use Rattle.layout.specs.Tree.{Leaf, Section, Tree, leavesOf, leafBlocks, reachedBlocks, head_of, times}
+use Rattle.layout.specs.Tree.{Leaf, Section, Tree, leaves_of, leaf_blocks, reached_blocks, head_of, times}
 use Rattle.layout.specs.Holds.{All, OneTo, LeavesOk, IndexIn, DetailIn, ChainIn, Holds, WellFormed}
-use Rattle.layout.specs.Turned.{otherForm, indexesIn, kind_of, KindsTold, OneForm}
+use Rattle.layout.specs.Turned.{other_form, indexes_in, kind_of, KindsTold, OneForm}
 use Rattle.layout.proofs.Good.{Sized, good-facts}
-use Rattle.layout.proofs.Lists.{getD-zeros}
-use Rattle.layout.proofs.Read.{sectionAt, sectionsAt, treeAt, sections-length}
+use Rattle.layout.proofs.Lists.{get_or-zeros}
+use Rattle.layout.proofs.Read.{section_at, sections_at, tree_at, sections-length}
 use Rattle.layout.proofs.Unique.{tree-at}
 use Rattle.layout.proofs.OneFile.{all-times}
 use Rattle.layout.proofs.TurnedForm.{good-other, other_block}
 use Rattle.layout.proofs.TurnedMarks.{reached-either}
 
 -- no count reaches the next kind
-module _ (p : Description) (good : goodParams p ≡ true) where
+module _ (p : Description) (good : good_params p ≡ true) where
   few-entries : I p ≤ 4095
   few-entries = let c = caps p good in let g = c.facts in omega arith
 
@@ -51,14 +51,14 @@ record FirstWord (p : Description) (f : List ℕ) : Type 0 where
   fits : OneTo (I p) entries
   word : get_or (block_at p f (named p f 3)) 0 0 ≡ (index_shape p).tag + entries
 
-module _ (p : Description) (f : List ℕ) (t : Tree) (good : goodParams p ≡ true) (h : Holds p f t) where
+module _ (p : Description) (f : List ℕ) (t : Tree) (good : good_params p ≡ true) (h : Holds p f t) where
   first_word : FirstWord p f
-  unfolding treeAt All sectionsAt sectionAt
+  unfolding tree_at All sections_at section_at
   first_word =
       let k = subst (Holds p f) (sym (tree-at p f (record { good = good-facts p good; size = h.size }) t h)) h in
       go (sections f) (rw (sections-length p f (sections f) 3) at k.control.0) k.indexes k.counted
     where
-      go : (n : ℕ) → 1 ≤ n → All (IndexIn p f) (sectionsAt p f 3 n) → All (λ (s : Section). OneTo (I p) (length s.leaves)) (sectionsAt p f 3 n)
+      go : (n : ℕ) → 1 ≤ n → All (IndexIn p f) (sections_at p f 3 n) → All (λ (s : Section). OneTo (I p) (length s.leaves)) (sections_at p f 3 n)
           → FirstWord p f
       go zero l a c = absurd (not-suc-le-zero l)
       go (suc n) l (a, more) (c, cs) = record { entries = _; fits = c; word = ap (λ (x : List ℕ). get_or x 0 0) a ∙ laid-first p.wpb _ _ }
@@ -71,9 +71,9 @@ first-left (suc (suc n)) d lo hi = absurd (d (omega arith))
 
 -- in one form it is at most 4095, in the other more
 pub one_form : OneForm
-unfolding WellFormed otherForm index_shape I
+unfolding WellFormed other_form index_shape I
 one_form p f good (t, h) (u, k) =
-    let q = otherForm p in
+    let q = other_form p in
     let x = first_word p f t good h in
     let y = first_word q f u (good-other p good) k in
     let g = good-facts p good in
@@ -81,31 +81,31 @@ one_form p f good (t, h) (u, k) =
     let same : get_or (block_at q f (named p f 3)) 0 0 ≡ get_or (block_at p f (named p f 3)) 0 0 = ap (λ (l : List ℕ). get_or l 0 0) (other_block p f (named p f 3)) in
     by (ℕ_discrete p.form 2) (omega (arith, x.word, y.word)) x.fits y.fits few g.form-least g.form-most
   where
-    by : {m n : ℕ} → Dec (p.form ≡ 2) → (index_shape p).tag + m ≡ (index_shape (otherForm p)).tag + n → OneTo (I p) m → OneTo (I p) n → I p ≤ 4095
+    by : {m n : ℕ} → Dec (p.form ≡ 2) → (index_shape p).tag + m ≡ (index_shape (other_form p)).tag + n → OneTo (I p) m → OneTo (I p) n → I p ≤ 4095
         → 1 ≤ p.form → p.form ≤ 2 → ⊥
-    by (yes e) w a b few lo hi = omega (arith, tag-second p indexKind e, tag-first (otherForm p) indexKind (λ z. absurd (omega arith)), a, b)
+    by (yes e) w a b few lo hi = omega (arith, tag-second p index_kind e, tag-first (other_form p) index_kind (λ z. absurd (omega arith)), a, b)
     by (no d) w a b few lo hi =
         let one : p.form ≡ 1 = first-left p.form d lo hi in
-        omega (arith, tag-first p indexKind d, tag-second (otherForm p) indexKind (omega arith), a, b)
+        omega (arith, tag-first p index_kind d, tag-second (other_form p) index_kind (omega arith), a, b)
 
 -- the second form
-module _ (p : Description) (f : List ℕ) (good : goodParams p ≡ true) (two : p.form ≡ 2) where
+module _ (p : Description) (f : List ℕ) (good : good_params p ≡ true) (two : p.form ≡ 2) where
   abbrev Says : ℕ → ℕ → Type 0
   Says k b = get_or (block_at p f b) 0 0 / 4096 ≡ k
 
-  indexes-say : (ss : List Section) → All (λ (s : Section). OneTo (I p) (length s.leaves)) ss → All (IndexIn p f) ss → All (Says 1) (indexesIn ss)
-  unfolding All indexesIn index_shape
+  indexes-say : (ss : List Section) → All (λ (s : Section). OneTo (I p) (length s.leaves)) ss → All (IndexIn p f) ss → All (Says 1) (indexes_in ss)
+  unfolding All indexes_in index_shape
   indexes-say [] c h = tt
   indexes-say (s ∷ ss) (c, cs) (a, h) =
       let w = ap (λ (x : List ℕ). get_or x 0 0) a ∙ laid-first p.wpb _ _ in
-      (omega (arith, w, c, few-entries p good, tag-second p indexKind two), indexes-say ss cs h)
+      (omega (arith, w, c, few-entries p good, tag-second p index_kind two), indexes-say ss cs h)
 
-  details-say : (before : List (List ℕ)) (ls : List Leaf) → LeavesOk p before ls → All (DetailIn p f) ls → All (Says 2) (leafBlocks ls)
-  unfolding All leafBlocks LeavesOk detailShape
+  details-say : (before : List (List ℕ)) (ls : List Leaf) → LeavesOk p before ls → All (DetailIn p f) ls → All (Says 2) (leaf_blocks ls)
+  unfolding All leaf_blocks LeavesOk detail_shape
   details-say before [] o h = tt
   details-say before (l ∷ ls) (o, os) (a, h) =
       let w = ap (λ (x : List ℕ). get_or x 0 0) a ∙ laid-first p.wpb _ _ in
-      (omega (arith, w, o.counted, few-records p good, tag-second p detailKind two), details-say (l.bound ∷ []) ls os h)
+      (omega (arith, w, o.counted, few-records p good, tag-second p detail_kind two), details-say (l.bound ∷ []) ls os h)
 
   chain-says : (cs : List ℕ) → ChainIn p f cs → All (Says 3) cs
   unfolding All ChainIn
@@ -119,21 +119,21 @@ module _ (p : Description) (f : List ℕ) (good : goodParams p ≡ true) (two : 
     block-says : (b : ℕ) → Block p b → Says (kind_of t b) b
     unfolding kind_of
     block-says b i =
-        go (leb t.lowest b) (leb 1 (times b (indexesIn t.sections))) (leb 1 (times b (leafBlocks (leavesOf t)))) (leb 1 (times b t.chain))
+        go (leb t.lowest b) (leb 1 (times b (indexes_in t.sections))) (leb 1 (times b (leaf_blocks (leaves_of t)))) (leb 1 (times b t.chain))
         refl refl refl refl (h.once b i)
       where
-        go : (u x y c : Bool) → leb t.lowest b ≡ u → leb 1 (times b (indexesIn t.sections)) ≡ x → leb 1 (times b (leafBlocks (leavesOf t))) ≡ y
-            → leb 1 (times b t.chain) ≡ c → times b (reachedBlocks t) + times b t.chain + cond u 1 0 ≡ 1 → Says (cond x 1 (cond y 2 (cond c 3 0))) b
+        go : (u x y c : Bool) → leb t.lowest b ≡ u → leb 1 (times b (indexes_in t.sections)) ≡ x → leb 1 (times b (leaf_blocks (leaves_of t))) ≡ y
+            → leb 1 (times b t.chain) ≡ c → times b (reached_blocks t) + times b t.chain + cond u 1 0 ≡ 1 → Says (cond x 1 (cond y 2 (cond c 3 0))) b
         go u true y c eu ex ey ec o = all-times (Says 1) b _ (indexes-say t.sections h.counted h.indexes) (leb-true _ _ ex)
-        go u false true c eu ex ey ec o = all-times (Says 2) b _ (details-say [] (leavesOf t) h.leaves h.details) (leb-true _ _ ey)
+        go u false true c eu ex ey ec o = all-times (Says 2) b _ (details-say [] (leaves_of t) h.leaves h.details) (leb-true _ _ ey)
         go u false false true eu ex ey ec o = all-times (Says 3) b _ (chain-says t.chain h.chained) (leb-true _ _ ec)
         go true false false false eu ex ey ec o =
-            let w = ap (λ (x : List ℕ). get_or x 0 0) (h.unused b (leb-true _ _ eu) i.1) ∙ getD-zeros p.wpb 0 in
+            let w = ap (λ (x : List ℕ). get_or x 0 0) (h.unused b (leb-true _ _ eu) i.1) ∙ get_or-zeros p.wpb 0 in
             omega arith
         go false false false false eu ex ey ec o =
             let r = reached-either b t.sections in
-            let none = leb-false 1 (times b (indexesIn t.sections)) ex in
-            absurd (omega (arith, none, leb-false 1 (times b (leafBlocks (leavesOf t))) ey, leb-false 1 (times b t.chain) ec))
+            let none = leb-false 1 (times b (indexes_in t.sections)) ex in
+            absurd (omega (arith, none, leb-false 1 (times b (leaf_blocks (leaves_of t))) ey, leb-false 1 (times b t.chain) ec))
 
 pub kinds-told : KindsTold
 kinds-told p f t b good two h i = block-says p f good two t h b i

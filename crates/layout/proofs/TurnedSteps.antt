@@ -10,14 +10,14 @@ use lib.Seq.{length-take-le, drop-drop, drop-cons, drop-length, drop_at, take_at
 use borrow.Author.Tests.{leb-true, leb-false}
 use Rattle.words.specs.Words.{part, put}
 use Rattle.numbers.specs.Checked.{passed}
-use Rattle.table.specs.Tables.{count, blockIn}
+use Rattle.table.specs.Tables.{count, block_in}
 use Rattle.drum.specs.declared.Description.{Description}
-use Rattle.drum.specs.Params.{D, I, fileSize, start, goodParams, masterShape, index_shape, detailShape}
-use Rattle.drum.specs.Blocks.{sections, block_at, putBlock, Block}
-use Rattle.layout.specs.Inspect.{layoutMarks}
-use Rattle.layout.specs.Tree.{Leaf, Section, Tree, leavesOf, leafBlocks, reachedBlocks, times, mark_of, marksOf}
+use Rattle.drum.specs.Params.{D, I, file_size, start, good_params, master_shape, index_shape, detail_shape}
+use Rattle.drum.specs.Blocks.{sections, block_at, put_block, Block}
+use Rattle.layout.specs.Inspect.{layout_marks}
+use Rattle.layout.specs.Tree.{Leaf, Section, Tree, leaves_of, leaf_blocks, reached_blocks, times, mark_of, marks_of}
 use Rattle.layout.specs.Holds.{All, OneTo, LeavesOk, IndexIn, DetailIn, Holds}
-use Rattle.layout.specs.Turned.{indexMarked, indexUnmarked, indexesIn, turnedText, turnedBlocks, turned}
+use Rattle.layout.specs.Turned.{index_marked, index_unmarked, indexes_in, turned_text, turned_blocks, turned}
 use Rattle.drum.proofs.Blocks.{block_within}
 use Rattle.drum.proofs.Forms.{laid-count}
 use Rattle.words.proofs.Parts.{length_part}
@@ -28,7 +28,7 @@ use Rattle.layout.proofs.Exact.{open-exact}
 use Rattle.layout.proofs.OneFile.{all-times}
 use Rattle.layout.proofs.TurnedForm.{length-turned}
 use Rattle.layout.proofs.TurnedBlocks.{length_marked}
-use Rattle.layout.proofs.TurnedMarks.{turnMark, turn-mark, named-block, reached-either}
+use Rattle.layout.proofs.TurnedMarks.{turn_mark, turn-mark, named-block, reached-either}
 
 -- a block written at word s: the words before it, its own, and those behind it
 module _ (f x : List ℕ) (s w : ℕ) (l : s + w ≤ length f) (n : length x ≡ w) where
@@ -50,20 +50,20 @@ module _ (f x : List ℕ) (s w : ℕ) (l : s + w ≤ length f) (n : length x ≡
 
 -- the turning of the blocks, one by one: f is the file as it is, i blocks are turned, ms are all marks; what is left gives the whole
 module _ (p : Description) (f ms : List ℕ) (i : ℕ) where
-  unfoldable pub leftToTurn : List ℕ
-  leftToTurn = take (start p (i + 1)) f ++ turnedBlocks p (drop i ms) (drop (start p (i + 1)) f)
+  unfoldable pub left_to_turn : List ℕ
+  left_to_turn = take (start p (i + 1)) f ++ turned_blocks p (drop i ms) (drop (start p (i + 1)) f)
 
-pub turn-begins : (p : Description) (f marks : List ℕ) → turned p marks f ≡ leftToTurn p f (indexMarked p f (sections f) marks) 0
-unfolding turned leftToTurn
+pub turn-begins : (p : Description) (f marks : List ℕ) → turned p marks f ≡ left_to_turn p f (index_marked p f (sections f) marks) 0
+unfolding turned left_to_turn
 turn-begins p f marks = rw (start_first p)
 
-pub turn-goes : (p : Description) (f g ms : List ℕ) (i : ℕ) → g ≡ putBlock p f (i + 1) (turnedText p (get_or ms i 0) (block_at p f (i + 1)))
-    → goodParams p ≡ true → length f ≡ fileSize p → i < length ms → i < p.n → leftToTurn p f ms i ≡ leftToTurn p g ms (i + 1)
-unfolding leftToTurn turnedBlocks putBlock block_at part
+pub turn-goes : (p : Description) (f g ms : List ℕ) (i : ℕ) → g ≡ put_block p f (i + 1) (turned_text p (get_or ms i 0) (block_at p f (i + 1)))
+    → good_params p ≡ true → length f ≡ file_size p → i < length ms → i < p.n → left_to_turn p f ms i ≡ left_to_turn p g ms (i + 1)
+unfolding left_to_turn turned_blocks put_block block_at part
 turn-goes p f g ms i e good size k n =
     let s = start p (i + 1) in
     let w = p.wpb in
-    let x = turnedText p (get_or ms i 0) (part s w f) in
+    let x = turned_text p (get_or ms i 0) (part s w f) in
     let fits : s + w ≤ length f = omega (arith, size, block_within p (i + 1) (omega arith, omega arith)) in
     let len : length x ≡ w = length-turned p (get_or ms i 0) (part s w f) good (length_part s w f fits) in
     let next : start p (i + 1 + 1) ≡ s + w = start-next p (i + 1) (omega arith) in
@@ -71,25 +71,25 @@ turn-goes p f g ms i e good size k n =
     let a : take (start p (i + 1 + 1)) g ≡ take s f ++ x = (λ j. take (next j) (e j)) ∙ before-put f x s w fits len in
     let b : drop (start p (i + 1 + 1)) g ≡ drop w (drop s f) = (λ j. drop (next j) (e j)) ∙ behind-put f x s w fits len ∙ sym (drop-drop w s f) in
     let c : drop (i + 1) ms ≡ drop (suc i) ms = ap (λ (m : ℕ). drop m ms) one in
-    ap (λ (l : List ℕ). take s f ++ turnedBlocks p l (drop s f)) (drop-cons ms i 0 k)
-    ∙ sym (append_assoc (take s f) x (turnedBlocks p (drop (suc i) ms) (drop w (drop s f))))
-    ∙ sym (λ j. a j ++ turnedBlocks p (c j) (b j))
+    ap (λ (l : List ℕ). take s f ++ turned_blocks p l (drop s f)) (drop-cons ms i 0 k)
+    ∙ sym (append_assoc (take s f) x (turned_blocks p (drop (suc i) ms) (drop w (drop s f))))
+    ∙ sym (λ j. a j ++ turned_blocks p (c j) (b j))
 
-pub turn-done : (p : Description) (f ms : List ℕ) (i : ℕ) → length f ≡ fileSize p → length ms ≡ p.n → i ≡ p.n → leftToTurn p f ms i ≡ f
-unfolding leftToTurn turnedBlocks
+pub turn-done : (p : Description) (f ms : List ℕ) (i : ℕ) → length f ≡ file_size p → length ms ≡ p.n → i ≡ p.n → left_to_turn p f ms i ≡ f
+unfolding left_to_turn turned_blocks
 turn-done p f ms i size many e =
     let end : start p (i + 1) ≡ length f = ap (λ (n : ℕ). start p (n + 1)) e ∙ start-end p ∙ sym size in
     let none : drop i ms ≡ [] = ap (λ (n : ℕ). drop n ms) (e ∙ sym many) ∙ drop-length ms in
     rw (none, end) (take-append-drop (length f) f)
 
 -- the marks put back, place by place
-unmarked-length : (ms : List ℕ) → length (indexUnmarked ms) ≡ length ms
-unfolding indexUnmarked
+unmarked-length : (ms : List ℕ) → length (index_unmarked ms) ≡ length ms
+unfolding index_unmarked
 unmarked-length [] = refl
 unmarked-length (m ∷ ms) = ap suc (unmarked-length ms)
 
-pub unmarked-at : (ms : List ℕ) (i : ℕ) → get_or (indexUnmarked ms) i 0 ≡ cond (eqb (get_or ms i 0) 3) 1 (get_or ms i 0)
-unfolding indexUnmarked
+pub unmarked-at : (ms : List ℕ) (i : ℕ) → get_or (index_unmarked ms) i 0 ≡ cond (eqb (get_or ms i 0) 3) 1 (get_or ms i 0)
+unfolding index_unmarked
 unmarked-at [] i = refl
 unmarked-at (m ∷ ms) zero = refl
 unmarked-at (m ∷ ms) (suc i) = unmarked-at ms i
@@ -97,80 +97,80 @@ unmarked-at (m ∷ ms) (suc i) = unmarked-at ms i
 -- the counts of blocks that stand in a file
 module _ (p : Description) (f : List ℕ) where
   entries-few : (ss : List Section) → All (λ (s : Section). OneTo (I p) (length s.leaves)) ss → All (IndexIn p f) ss
-      → All (λ (b : ℕ). count (index_shape p) (block_at p f b) ≤ I p) (indexesIn ss)
-  unfolding All indexesIn
+      → All (λ (b : ℕ). count (index_shape p) (block_at p f b) ≤ I p) (indexes_in ss)
+  unfolding All indexes_in
   entries-few [] c h = tt
   entries-few (s ∷ ss) (c, cs) (a, h) = (rw (a, laid-count (index_shape p) p.wpb) c.1, entries-few ss cs h)
 
   records-few : (before : List (List ℕ)) (ls : List Leaf) → LeavesOk p before ls → All (DetailIn p f) ls
-      → All (λ (b : ℕ). count (detailShape p) (block_at p f b) ≤ D p) (leafBlocks ls)
-  unfolding All leafBlocks LeavesOk
+      → All (λ (b : ℕ). count (detail_shape p) (block_at p f b) ≤ D p) (leaf_blocks ls)
+  unfolding All leaf_blocks LeavesOk
   records-few before [] o h = tt
-  records-few before (l ∷ ls) (o, os) (a, h) = (rw (a, laid-count (detailShape p) p.wpb) o.counted.1, records-few (l.bound ∷ []) ls os h)
+  records-few before (l ∷ ls) (o, os) (a, h) = (rw (a, laid-count (detail_shape p) p.wpb) o.counted.1, records-few (l.bound ∷ []) ls os h)
 
-module _ (p : Description) (f : List ℕ) (t : Tree) (good : goodParams p ≡ true) (h : Holds p f t) where
+module _ (p : Description) (f : List ℕ) (t : Tree) (good : good_params p ≡ true) (h : Holds p f t) where
   module _ (b : ℕ) (i : Block p b) where
-    abbrev ofIndex : Bool
-    ofIndex = leb 1 (times b (indexesIn t.sections))
+    abbrev of_index : Bool
+    of_index = leb 1 (times b (indexes_in t.sections))
 
-    abbrev ofReached : Bool
-    ofReached = leb 1 (times b (reachedBlocks t))
+    abbrev of_reached : Bool
+    of_reached = leb 1 (times b (reached_blocks t))
 
-    abbrev ofChain : Bool
-    ofChain = leb 1 (times b t.chain)
+    abbrev of_chain : Bool
+    of_chain = leb 1 (times b t.chain)
 
-    told : (m : ℕ) → turnMark p f t good h b ≡ m → cond ofIndex 3 (cond ofReached 1 (cond ofChain 2 0)) ≡ m
+    told : (m : ℕ) → turn_mark p f t good h b ≡ m → cond of_index 3 (cond of_reached 1 (cond of_chain 2 0)) ≡ m
     unfolding mark_of
     told m e = sym (turn-mark p f t good h b i) ∙ e
 
-    index-told : turnMark p f t good h b ≡ 3 → 1 ≤ times b (indexesIn t.sections)
-    index-told e = go ofIndex ofReached ofChain refl (told 3 e)
+    index-told : turn_mark p f t good h b ≡ 3 → 1 ≤ times b (indexes_in t.sections)
+    index-told e = go of_index of_reached of_chain refl (told 3 e)
       where
-        go : (x y c : Bool) → ofIndex ≡ x → ◌≡◌ {A = ℕ} (cond x 3 (cond y 1 (cond c 2 0))) 3 → 1 ≤ times b (indexesIn t.sections)
+        go : (x y c : Bool) → of_index ≡ x → ◌≡◌ {A = ℕ} (cond x 3 (cond y 1 (cond c 2 0))) 3 → 1 ≤ times b (indexes_in t.sections)
         go true y c ex q = leb-true _ _ ex
         go false true c ex q = absurd (omega arith)
         go false false true ex q = absurd (omega arith)
         go false false false ex q = absurd (omega arith)
 
-    detail-told : turnMark p f t good h b ≡ 1 → 1 ≤ times b (leafBlocks (leavesOf t))
-    detail-told e = go ofIndex ofReached ofChain refl refl (told 1 e)
+    detail-told : turn_mark p f t good h b ≡ 1 → 1 ≤ times b (leaf_blocks (leaves_of t))
+    detail-told e = go of_index of_reached of_chain refl refl (told 1 e)
       where
-        go : (x y c : Bool) → ofIndex ≡ x → ofReached ≡ y → ◌≡◌ {A = ℕ} (cond x 3 (cond y 1 (cond c 2 0))) 1 → 1 ≤ times b (leafBlocks (leavesOf t))
+        go : (x y c : Bool) → of_index ≡ x → of_reached ≡ y → ◌≡◌ {A = ℕ} (cond x 3 (cond y 1 (cond c 2 0))) 1 → 1 ≤ times b (leaf_blocks (leaves_of t))
         go true y c ex ey q = absurd (omega arith)
         go false true c ex ey q =
-            let none = leb-false 1 (times b (indexesIn t.sections)) ex in
-            omega (arith, none, leb-true 1 (times b (reachedBlocks t)) ey, reached-either b t.sections)
+            let none = leb-false 1 (times b (indexes_in t.sections)) ex in
+            omega (arith, none, leb-true 1 (times b (reached_blocks t)) ey, reached-either b t.sections)
         go false false true ex ey q = absurd (omega arith)
         go false false false ex ey q = absurd (omega arith)
 
-    mark-back : cond (eqb (turnMark p f t good h b) 3) 1 (turnMark p f t good h b) ≡ mark_of t b
+    mark-back : cond (eqb (turn_mark p f t good h b) 3) 1 (turn_mark p f t good h b) ≡ mark_of t b
     unfolding mark_of
-    mark-back = rw (turn-mark p f t good h b i) (go ofIndex ofReached ofChain refl refl)
+    mark-back = rw (turn-mark p f t good h b i) (go of_index of_reached of_chain refl refl)
       where
-        go : (x y c : Bool) → ofIndex ≡ x → ofReached ≡ y
+        go : (x y c : Bool) → of_index ≡ x → of_reached ≡ y
             → ◌≡◌ {A = ℕ} (cond (eqb (cond x 3 (cond y 1 (cond c 2 0))) 3) 1 (cond x 3 (cond y 1 (cond c 2 0)))) (cond y 1 (cond c 2 0))
         go true true c ex ey = refl
         go true false c ex ey =
-            let none = leb-false 1 (times b (reachedBlocks t)) ey in
-            absurd (omega (arith, none, leb-true 1 (times b (indexesIn t.sections)) ex, reached-either b t.sections))
+            let none = leb-false 1 (times b (reached_blocks t)) ey in
+            absurd (omega (arith, none, leb-true 1 (times b (indexes_in t.sections)) ex, reached-either b t.sections))
         go false true c ex ey = refl
         go false false true ex ey = refl
         go false false false ex ey = refl
 
-  all_back : indexUnmarked (indexMarked p f (sections f) (marksOf t p.n)) ≡ marksOf t p.n
+  all_back : index_unmarked (index_marked p f (sections f) (marks_of t p.n)) ≡ marks_of t p.n
   all_back =
-      let ms = indexMarked p f (sections f) (marksOf t p.n) in
+      let ms = index_marked p f (sections f) (marks_of t p.n) in
       let n = marks-length t p.n 1 in
-      let l = unmarked-length ms ∙ length_marked p f (sections f) (marksOf t p.n) in
-      ext_get_or 0 (indexUnmarked ms) (marksOf t p.n) l (λ i k.
+      let l = unmarked-length ms ∙ length_marked p f (sections f) (marks_of t p.n) in
+      ext_get_or 0 (index_unmarked ms) (marks_of t p.n) l (λ i k.
       let d : i + 1 - 1 ≡ i = omega arith in
       let e : 1 + i ≡ i + 1 = omega arith in
       let b : Block p (i + 1) = (omega arith, omega arith) in
       unmarked-at ms i ∙ rw d at (mark-back (i + 1) b) ∙ sym (marks-at t p.n 1 i (omega arith) ∙ ap (mark_of t) e))
 
 -- what the walk of a good file tells of its marks, as the code asks it
-module _ (p : Description) (f marks : List ℕ) (e : layoutMarks p f ≡ passed marks) (good : goodParams p ≡ true) (size : length f ≡ fileSize p) where
-  abbrev held : (t : Tree) × Holds p f t × (marks ≡ marksOf t p.n)
+module _ (p : Description) (f marks : List ℕ) (e : layout_marks p f ≡ passed marks) (good : good_params p ≡ true) (size : length f ≡ file_size p) where
+  abbrev held : (t : Tree) × Holds p f t × (marks ≡ marks_of t p.n)
   held = (open-exact p f good size).0 marks e
 
   pub marks-many : length marks ≡ p.n
@@ -179,19 +179,19 @@ module _ (p : Description) (f marks : List ℕ) (e : layoutMarks p f ≡ passed 
   pub sections-few : sections f ≤ p.control
   sections-few = let (t, h, m) = held in rw (master-words p f (record { good = good-facts p good; size = size }) t h).secs h.control.1
 
-  pub name_in : (i : ℕ) → i < sections f → Block p (blockIn (masterShape p) f i)
+  pub name_in : (i : ℕ) → i < sections f → Block p (block_in (master_shape p) f i)
   name_in i k = let (t, h, m) = held in named-block p f t good h i k
 
-  pub marks-again : indexUnmarked (indexMarked p f (sections f) marks) ≡ marks
+  pub marks-again : index_unmarked (index_marked p f (sections f) marks) ≡ marks
   marks-again = let (t, h, m) = held in rw m (all_back p f t good h)
 
   module _ (b : ℕ) (i : Block p b) where
-    pub index-few : get_or (indexMarked p f (sections f) marks) (b - 1) 0 ≡ 3 → count (index_shape p) (block_at p f b) ≤ I p
+    pub index-few : get_or (index_marked p f (sections f) marks) (b - 1) 0 ≡ 3 → count (index_shape p) (block_at p f b) ≤ I p
     index-few q =
         let (t, h, m) = held in
-        all-times _ b (indexesIn t.sections) (entries-few p f t.sections h.counted h.indexes) (index-told p f t good h b i (rw m at q))
+        all-times _ b (indexes_in t.sections) (entries-few p f t.sections h.counted h.indexes) (index-told p f t good h b i (rw m at q))
 
-    pub detail-few : get_or (indexMarked p f (sections f) marks) (b - 1) 0 ≡ 1 → count (detailShape p) (block_at p f b) ≤ D p
+    pub detail-few : get_or (index_marked p f (sections f) marks) (b - 1) 0 ≡ 1 → count (detail_shape p) (block_at p f b) ≤ D p
     detail-few q =
         let (t, h, m) = held in
-        all-times _ b (leafBlocks (leavesOf t)) (records-few p f [] (leavesOf t) h.leaves h.details) (detail-told p f t good h b i (rw m at q))
+        all-times _ b (leaf_blocks (leaves_of t)) (records-few p f [] (leaves_of t) h.leaves h.details) (detail-told p f t good h b i (rw m at q))

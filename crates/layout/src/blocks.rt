@@ -3,7 +3,7 @@
 ghost use Rattle.std.specs.Prelude.{◌≡◌, ◌+◌, ◌*◌, ◌≤◌, length};
 ghost use Rattle.drum.specs.Params.{start};
 ghost use Rattle.drum.specs.Blocks.{block_at};
-ghost use Rattle.layout.specs.Inspect.{through, detailHeld, indexHeld, chainHeld};
+ghost use Rattle.layout.specs.Inspect.{through, detail_held, index_held, chain_held};
 ghost use Rattle.layout.specs.Inspected.{flagged, Fit};
 ghost use Rattle.words.specs.Slices.{was, became};
 
@@ -33,7 +33,7 @@ pub fn block_of<'a>(p: Description, f: &'a [u32], b: usize) -> &'a [u32]
 pub fn detail_held(p: Description, f: &[u32], low: usize, e: usize, marks: &mut [u8]) -> bool
     requires fit { Fit p f.now }
     requires marks_len { (length marks.old ≡ p.n) × (low + p.k ≤ length f.now) × (e + (p.k + 1) ≤ length f.now) }
-    ensures { detailHeld p (was f) low e (was marks) ≡ flagged result (became marks) }
+    ensures { detail_held p (was f) low e (was marks) ≡ flagged result (became marks) }
 {
     let at = e + p.k;
     let b = words::word_at(f, at);
@@ -61,7 +61,7 @@ pub fn details_held(
 ) -> bool
     requires fit { Fit p f.now }
     requires marks_len { (length marks.old ≡ p.n) × (low + p.k ≤ length f.now) × (e + n * (p.k + 1) ≤ length f.now) }
-    ensures { through (detailHeld p (was f)) (p.k + 1) low e n (was marks) ≡ flagged result (became marks) }
+    ensures { through (detail_held p (was f)) (p.k + 1) low e n (was marks) ≡ flagged result (became marks) }
 {
     let mut before = low;
     let mut at = e;
@@ -81,7 +81,7 @@ pub fn details_held(
 pub fn index_held(p: Description, f: &[u32], low: usize, e: usize, marks: &mut [u8]) -> bool
     requires fit { Fit p f.now }
     requires marks_len { (length marks.old ≡ p.n) × (low + p.k ≤ length f.now) × (e + (p.k + 1) ≤ length f.now) }
-    ensures { indexHeld p (was f) low e (was marks) ≡ flagged result (became marks) }
+    ensures { index_held p (was f) low e (was marks) ≡ flagged result (became marks) }
 {
     let k = p.k;
     let at = e + k;
@@ -107,7 +107,7 @@ pub fn index_held(p: Description, f: &[u32], low: usize, e: usize, marks: &mut [
 pub fn sections_held(p: Description, f: &[u32], n: usize, marks: &mut [u8]) -> bool
     requires fit { Fit p f.now }
     requires marks_len { (length marks.old ≡ p.n) × (3 + n * (p.k + 1) ≤ length f.now) }
-    ensures { through (indexHeld p (was f)) (p.k + 1) 0 3 n (was marks) ≡ flagged result (became marks) }
+    ensures { through (index_held p (was f)) (p.k + 1) 0 3 n (was marks) ≡ flagged result (became marks) }
 {
     let mut before = 0;
     let mut at = 3;
@@ -127,7 +127,7 @@ pub fn sections_held(p: Description, f: &[u32], n: usize, marks: &mut [u8]) -> b
 pub fn chain_held(p: Description, f: &[u32], head: usize, marks: &mut [u8]) -> bool
     requires fit { Fit p f.now }
     requires marks_len { length marks.old ≡ p.n }
-    ensures { chainHeld p (was f) p.n head (was marks) ≡ flagged result (became marks) }
+    ensures { chain_held p (was f) p.n head (was marks) ≡ flagged result (became marks) }
 {
     let behind = p.link_place() + 1;
     let mut b = head;

@@ -6,10 +6,10 @@ mod rows;
 ghost use Rattle.std.specs.Prelude.{◌≡◌, true, [], ◌∷◌, ◌++◌, ◌+◌, ◌≤◌, length};
 ghost use Rattle.words.specs.Words.{put, zeros};
 ghost use Rattle.words.specs.Keys.{ones};
-ghost use Rattle.drum.specs.Params.{goodParams, fileSize, tag_of, indexKind, detailKind};
-ghost use Rattle.layout.specs.Create.{created, masterOn, indexOn, detailOn};
-ghost use Rattle.layout.specs.Inspect.{restOk, masterOk, walked, layoutMarks};
-ghost use Rattle.layout.specs.Inspected.{flagged, Fit, Ranged, leftMarks};
+ghost use Rattle.drum.specs.Params.{good_params, file_size, tag_of, index_kind, detail_kind};
+ghost use Rattle.layout.specs.Create.{created, master_on, index_on, detail_on};
+ghost use Rattle.layout.specs.Inspect.{rest_ok, master_ok, walked, layout_marks};
+ghost use Rattle.layout.specs.Inspected.{flagged, Fit, Ranged, left_marks};
 ghost use Rattle.words.specs.Slices.{was, became};
 
 pub use blocks::block_of;
@@ -23,7 +23,7 @@ use rows::last_row;
 pub fn inspect(p: Description, f: &[u32], marks: &mut [u8]) -> bool
     requires fit { Fit p f.now }
     requires marks_len { length marks.old ≡ p.n }
-    ensures { (layoutMarks p (was f) ≡ flagged result (became marks)) × (became marks ≡ leftMarks p.n (layoutMarks p (was f))) }
+    ensures { (layout_marks p (was f) ≡ flagged result (became marks)) × (became marks ≡ left_marks p.n (layout_marks p (was f))) }
 {
     clear(marks);
     if walk(p, f, marks) {
@@ -37,7 +37,7 @@ pub fn inspect(p: Description, f: &[u32], marks: &mut [u8]) -> bool
 fn walk(p: Description, f: &[u32], marks: &mut [u8]) -> bool
     requires fit { Fit p f.now }
     requires marks_value { marks.old ≡ zeros p.n }
-    ensures { layoutMarks p (was f) ≡ flagged result (became marks) }
+    ensures { layout_marks p (was f) ≡ flagged result (became marks) }
 {
     if !words::all_words(f, 0, f.len()) {
         return false;
@@ -84,7 +84,7 @@ fn walk_on(p: Description, f: &[u32], marks: &mut [u8]) -> bool
 fn master_ok(p: Description, f: &[u32], n: usize) -> bool
     requires fit { Fit p f.now }
     requires le_n { (1 ≤ n) × (n ≤ p.control) }
-    ensures { result ≡ masterOk p (was f) n }
+    ensures { result ≡ master_ok p (was f) n }
 {
     let k = p.k;
     let m = p.master_size();
@@ -99,7 +99,7 @@ fn master_ok(p: Description, f: &[u32], n: usize) -> bool
 fn rest_ok(p: Description, f: &[u32], lowest: usize, marks: &[u8]) -> bool
     requires fit { Fit p f.now }
     requires marks_len { (length marks.now ≡ p.n) × (1 ≤ lowest) × (lowest ≤ p.n + 1) }
-    ensures { result ≡ restOk p (was f) lowest (was marks) }
+    ensures { result ≡ rest_ok p (was f) lowest (was marks) }
 {
     if !all_set(marks, lowest - 1) {
         return false;
@@ -113,7 +113,7 @@ fn rest_ok(p: Description, f: &[u32], lowest: usize, marks: &[u8]) -> bool
 
 // Writes the words of a new file, every one of them.
 pub fn lay_out(p: Description, file: &mut [u32])
-    requires { (goodParams p ≡ true) × (length file.old ≡ fileSize p) }
+    requires { (good_params p ≡ true) × (length file.old ≡ file_size p) }
     ensures { became file ≡ created p }
 {
     let first = p.start(1);
@@ -125,7 +125,7 @@ pub fn lay_out(p: Description, file: &mut [u32])
 // Writes 0 in every word, and then the master's that are not: one section, the lowest block never used, the section's entry.
 fn lay_master(t: &mut [u32], k: usize)
     requires { 4 + k ≤ length t.old }
-    ensures { became t ≡ masterOn k (zeros (length (was t))) }
+    ensures { became t ≡ master_on k (zeros (length (was t))) }
 {
     words::zero_words(t, 0, t.len());
     t[0] = 1;
@@ -137,7 +137,7 @@ fn lay_master(t: &mut [u32], k: usize)
 fn lay_blocks(p: Description, t: &mut [u32], first: usize, second: usize)
     requires { (first + (2 + p.k) ≤ length t.old) × (second + (1 + p.k) ≤ length t.old) }
     ensures { became t
-        ≡ detailOn second (tag_of p detailKind + 1) p.k (indexOn first (tag_of p indexKind + 1) p.k (was t)) }
+        ≡ detail_on second (tag_of p detail_kind + 1) p.k (index_on first (tag_of p index_kind + 1) p.k (was t)) }
 {
     let k = p.k;
     lay_index(t, first, p.tag(Description::INDEX), k);
@@ -147,7 +147,7 @@ fn lay_blocks(p: Description, t: &mut [u32], first: usize, second: usize)
 // Writes the index block's, at word `at`: one entry, counted with the block's tag.
 fn lay_index(t: &mut [u32], at: usize, tag: usize, k: usize)
     requires { (at + (2 + k) ≤ length t.old) × (tag ≤ 4096) }
-    ensures { became t ≡ indexOn at (tag + 1) k (was t) }
+    ensures { became t ≡ index_on at (tag + 1) k (was t) }
 {
     words::put_word(t, at, tag + 1);
     lay_entry(t, at + 1, k, 2);
@@ -156,7 +156,7 @@ fn lay_index(t: &mut [u32], at: usize, tag: usize, k: usize)
 // Writes the detail block's, at word `at`: the end record, counted with the block's tag.
 fn lay_detail(t: &mut [u32], at: usize, tag: usize, k: usize)
     requires { (at + (1 + k) ≤ length t.old) × (tag ≤ 8192) }
-    ensures { became t ≡ detailOn at (tag + 1) k (was t) }
+    ensures { became t ≡ detail_on at (tag + 1) k (was t) }
 {
     words::put_word(t, at, tag + 1);
     lay_ones(t, at + 1, k);

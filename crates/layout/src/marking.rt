@@ -1,6 +1,6 @@
 // The marks: one for each block, 0 before the walk comes to it.
 ghost use Rattle.std.specs.Prelude.{◌≡◌, ◌≤◌, length, take, drop};
-ghost use Rattle.words.specs.Words.{zeros, allAre, noneIs};
+ghost use Rattle.words.specs.Words.{zeros, all_are, none_is};
 ghost use Rattle.layout.specs.Inspect.{marked};
 ghost use Rattle.layout.specs.Inspected.{flagged};
 ghost use Rattle.words.specs.Slices.{was, became};
@@ -25,7 +25,7 @@ pub fn mark(m: u8, b: usize, marks: &mut [u8]) -> bool
 // Whether the first n marks are all set.
 pub fn all_set(marks: &[u8], n: usize) -> bool
     requires { n ≤ length marks.now }
-    ensures { result ≡ noneIs 0 (take n (was marks)) }
+    ensures { result ≡ none_is 0 (take n (was marks)) }
 {
     let mut i = 0;
     while i < n {
@@ -39,7 +39,7 @@ pub fn all_set(marks: &[u8], n: usize) -> bool
 
 // Whether the marks from place a on are all 0.
 pub fn none_set(marks: &[u8], a: usize) -> bool
-    ensures { result ≡ allAre 0 (drop a (was marks)) }
+    ensures { result ≡ all_are 0 (drop a (was marks)) }
 {
     let mut i = a;
     while i < marks.len() {

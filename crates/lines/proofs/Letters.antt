@@ -5,20 +5,20 @@ use mathlib.Core.Bool.{Bool, true, false, cond, ◌&&◌}
 use mathlib.Core.List.{List, [], ◌∷◌}
 use lib.Dec.{ltb}
 use lib.ListN.{length, set}
-use Rattle.lines.specs.Reading.{Read, staysNumber, wordRead, spells, longer, letter, resting, another, counted, rested}
+use Rattle.lines.specs.Reading.{Read, stays_number, word_read, spells, longer, letter, resting, another, counted, rested}
 
 -- the value behind a byte of a word that is a number so far, or not
-abbrev pub valueWith : Bool → ℕ → ℕ → ℕ
-valueWith t v b = cond t (v * 10 + (b - 48)) v
+abbrev pub value_with : Bool → ℕ → ℕ → ℕ
+value_with t v b = cond t (v * 10 + (b - 48)) v
 
 -- a byte of a word, kept or not
-abbrev pub letterWith : Bool → Read → ℕ → Read
-letterWith t s b = record {
+abbrev pub letter_with : Bool → Read → ℕ → Read
+letter_with t s b = record {
   reading = record {
     begun = true;
     inside = true;
-    number = staysNumber s.reading.number s.reading.value b;
-    value = valueWith (staysNumber s.reading.number s.reading.value b) s.reading.value b;
+    number = stays_number s.reading.number s.reading.value b;
+    value = value_with (stays_number s.reading.number s.reading.value b) s.reading.value b;
     others = s.reading.others;
     numbers = s.reading.numbers;
     spelled = cond t (suc s.reading.spelled) s.reading.spelled;
@@ -27,15 +27,15 @@ letterWith t s b = record {
   numbers = s.numbers;
 }
 
-pub letter-is : (s : Read) (b : ℕ) → letter s b ≡ letterWith (spells s.reading s.name) s b
-unfolding letter wordRead longer
+pub letter-is : (s : Read) (b : ℕ) → letter s b ≡ letter_with (spells s.reading s.name) s b
+unfolding letter word_read longer
 letter-is s b = go (spells s.reading s.name)
   where
     go : (t : Bool)
         → cond
         t
-        (record { reading = longer (wordRead s.reading b); name = set s.name s.reading.spelled b; numbers = s.numbers })
-        (record { reading = wordRead s.reading b; name = s.name; numbers = s.numbers }) ≡ letterWith t s b
+        (record { reading = longer (word_read s.reading b); name = set s.name s.reading.spelled b; numbers = s.numbers })
+        (record { reading = word_read s.reading b; name = s.name; numbers = s.numbers }) ≡ letter_with t s b
     go true = refl
     go false = refl
 
@@ -44,8 +44,8 @@ abbrev pub stores : Read → Bool
 stores s = s.reading.number && ltb s.reading.numbers (length s.numbers)
 
 -- a rest, behind a word or not, which is stored or not
-abbrev pub restWith : Bool → Bool → Read → Read
-restWith i t s = record {
+abbrev pub rest_with : Bool → Bool → Read → Read
+rest_with i t s = record {
   reading = resting
       s.reading.spelled
       (cond i (cond t s.reading.others (another s.reading.others)) s.reading.others)
@@ -54,7 +54,7 @@ restWith i t s = record {
   numbers = cond i (cond t (set s.numbers s.reading.numbers s.reading.value) s.numbers) s.numbers;
 }
 
-counted_is : (s : Read) → counted s ≡ restWith true (stores s) s
+counted_is : (s : Read) → counted s ≡ rest_with true (stores s) s
 unfolding counted
 counted_is s = go (stores s)
   where
@@ -70,11 +70,11 @@ counted_is s = go (stores s)
           reading = resting s.reading.spelled (another s.reading.others) s.reading.numbers;
           name = s.name;
           numbers = s.numbers;
-        }) ≡ restWith true t s
+        }) ≡ rest_with true t s
     go true = refl
     go false = refl
 
-pub rested-is : (s : Read) → rested s ≡ restWith s.reading.inside (stores s) s
+pub rested-is : (s : Read) → rested s ≡ rest_with s.reading.inside (stores s) s
 unfolding rested
 rested-is s = go s.reading.inside
   where
@@ -83,7 +83,7 @@ rested-is s = go s.reading.inside
         i
         (counted s)
         (record { reading = resting s.reading.spelled s.reading.others s.reading.numbers; name = s.name; numbers = s.numbers })
-        ≡ restWith i (stores s) s
+        ≡ rest_with i (stores s) s
     go true = counted_is s
     go false = refl
 

@@ -8,13 +8,13 @@ use mathlib.Core.List.{List, [], ◌∷◌}
 use mathlib.Core.Option.{Option, none, some}
 use lib.Dec.{eqb}
 use lib.ListN.{length, take}
-use Rattle.words.specs.Keys.{sameKey}
-use Rattle.words.proofs.Keys.{sameKey-true}
+use Rattle.words.specs.Keys.{same_key}
+use Rattle.words.proofs.Keys.{same_key-true}
 use Rattle.rules.specs.declared.Call.{Call}
 use Rattle.rules.specs.declared.Call.TheVariants.{Create, Open, Close, Seek, Adv, Nsert, Dlete, Updat, Xtend}
 use Rattle.texts.specs.Texts.{bytes}
 use Rattle.texts.specs.Results.{spelling}
-use Rattle.lines.specs.Lines.{isDigit, allDigits, is_number, kinds, named_in, named}
+use Rattle.lines.specs.Lines.{is_digit, all_digits, is_number, kinds, named_in, named}
 
 -- all names are shorter than seven bytes
 spelling-short : (c : Call) → length (spelling c) < 7
@@ -31,7 +31,7 @@ spelling-short (Xtend at) = omega arith
 
 -- none begins with a digit
 spelling-other : (c : Call) → is_number (spelling c) ≡ false
-unfolding spelling bytes is_number allDigits isDigit
+unfolding spelling bytes is_number all_digits is_digit
 spelling-other Create = refl
 spelling-other Open = refl
 spelling-other Close = refl
@@ -43,8 +43,8 @@ spelling-other (Updat at) = refl
 spelling-other (Xtend at) = refl
 
 -- a key shorter than n words is told from the first n words of a list
-same-take : (n : ℕ) (w key : List ℕ) → length key < n → sameKey (take n w) key ≡ sameKey w key
-unfolding sameKey
+same-take : (n : ℕ) (w key : List ℕ) → length key < n → same_key (take n w) key ≡ same_key w key
+unfolding same_key
 same-take zero w key h = absurd (not-suc-le-zero h)
 same-take (suc n) [] key h = refl
 same-take (suc n) (x ∷ w) [] h = refl
@@ -55,16 +55,16 @@ unfolding named_in
 named-take-in n w h [] = refl
 named-take-in n w h (c ∷ cs) =
     let k = spelling-short c in
-    let e : sameKey (take n w) (spelling c) ≡ sameKey w (spelling c) = same-take n w (spelling c) (omega arith) in
+    let e : same_key (take n w) (spelling c) ≡ same_key w (spelling c) = same-take n w (spelling c) (omega arith) in
     ap (λ (t : Bool). cond t (some c) (named_in cs (take n w))) e
-    ∙ ap (λ (r : Option Call). cond (sameKey w (spelling c)) (some c) r) (named-take-in n w h cs)
+    ∙ ap (λ (r : Option Call). cond (same_key w (spelling c)) (some c) r) (named-take-in n w h cs)
 
 pub named-take : (n : ℕ) (w : List ℕ) → 7 ≤ n → named (take n w) ≡ named w
 unfolding named
 named-take n w h = named-take-in n w h kinds
 
 pub named_none : named [] ≡ none
-unfolding named named_in kinds sameKey spelling bytes
+unfolding named named_in kinds same_key spelling bytes
 named_none = refl
 
 -- a word that names a call is its name
@@ -74,12 +74,12 @@ named-spelled [] w c h = absurd (none-some h)
   where
     none-some : ◌≡◌ {A = Option Call} none (some c) → ⊥
     none-some e = let n : ◌≡◌ {A = ℕ} 0 1 = cc in omega arith
-named-spelled (d ∷ cs) w c h = go (sameKey w (spelling d)) refl h (named-spelled cs w c)
+named-spelled (d ∷ cs) w c h = go (same_key w (spelling d)) refl h (named-spelled cs w c)
   where
-    go : (t : Bool) → sameKey w (spelling d) ≡ t → cond t (some d) (named_in cs w) ≡ some c → (named_in cs w ≡ some c → w ≡ spelling c) → w ≡ spelling c
+    go : (t : Bool) → same_key w (spelling d) ≡ t → cond t (some d) (named_in cs w) ≡ some c → (named_in cs w ≡ some c → w ≡ spelling c) → w ≡ spelling c
     go true e k r =
         let f : d ≡ c = cc in
-        sameKey-true w (spelling d) e ∙ ap spelling f
+        same_key-true w (spelling d) e ∙ ap spelling f
     go false e k r = r k
 
 pub named_other : (w : List ℕ) (c : Call) → named w ≡ some c → is_number w ≡ false

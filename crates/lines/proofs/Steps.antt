@@ -9,36 +9,36 @@ use lib.ListN.{length, set}
 use borrow.Author.Tests.{lt-ltb, le-ltb, leb-true, le-leb, lt-leb, eq-eqb, ne_eqb}
 use Rattle.words.proofs.All.{and_both}
 use Rattle.lines.specs.declared.Reading.{Reading}
-use Rattle.lines.specs.Lines.{isBlank, isDigit, topNumber}
-use Rattle.lines.specs.Reading.{Read, staysNumber, wordRead, spells, longer, letter, resting, another, counted, rested, step}
+use Rattle.lines.specs.Lines.{is_blank, is_digit, top_number}
+use Rattle.lines.specs.Reading.{Read, stays_number, word_read, spells, longer, letter, resting, another, counted, rested, step}
 use Rattle.lines.specs.Promise.{read}
 
-pub digit-least : (b : ℕ) → isDigit b ≡ true → 48 ≤ b
-unfolding isDigit
+pub digit-least : (b : ℕ) → is_digit b ≡ true → 48 ≤ b
+unfolding is_digit
 digit-least b h = leb-true 48 b (and_both (leb 48 b) (leb b 57) h).0
 
 -- whether a word stays a number
 module _ (number : Bool) (value b : ℕ) where
-  pub stays-other : number ≡ false → staysNumber number value b ≡ false
-  unfolding staysNumber
+  pub stays-other : number ≡ false → stays_number number value b ≡ false
+  unfolding stays_number
   stays-other h = rw h
 
-  pub stays-letter : isDigit b ≡ false → staysNumber number value b ≡ false
-  unfolding staysNumber
+  pub stays-letter : is_digit b ≡ false → stays_number number value b ≡ false
+  unfolding stays_number
   stays-letter h = rw (h, and-false number)
 
-  pub stays-over : topNumber < value * 10 + (b - 48) → staysNumber number value b ≡ false
-  unfolding staysNumber
-  stays-over h = rw (lt-leb _ _ h, and-false (isDigit b), and-false number)
+  pub stays-over : top_number < value * 10 + (b - 48) → stays_number number value b ≡ false
+  unfolding stays_number
+  stays-over h = rw (lt-leb _ _ h, and-false (is_digit b), and-false number)
 
-  pub stays-number : number ≡ true → isDigit b ≡ true → value * 10 + (b - 48) ≤ topNumber → staysNumber number value b ≡ true
-  unfolding staysNumber
+  pub stays-number : number ≡ true → is_digit b ≡ true → value * 10 + (b - 48) ≤ top_number → stays_number number value b ≡ true
+  unfolding stays_number
   stays-number n d h = rw (n, d, le-leb _ _ h)
 
 -- the word goes on with b
 module _ (r : Reading) (b : ℕ) where
-  pub word-other : (n : Bool) → n ≡ false → staysNumber r.number r.value b ≡ false → record { begun = true; inside = true; number = n; value = r.value; others = r.others; numbers = r.numbers; spelled = r.spelled } ≡ wordRead r b
-  unfolding wordRead
+  pub word-other : (n : Bool) → n ≡ false → stays_number r.number r.value b ≡ false → record { begun = true; inside = true; number = n; value = r.value; others = r.others; numbers = r.numbers; spelled = r.spelled } ≡ word_read r b
+  unfolding word_read
   word-other n e h =
       λ j.
       record {
@@ -51,8 +51,8 @@ module _ (r : Reading) (b : ℕ) where
         spelled = r.spelled;
       }
 
-  pub word-digit : (n : Bool) (v : ℕ) → n ≡ true → v ≡ r.value * 10 + (b - 48) → staysNumber r.number r.value b ≡ true → record { begun = true; inside = true; number = n; value = v; others = r.others; numbers = r.numbers; spelled = r.spelled } ≡ wordRead r b
-  unfolding wordRead
+  pub word-digit : (n : Bool) (v : ℕ) → n ≡ true → v ≡ r.value * 10 + (b - 48) → stays_number r.number r.value b ≡ true → record { begun = true; inside = true; number = n; value = v; others = r.others; numbers = r.numbers; spelled = r.spelled } ≡ word_read r b
+  unfolding word_read
   word-digit n v e u h =
       λ j.
       record {
@@ -84,18 +84,18 @@ module _ (r : Reading) (name : List ℕ) where
   spells-room o n h = rw (eq-eqb _ _ o, eq-eqb _ _ n, lt-ltb _ _ h)
 
 -- a byte of a word, of which n is what the word then is
-module _ (r n : Reading) (b : ℕ) (name numbers : List ℕ) (e : n ≡ wordRead r b) where
+module _ (r n : Reading) (b : ℕ) (name numbers : List ℕ) (e : n ≡ word_read r b) where
   pub letter-full : spells r name ≡ false → read n name numbers ≡ letter (read r name numbers) b
   unfolding letter
   letter-full h =
       λ j.
       cond
       (sym h j)
-      (record { reading = longer (wordRead r b); name = set name r.spelled b; numbers = numbers })
+      (record { reading = longer (word_read r b); name = set name r.spelled b; numbers = numbers })
       (record { reading = e j; name = name; numbers = numbers })
 
   pub letter-room : spells r name ≡ true → read (record { begun = n.begun; inside = n.inside; number = n.number; value = n.value; others = n.others; numbers = n.numbers; spelled = r.spelled + 1 }) (set name r.spelled b) numbers ≡ letter (read r name numbers) b
-  unfolding letter longer wordRead
+  unfolding letter longer word_read
   letter-room h =
       λ j.
       cond
@@ -113,7 +113,7 @@ module _ (r n : Reading) (b : ℕ) (name numbers : List ℕ) (e : n ≡ wordRead
         name = set name r.spelled b;
         numbers = numbers;
       })
-      (record { reading = wordRead r b; name = name; numbers = numbers })
+      (record { reading = word_read r b; name = name; numbers = numbers })
 
 -- one word more that is no number
 pub another-few : (spelled others numbers : ℕ) → others < 2 → resting spelled (others + 1) numbers ≡ resting spelled (another others) numbers
@@ -173,10 +173,10 @@ module _ (r n : Reading) (name numbers : List ℕ) where
 
 -- a byte of the line
 module _ (s n : Read) (b : ℕ) where
-  pub step-blank : isBlank b ≡ true → n ≡ rested s → n ≡ step s b
+  pub step-blank : is_blank b ≡ true → n ≡ rested s → n ≡ step s b
   unfolding step
   step-blank h e = λ j. cond (sym h j) (e j) (letter s b)
 
-  pub step-letter : isBlank b ≡ false → n ≡ letter s b → n ≡ step s b
+  pub step-letter : is_blank b ≡ false → n ≡ letter s b → n ≡ step s b
   unfolding step
   step-letter h e = λ j. cond (sym h j) (rested s) (e j)

@@ -10,10 +10,10 @@ use borrow.Author.Tests.{ltb-true, ltb-false, lt-ltb}
 use Rattle.words.specs.Words.{put}
 use Rattle.words.proofs.Keys.{clash}
 use Rattle.words.proofs.Parts.{put-none, set-put, put-after}
-use Rattle.lines.specs.Lines.{value_of, is_number, allNumbers, values}
+use Rattle.lines.specs.Lines.{value_of, is_number, all_numbers, values}
 use Rattle.lines.specs.Reading.{Read, resting, another, rested}
-use Rattle.lines.proofs.Letters.{restWith, stores, rested-is, letters, letters-others, letters-count}
-use Rattle.lines.proofs.Fold.{word, wordsRead, Quiet, rested-quiet, Full}
+use Rattle.lines.proofs.Letters.{rest_with, stores, rested-is, letters, letters-others, letters-count}
+use Rattle.lines.proofs.Fold.{word, words_read, Quiet, rested-quiet, Full}
 use Rattle.lines.proofs.Words.{placed, word-others, word_count, word-stored}
 
 another-grows : (o : ℕ) → o ≤ another o
@@ -37,12 +37,12 @@ rested-grows : (s : Read) → Grown s (rested s)
 unfolding resting
 rested-grows s = subst (Grown s) (sym (rested-is s)) (go s.reading.inside (stores s))
   where
-    go : (i t : Bool) → Grown s (restWith i t s)
+    go : (i t : Bool) → Grown s (rest_with i t s)
     go true true = record { others = omega arith; count = omega arith }
     go true false = record { others = another-grows s.reading.others; count = omega arith }
     go false t = record { others = omega arith; count = omega arith }
 
-pub words-grow : (s : Read) (ws : List (List ℕ)) → (s.reading.others ≤ (wordsRead s ws).reading.others) × (s.reading.numbers ≤ (wordsRead s ws).reading.numbers)
+pub words-grow : (s : Read) (ws : List (List ℕ)) → (s.reading.others ≤ (words_read s ws).reading.others) × (s.reading.numbers ≤ (words_read s ws).reading.numbers)
 words-grow s [] = omega arith
 words-grow s (w ∷ ws) =
     let h = words-grow (word s w) ws in
@@ -52,14 +52,14 @@ words-grow s (w ∷ ws) =
     omega (arith, letters-others s w, letters-count s w)
 
 pub data Tally (s : Read) (ws : List (List ℕ)) : Type 0 where
-  all : allNumbers ws ≡ true
+  all : all_numbers ws ≡ true
       → s.reading.numbers + length ws ≤ length s.numbers
-      → (wordsRead s ws).reading.others ≡ s.reading.others
-      → (wordsRead s ws).reading.numbers ≡ s.reading.numbers + length ws
-      → (wordsRead s ws).numbers ≡ put s.numbers s.reading.numbers (values ws)
+      → (words_read s ws).reading.others ≡ s.reading.others
+      → (words_read s ws).reading.numbers ≡ s.reading.numbers + length ws
+      → (words_read s ws).numbers ≡ put s.numbers s.reading.numbers (values ws)
       → Tally s ws
-  other : s.reading.others < (wordsRead s ws).reading.others
-      → (allNumbers ws ≡ true → length s.numbers < s.reading.numbers + length ws)
+  other : s.reading.others < (words_read s ws).reading.others
+      → (all_numbers ws ≡ true → length s.numbers < s.reading.numbers + length ws)
       → Tally s ws
 
 -- one number stored, and others behind it
@@ -73,7 +73,7 @@ module _ (s : Read) (q : Quiet s) (b : ℕ) (w : List ℕ) (ws : List (List ℕ)
   tally-stored : is_number (b ∷ w) ≡ true → s.reading.numbers < length s.numbers → s.reading.others < 2
       → ((word s (b ∷ w)).reading.others < 2 → (word s (b ∷ w)).reading.numbers ≤ length (word s (b ∷ w)).numbers → Tally (word s (b ∷ w)) ws)
       → Tally s ((b ∷ w) ∷ ws)
-  unfolding allNumbers values
+  unfolding all_numbers values
   tally-stored d r o rec = from (rec (omega (arith, po)) (omega (arith, pc, lens)))
     where
       e : placed s (b ∷ w) ≡ true
@@ -99,22 +99,22 @@ module _ (s : Read) (q : Quiet s) (b : ℕ) (w : List ℕ) (ws : List (List ℕ)
           (p ∙ po)
           (omega (arith, pc))
           (n ∙ (λ j. put (pn j) (pc j) (values ws)) ∙ put_next s.numbers s.reading.numbers (value_of (b ∷ w)) (values ws) r)
-      from (other p h) = other (omega (arith, po)) (λ a. let k = h (sym (λ j. d j && allNumbers ws) ∙ a) in omega (arith, pc, lens))
+      from (other p h) = other (omega (arith, po)) (λ a. let k = h (sym (λ j. d j && all_numbers ws) ∙ a) in omega (arith, pc, lens))
 
   -- the first word is another one
   tally-other : placed s (b ∷ w) ≡ false → s.reading.others < 2 → (is_number (b ∷ w) ≡ true → length s.numbers ≤ s.reading.numbers) → Tally s ((b ∷ w) ∷ ws)
-  unfolding allNumbers
+  unfolding all_numbers
   tally-other e o h =
       let po : (word s (b ∷ w)).reading.others ≡ suc s.reading.others = word-others s q b w false e ∙ another-more s.reading.others o in
       let g = (words-grow (word s (b ∷ w)) ws).0 in
       other (omega arith) (go (is_number (b ∷ w)) refl)
     where
-      go : (t : Bool) → is_number (b ∷ w) ≡ t → (t && allNumbers ws) ≡ true → length s.numbers < s.reading.numbers + suc (length ws)
+      go : (t : Bool) → is_number (b ∷ w) ≡ t → (t && all_numbers ws) ≡ true → length s.numbers < s.reading.numbers + suc (length ws)
       go true d a = let k = h d in omega arith
       go false d a = absurd (clash (sym a))
 
 pub tally : (s : Read) (ws : List (List ℕ)) → Quiet s → Full ws → s.reading.others < 2 → s.reading.numbers ≤ length s.numbers → Tally s ws
-unfolding allNumbers values
+unfolding all_numbers values
 tally s [] q f o c = all refl (omega arith) refl (omega arith) (sym (put-none s.numbers s.reading.numbers))
 tally s ([] ∷ ws) q f o c = absurd f
 tally s ((b ∷ w) ∷ ws) q f o c = go (is_number (b ∷ w)) (ltb s.reading.numbers (length s.numbers)) refl refl (tally (word s (b ∷ w)) ws (rested-quiet (letters s (b ∷ w))) f)

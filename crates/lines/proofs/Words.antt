@@ -9,8 +9,8 @@ use lib.ListN.{length, set}
 use Rattle.words.proofs.All.{and_both}
 use Rattle.lines.specs.Lines.{value_of, is_number}
 use Rattle.lines.specs.Reading.{Read, resting, another}
-use Rattle.lines.proofs.Letters.{restWith, stores, rested-is, letters, letters-others, letters-count, letters-numbers, letters-inside}
-use Rattle.lines.proofs.Digits.{numberOn, valueOn, letters-number, letters-value, number-on, value_on}
+use Rattle.lines.proofs.Letters.{rest_with, stores, rested-is, letters, letters-others, letters-count, letters-numbers, letters-inside}
+use Rattle.lines.proofs.Digits.{number_on, value_on, letters-number, letters-value, number-on, value_on_lem}
 use Rattle.lines.proofs.Fold.{word, Quiet}
 
 -- whether a word is a number for which there is room
@@ -18,26 +18,26 @@ abbrev pub placed : Read → List ℕ → Bool
 placed s w = is_number w && ltb s.reading.numbers (length s.numbers)
 
 module _ (s : Read) (q : Quiet s) (b : ℕ) (w : List ℕ) where
-  number_is : numberOn s.reading.number s.reading.value (b ∷ w) ≡ is_number (b ∷ w)
+  number_is : number_on s.reading.number s.reading.value (b ∷ w) ≡ is_number (b ∷ w)
   unfolding is_number value_of
-  number_is = (λ j. numberOn (q.number j) (q.value j) (b ∷ w)) ∙ number-on 0 (b ∷ w) (omega arith)
+  number_is = (λ j. number_on (q.number j) (q.value j) (b ∷ w)) ∙ number-on 0 (b ∷ w) (omega arith)
 
   value-is : is_number (b ∷ w) ≡ true → (letters s (b ∷ w)).reading.value ≡ value_of (b ∷ w)
   unfolding value_of
   value-is h =
       letters-value s (b ∷ w)
-      ∙ (λ j. valueOn (q.number j) (q.value j) (b ∷ w))
-      ∙ value_on 0 (b ∷ w) (omega arith) (sym (λ j. numberOn (q.number j) (q.value j) (b ∷ w)) ∙ number_is ∙ h)
+      ∙ (λ j. value_on (q.number j) (q.value j) (b ∷ w))
+      ∙ value_on_lem 0 (b ∷ w) (omega arith) (sym (λ j. number_on (q.number j) (q.value j) (b ∷ w)) ∙ number_is ∙ h)
 
   stores-is : stores (letters s (b ∷ w)) ≡ placed s (b ∷ w)
   stores-is =
       let e : (letters s (b ∷ w)).reading.number ≡ is_number (b ∷ w) = letters-number s (b ∷ w) ∙ number_is in
       λ j. e j && ltb (letters-count s (b ∷ w) j) (length (letters-numbers s (b ∷ w) j))
 
-  word-is : (t : Bool) → placed s (b ∷ w) ≡ t → word s (b ∷ w) ≡ restWith true t (letters s (b ∷ w))
+  word-is : (t : Bool) → placed s (b ∷ w) ≡ t → word s (b ∷ w) ≡ rest_with true t (letters s (b ∷ w))
   word-is t e =
       let f : stores (letters s (b ∷ w)) ≡ t = stores-is ∙ e in
-      rested-is (letters s (b ∷ w)) ∙ (λ j. restWith (letters-inside s b w j) (f j) (letters s (b ∷ w)))
+      rested-is (letters s (b ∷ w)) ∙ (λ j. rest_with (letters-inside s b w j) (f j) (letters s (b ∷ w)))
 
   pub word-others : (t : Bool) → placed s (b ∷ w) ≡ t → (word s (b ∷ w)).reading.others ≡ cond t s.reading.others (another s.reading.others)
   unfolding resting

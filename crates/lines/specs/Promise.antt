@@ -9,7 +9,7 @@ use Rattle.lines.specs.declared.Named as code
 use Rattle.lines.specs.declared.Named.TheVariants.{Nothing, Kind}
 use Rattle.lines.specs.declared.Parameters.{Parameters}
 use Rattle.lines.specs.declared.Parameters.TheVariants as parameters
-use Rattle.lines.specs.Lines.{isLineFeed}
+use Rattle.lines.specs.Lines.{is_line_feed}
 use Rattle.lines.specs.Reading.{Read, rested, step}
 
 -- what the code keeps, with the slices lent for name and numbers
@@ -23,21 +23,21 @@ pub record Took : Type 0 where
   pub ended : Bool
 
 -- the bytes l, the first of which stands at place `at`, are read up to and with the first line feed
-unfoldable pub toLineFeed : Read → ℕ → List ℕ → Took
-toLineFeed s at [] = record { kept = s; at = at; ended = false }
-toLineFeed s at (b ∷ l) =
-    cond (isLineFeed b) (record { kept = rested s; at = suc at; ended = true }) (toLineFeed (step s b) (suc at) l)
+unfoldable pub to_line_feed : Read → ℕ → List ℕ → Took
+to_line_feed s at [] = record { kept = s; at = at; ended = false }
+to_line_feed s at (b ∷ l) =
+    cond (is_line_feed b) (record { kept = rested s; at = suc at; ended = true }) (to_line_feed (step s b) (suc at) l)
 
 -- what `take` gives back, with the bytes and numbers it leaves
 abbrev pub took : Taken → List ℕ → List ℕ → Took
 took r name numbers = record { kept = read r.reading name numbers; at = r.at; ended = r.ended }
 
 -- the code's answer for a name
-abbrev pub namedAs : code.Named → Option Call
-namedAs Nothing = none
-namedAs (Kind c) = some c
+abbrev pub named_as : code.Named → Option Call
+named_as Nothing = none
+named_as (Kind c) = some c
 
 -- the code's answer for a first line
-abbrev pub givenAs : Parameters → Option Description
-givenAs parameters.Nothing = none
-givenAs (parameters.Given p) = some p
+abbrev pub given_as : Parameters → Option Description
+given_as parameters.Nothing = none
+given_as (parameters.Given p) = some p

@@ -6,7 +6,7 @@ use Rattle.words.specs.Words.{part}
 use Rattle.drum.specs.declared.Description.{Description}
 use Rattle.rules.specs.declared.Call.{Call}
 use Rattle.lines.specs.declared.Reading.{Reading}
-use Rattle.lines.specs.Lines.{isBlank, isDigit, topNumber, named, carries, described, Parsed, noCall, aCall}
+use Rattle.lines.specs.Lines.{is_blank, is_digit, top_number, named, carries, described, Parsed, no_call, a_call}
 
 -- what is kept of the bytes read so far, with the words lent for the name and for the numbers
 pub record Read : Type 0 where
@@ -19,16 +19,16 @@ unfoldable pub unread : Reading
 unread = record { begun = false; inside = false; number = true; value = 0; others = 0; numbers = 0; spelled = 0 }
 
 -- whether a word that is a number so far, of that value, is one with b behind it
-unfoldable pub staysNumber : Bool → ℕ → ℕ → Bool
-staysNumber number value b = number && (isDigit b && leb (value * 10 + (b - 48)) topNumber)
+unfoldable pub stays_number : Bool → ℕ → ℕ → Bool
+stays_number number value b = number && (is_digit b && leb (value * 10 + (b - 48)) top_number)
 
 -- the word goes on with b: whether it is a number still, and its value
-unfoldable pub wordRead : Reading → ℕ → Reading
-wordRead r b = record {
+unfoldable pub word_read : Reading → ℕ → Reading
+word_read r b = record {
   begun = true;
   inside = true;
-  number = staysNumber r.number r.value b;
-  value = cond (staysNumber r.number r.value b) (r.value * 10 + (b - 48)) r.value;
+  number = stays_number r.number r.value b;
+  value = cond (stays_number r.number r.value b) (r.value * 10 + (b - 48)) r.value;
   others = r.others;
   numbers = r.numbers;
   spelled = r.spelled;
@@ -55,8 +55,8 @@ unfoldable pub letter : Read → ℕ → Read
 letter s b =
     cond
     (spells s.reading s.name)
-    (record { reading = longer (wordRead s.reading b); name = set s.name s.reading.spelled b; numbers = s.numbers })
-    (record { reading = wordRead s.reading b; name = s.name; numbers = s.numbers })
+    (record { reading = longer (word_read s.reading b); name = set s.name s.reading.spelled b; numbers = s.numbers })
+    (record { reading = word_read s.reading b; name = s.name; numbers = s.numbers })
 
 -- between words, so many of them numbers and so many not
 unfoldable pub resting : ℕ → ℕ → ℕ → Reading
@@ -100,7 +100,7 @@ rested s =
 
 -- a byte of the line
 unfoldable pub step : Read → ℕ → Read
-step s b = cond (isBlank b) (rested s) (letter s b)
+step s b = cond (is_blank b) (rested s) (letter s b)
 
 -- all bytes of a line, or of a part of it
 unfoldable pub steps : Read → List ℕ → Read
@@ -108,12 +108,12 @@ steps s [] = s
 steps s (b ∷ l) = steps (step s b) l
 
 -- a whole line
-unfoldable pub readLine : Read → List ℕ → Read
-readLine s l = rested (steps s l)
+unfoldable pub read_line : Read → List ℕ → Read
+read_line s l = rested (steps s l)
 
 -- the bytes kept of the first word
-unfoldable pub spelledName : Read → List ℕ
-spelledName s = part 0 s.reading.spelled s.name
+unfoldable pub spelled_name : Read → List ℕ
+spelled_name s = part 0 s.reading.spelled s.name
 
 -- the call that a line of calls is, of what is kept of it: one word that is no number, which names it, and so many numbers
 unfoldable pub call_in : Description → Reading → Option Call → Option Call
@@ -125,10 +125,10 @@ unfoldable pub call_of : Description → Reading → List ℕ → Option Call
 call_of p r name = call_in p r (named (part 0 r.spelled name))
 
 -- what a line of calls is, of that call and the numbers that are kept: "the key or record that kind carries" stands first in them
-unfoldable pub parsedAs : Description → Option Call → List ℕ → Parsed
-parsedAs p none numbers = noCall
-parsedAs p (some c) numbers = aCall c (part 0 (carries p c) numbers)
+unfoldable pub parsed_as : Description → Option Call → List ℕ → Parsed
+parsed_as p none numbers = no_call
+parsed_as p (some c) numbers = a_call c (part 0 (carries p c) numbers)
 
 -- the parameters that a first line gives, of what is kept of it
-unfoldable pub parametersIn : Reading → List ℕ → Option Description
-parametersIn r numbers = cond (eqb r.others 0 && eqb r.numbers 6) (some (described numbers)) none
+unfoldable pub parameters_in : Reading → List ℕ → Option Description
+parameters_in r numbers = cond (eqb r.others 0 && eqb r.numbers 6) (some (described numbers)) none

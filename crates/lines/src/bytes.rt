@@ -1,9 +1,9 @@
 // What a byte of a line is, and the widths that its value is reckoned in.
 ghost use Rattle.std.specs.Prelude.{◌≡◌};
-ghost use Rattle.lines.specs.Lines.{isBlank, isDigit};
+ghost use Rattle.lines.specs.Lines.{is_blank, is_digit};
 
 pub fn is_blank(b: u8) -> bool
-    ensures { result ≡ isBlank b }
+    ensures { result ≡ is_blank b }
 {
     if b == b' ' {
         return true;
@@ -18,7 +18,7 @@ pub fn is_blank(b: u8) -> bool
 }
 
 pub fn is_digit(b: u8) -> bool
-    ensures { result ≡ isDigit b }
+    ensures { result ≡ is_digit b }
 {
     b'0' <= b && b <= b'9'
 }

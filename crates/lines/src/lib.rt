@@ -3,9 +3,9 @@ mod bytes;
 mod names;
 
 ghost use Rattle.std.specs.Prelude.{◌≡◌, List, ℕ, ◌≤◌, length, drop};
-ghost use Rattle.lines.specs.Reading.{unread, wordRead, letter as letterRead, resting as restingAt};
-ghost use Rattle.lines.specs.Reading.{counted as wordCounted, another, rested, step};
-ghost use Rattle.lines.specs.Promise.{took, read, toLineFeed};
+ghost use Rattle.lines.specs.Reading.{unread, word_read, letter as letter_read, resting as resting_at};
+ghost use Rattle.lines.specs.Reading.{counted as word_counted, another, rested, step};
+ghost use Rattle.lines.specs.Promise.{took, read, to_line_feed};
 ghost use Rattle.words.specs.Slices.{was, became};
 
 pub use bytes::{is_blank, is_digit};
@@ -67,7 +67,7 @@ impl Reading {
 
     // Between words.
     fn resting(spelled: usize, others: usize, numbers: usize) -> Self
-        ensures { result ≡ restingAt spelled others numbers }
+        ensures { result ≡ resting_at spelled others numbers }
     {
         Self {
             begun: true,
@@ -82,7 +82,7 @@ impl Reading {
 
     // The word goes on with b.
     fn with_byte(self, b: u8) -> Self
-        ensures { result ≡ wordRead self b }
+        ensures { result ≡ word_read self b }
     {
         let mut next = self;
         next.begun = true;
@@ -105,7 +105,7 @@ impl Reading {
 
     // A byte of a word; those of the first word are kept, as far as there is room.
     fn letter(self, b: u8, name: &mut [u8]) -> Self
-        ensures { (numbers : List ℕ) → read result (became name) numbers ≡ letterRead (read self (was name) numbers) b }
+        ensures { (numbers : List ℕ) → read result (became name) numbers ≡ letter_read (read self (was name) numbers) b }
     {
         let mut next = self.with_byte(b);
         let spelled = self.spelled;
@@ -125,7 +125,7 @@ impl Reading {
 
     // One word more that is no number.
     fn other(self) -> Self
-        ensures { result ≡ restingAt self.spelled (another self.others) self.numbers }
+        ensures { result ≡ resting_at self.spelled (another self.others) self.numbers }
     {
         let others = self.others;
         if others < 2 {
@@ -136,7 +136,7 @@ impl Reading {
 
     // The word that was read counts as a number, which is kept, or as another word.
     fn counted(self, numbers: &mut [u32]) -> Self
-        ensures { (name : List ℕ) → read result name (became numbers) ≡ wordCounted (read self name (was numbers)) }
+        ensures { (name : List ℕ) → read result name (became numbers) ≡ word_counted (read self name (was numbers)) }
     {
         let at = self.numbers;
         if !self.number {
@@ -174,7 +174,7 @@ impl Reading {
 pub fn take(r: Reading, bytes: &[u8], from: usize, name: &mut [u8], numbers: &mut [u32]) -> Taken
     requires { from ≤ length bytes.now }
     ensures { took result (became name) (became numbers)
-        ≡ toLineFeed (read r (was name) (was numbers)) from (drop from (was bytes)) }
+        ≡ to_line_feed (read r (was name) (was numbers)) from (drop from (was bytes)) }
 {
     let mut reading = r;
     let mut at = from;

@@ -2,10 +2,10 @@
 ghost use Rattle.std.specs.Prelude.{◌≡◌, ◌≤◌, length, drop};
 ghost use Rattle.std.proofs.Math.Option.{some};
 ghost use Rattle.words.specs.Words.{part};
-ghost use Rattle.words.specs.Keys.{sameKey};
+ghost use Rattle.words.specs.Keys.{same_key};
 ghost use Rattle.lines.specs.Lines.{kinds, named_in, named, described, carries as carried};
-ghost use Rattle.lines.specs.Reading.{call_of, parametersIn};
-ghost use Rattle.lines.specs.Promise.{namedAs, givenAs};
+ghost use Rattle.lines.specs.Reading.{call_of, parameters_in};
+ghost use Rattle.lines.specs.Promise.{named_as, given_as};
 ghost use Rattle.words.specs.Slices.{was};
 
 use crate::{Named, Parameters, Reading};
@@ -15,7 +15,7 @@ use rules::Call;
 // Whether the first n bytes of name are those of text.
 pub fn is_name(name: &[u8], n: usize, text: &[u8]) -> bool
     requires { n ≤ length name.now }
-    ensures { result ≡ sameKey (part 0 n (was name)) (was text) }
+    ensures { result ≡ same_key (part 0 n (was name)) (was text) }
 {
     if n != text.len() {
         return false;
@@ -32,7 +32,7 @@ pub fn is_name(name: &[u8], n: usize, text: &[u8]) -> bool
 
 // The answer for a word that names a call.
 fn kind(call: Call) -> Named
-    ensures { namedAs result ≡ some call }
+    ensures { named_as result ≡ some call }
 {
     Named::Kind { call }
 }
@@ -40,7 +40,7 @@ fn kind(call: Call) -> Named
 // The call that the first n bytes of `name` name: the names are tried in their order, three by three.
 fn call_spelled(name: &[u8], n: usize) -> Named
     requires { n ≤ length name.now }
-    ensures { namedAs result ≡ named (part 0 n (was name)) }
+    ensures { named_as result ≡ named (part 0 n (was name)) }
 {
     if is_name(name, n, b"CREATE") {
         return kind(Call::Create);
@@ -57,7 +57,7 @@ fn call_spelled(name: &[u8], n: usize) -> Named
 // The same, of the names after the third.
 fn next_spelled(name: &[u8], n: usize) -> Named
     requires { n ≤ length name.now }
-    ensures { namedAs result ≡ named_in (drop 3 kinds) (part 0 n (was name)) }
+    ensures { named_as result ≡ named_in (drop 3 kinds) (part 0 n (was name)) }
 {
     if is_name(name, n, b"SEEK") {
         return kind(Call::Seek { at: 0 });
@@ -74,7 +74,7 @@ fn next_spelled(name: &[u8], n: usize) -> Named
 // The same, of the names after the sixth.
 fn last_spelled(name: &[u8], n: usize) -> Named
     requires { n ≤ length name.now }
-    ensures { namedAs result ≡ named_in (drop 6 kinds) (part 0 n (was name)) }
+    ensures { named_as result ≡ named_in (drop 6 kinds) (part 0 n (was name)) }
 {
     if is_name(name, n, b"DLETE") {
         return kind(Call::Dlete { at: 0 });
@@ -90,7 +90,7 @@ fn last_spelled(name: &[u8], n: usize) -> Named
 
 // The same, of all bytes of `name` if there are no n.
 pub fn call_named(name: &[u8], n: usize) -> Named
-    ensures { namedAs result ≡ named (part 0 n (was name)) }
+    ensures { named_as result ≡ named (part 0 n (was name)) }
 {
     if name.len() < n {
         return call_spelled(name, name.len());
@@ -117,7 +117,7 @@ pub fn carries(p: Description, call: Call) -> usize
 
 // The call that a line is, of what was kept of it.
 pub fn call_of(p: Description, r: Reading, name: &[u8]) -> Named
-    ensures { namedAs result ≡ call_of p r (was name) }
+    ensures { named_as result ≡ call_of p r (was name) }
 {
     let kind = call_named(name, r.spelled);
     match kind {
@@ -157,7 +157,7 @@ fn set_up(numbers: &[u32]) -> Description
 // The parameters that a first line gives, of what was kept of it.
 pub fn parameters_of(r: Reading, numbers: &[u32]) -> Parameters
     requires { 6 ≤ length numbers.now }
-    ensures { givenAs result ≡ parametersIn r (was numbers) }
+    ensures { given_as result ≡ parameters_in r (was numbers) }
 {
     if r.others != 0 {
         return Parameters::Nothing;

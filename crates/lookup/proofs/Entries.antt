@@ -6,12 +6,12 @@ use Prim.Native.Nat.{ℕ, ◌+◌, ◌-◌, ◌≤◌, ◌<◌}
 use native.Mathlib.Omega.{arith}
 use borrow.Author.Tests.{le-leb, lt-leb, lt-ltb, le-ltb}
 use lib.ListN.{length}
-use Rattle.numbers.specs.Numbers.{badFile}
+use Rattle.numbers.specs.Numbers.{bad_file}
 use Rattle.numbers.specs.Checked.{passed, refused}
 use Rattle.words.specs.Words.{part}
 use Rattle.table.specs.declared.Shape.{Shape}
 use Rattle.table.specs.declared.Want.TheVariants.{NotBelow}
-use Rattle.table.specs.Tables.{count, place, firstWhere, fits, blockIn}
+use Rattle.table.specs.Tables.{count, place, first_where, fits, block_in}
 use Rattle.table.proofs.Places.{row-le, row_lt}
 use Rattle.drum.specs.declared.Description.{Description}
 use Rattle.rules.specs.declared.Which.{Which}
@@ -43,16 +43,16 @@ module _ (which : Which) (h : Shape) (key t : List ℕ) where
     pub chosen_last : n ≡ count h t → which ≡ Last → n - 1 ≡ chosen which h key t
     chosen_last en e = rw (e, en)
 
-    pub chosen-covering : (i : ℕ) → i ≡ firstWhere (fits NotBelow h key t) n → n ≡ count h t → which ≡ Covering → i ≡ chosen which h key t
+    pub chosen-covering : (i : ℕ) → i ≡ first_where (fits NotBelow h key t) n → n ≡ count h t → which ≡ Covering → i ≡ chosen which h key t
     chosen-covering i f en e = rw (e, ← en) f
 
 -- n the count, i the place, b the block
 module _ (p : Description) (h : Shape) (most : ℕ) (which : Which) (t key : List ℕ) (n : ℕ) (en : n ≡ count h t) where
-  pub entry-few : n < 1 → refused badFile ≡ entry_of p h most which (part 0 p.k key) t
+  pub entry-few : n < 1 → refused bad_file ≡ entry_of p h most which (part 0 p.k key) t
   unfolding entry_of
   entry-few l = simp (← en, lt-leb _ _ l)
 
-  pub entry-many : most < n → refused badFile ≡ entry_of p h most which (part 0 p.k key) t
+  pub entry-many : most < n → refused bad_file ≡ entry_of p h most which (part 0 p.k key) t
   unfolding entry_of
   entry-many l = simp (← en, lt-leb _ _ l, and-false)
 
@@ -60,16 +60,16 @@ module _ (p : Description) (h : Shape) (most : ℕ) (which : Which) (t key : Lis
     place_is : i ≡ chosen which h (part 0 p.k key) t
     place_is = ei ∙ ap (λ (k : ℕ). chosen which h (part 0 k key) t) w.width_is
 
-    pub entry-none : n ≤ i → refused badFile ≡ entry_of p h most which (part 0 p.k key) t
+    pub entry-none : n ≤ i → refused bad_file ≡ entry_of p h most which (part 0 p.k key) t
     unfolding entry_of
     entry-none l = simp (← en, ← place_is, le-ltb _ _ l, le-leb _ _ some, le-leb _ _ le)
 
-    module _ (b : ℕ) (below : i < n) (eb : b ≡ blockIn h t i) where
-      pub entry_zero : b < 1 → refused badFile ≡ entry_of p h most which (part 0 p.k key) t
+    module _ (b : ℕ) (below : i < n) (eb : b ≡ block_in h t i) where
+      pub entry_zero : b < 1 → refused bad_file ≡ entry_of p h most which (part 0 p.k key) t
       unfolding entry_of
       entry_zero l = simp (← en, ← place_is, ← eb, lt-leb _ _ l, lt-ltb _ _ below, le-leb _ _ some, le-leb _ _ le)
 
-      pub entry-high : p.n < b → refused badFile ≡ entry_of p h most which (part 0 p.k key) t
+      pub entry-high : p.n < b → refused bad_file ≡ entry_of p h most which (part 0 p.k key) t
       unfolding entry_of
       entry-high l = simp (← en, ← place_is, ← eb, lt-leb _ _ l, and-false, lt-ltb _ _ below, le-leb _ _ some, le-leb _ _ le)
 

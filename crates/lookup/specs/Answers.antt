@@ -1,6 +1,6 @@
 -- The enums of the code as answers of the definitions' steps: `Bad` is a bad number, 070003.
 use Rattle.std.specs.Prelude.{Bool, true, false}
-use Rattle.numbers.specs.Numbers.{badFile}
+use Rattle.numbers.specs.Numbers.{bad_file}
 use Rattle.numbers.specs.Checked.{Checked, passed, refused}
 use Rattle.rules.specs.declared.Entry.{Entry}
 use Rattle.rules.specs.declared.Path.{Path}
@@ -14,23 +14,23 @@ use Rattle.lookup.specs.declared.Test.{Test}
 use Rattle.lookup.specs.declared.Test.TheVariants as test-is
 
 -- the code's answer as the checked entry of the rules [B1]
-abbrev pub asPick : Pick → Checked Entry
-asPick pick_is.Bad = refused badFile
-asPick (pick_is.At e) = passed e
+abbrev pub as_pick : Pick → Checked Entry
+as_pick pick_is.Bad = refused bad_file
+as_pick (pick_is.At e) = passed e
 
 -- the code's answer as the checked path of the rules
-abbrev pub asRoute : Route → Checked Path
-asRoute route-is.Bad = refused badFile
-asRoute (route-is.To w) = passed w
+abbrev pub as_route : Route → Checked Path
+as_route route-is.Bad = refused bad_file
+as_route (route-is.To w) = passed w
 
 -- the code's answer as the checked test of the buffer [S3]
-abbrev pub asTest : Test → Checked Bool
-asTest test-is.Bad = refused badFile
-asTest test-is.No = passed false
-asTest test-is.Yes = passed true
+abbrev pub as_test : Test → Checked Bool
+as_test test-is.Bad = refused bad_file
+as_test test-is.No = passed false
+as_test test-is.Yes = passed true
 
 -- the code's answer as the checked lookup of the rules [C1, C2]
-abbrev pub asLook : Look → Checked Look
-asLook look_is.Bad = refused badFile
-asLook (look_is.Found way i) = passed (look_is.Found way i)
-asLook (look_is.Missing w) = passed (look_is.Missing w)
+abbrev pub as_look : Look → Checked Look
+as_look look_is.Bad = refused bad_file
+as_look (look_is.Found way i) = passed (look_is.Found way i)
+as_look (look_is.Missing w) = passed (look_is.Missing w)

@@ -3,11 +3,11 @@
 ghost use Rattle.std.specs.Prelude.{◌≡◌, true, [], ◌+◌, ◌≤◌, ◌<◌, length};
 ghost use Rattle.numbers.specs.Checked.{passed};
 ghost use Rattle.words.specs.Words.{part};
-ghost use Rattle.table.specs.Tables.{place, blockIn};
+ghost use Rattle.table.specs.Tables.{place, block_in};
 ghost use Rattle.drum.specs.Blocks.{Fitting, Block, seen, at_entry};
-ghost use Rattle.rules.specs.Paths.{chosen, entry_of, pathAt, pathUnder, pathBy};
-ghost use Rattle.rules.specs.Lookup.{onBuffer, flushOk, lookAt, lookOutside, look as looked};
-ghost use Rattle.lookup.specs.Answers.{asPick, asRoute, asTest, asLook};
+ghost use Rattle.rules.specs.Paths.{chosen, entry_of, path_at, path_under, path_by};
+ghost use Rattle.rules.specs.Lookup.{on_buffer, flush_ok, look_at, look_outside, look as looked};
+ghost use Rattle.lookup.specs.Answers.{as_pick, as_route, as_test, as_look};
 ghost use Rattle.lookup.specs.Tables.{Entries, CountedRows};
 ghost use Rattle.rules.specs.Fits.{PathFits, BufferFits};
 ghost use Rattle.words.specs.Slices.{was};
@@ -51,7 +51,7 @@ fn place_of(which: Which, h: Shape, t: &[u32], n: usize, key: &[u32]) -> usize
 // The block that row i, an entry, names.
 fn block_in(h: Shape, t: &[u32], i: usize) -> usize
     requires { place h i + h.width < length t.now }
-    ensures { result ≡ blockIn h (was t) i }
+    ensures { result ≡ block_in h (was t) i }
 {
     words::word_at(t, h.base + i * h.stride + h.width)
 }
@@ -59,7 +59,7 @@ fn block_in(h: Shape, t: &[u32], i: usize) -> usize
 // The entry that is wanted, of the master or of an index block.
 pub fn entry_of(p: Description, h: Shape, most: usize, which: Which, t: &[u32], key: &[u32]) -> Pick
     requires { Entries p h most t.now key.now }
-    ensures { asPick result ≡ entry_of p h most which (part 0 p.k (was key)) (was t) }
+    ensures { as_pick result ≡ entry_of p h most which (part 0 p.k (was key)) (was t) }
 {
     let n = table::count_of(h, t);
     if n < 1 {
@@ -92,7 +92,7 @@ fn path_at<'a>(
     e: Entry,
 ) -> Route
     requires { Fitting p file.now buffer.now × Block p e.block }
-    ensures { asRoute result ≡ pathAt (at_entry p current file buffer) m e }
+    ensures { as_route result ≡ path_at (at_entry p current file buffer) m e }
 {
     let index = m.block;
     let detail = e.block;
@@ -125,7 +125,7 @@ fn path_under<'a>(
     m: Entry,
 ) -> Route
     requires { Fitting at.desc file.now buffer.now × (at.desc.k ≤ length key.now) × Block at.desc m.block }
-    ensures { asRoute result ≡ pathUnder (at_entry at.desc at.current file buffer) which (part 0 at.desc.k (was key)) m }
+    ensures { as_route result ≡ path_under (at_entry at.desc at.current file buffer) which (part 0 at.desc.k (was key)) m }
 {
     let p = at.desc;
     let current = at.current;
@@ -149,7 +149,7 @@ pub fn path_by<'a>(
     key: &[u32],
 ) -> Route
     requires { Fitting at.desc file.now buffer.now × (at.desc.k ≤ length key.now) }
-    ensures { asRoute result ≡ pathBy (at_entry at.desc at.current file buffer) top which (part 0 at.desc.k (was key)) }
+    ensures { as_route result ≡ path_by (at_entry at.desc at.current file buffer) top which (part 0 at.desc.k (was key)) }
 {
     let p = at.desc;
     let h = p.master_shape();
@@ -163,7 +163,7 @@ pub fn path_by<'a>(
 // Whether a block is buffered, so that a test of its keys can be made.
 pub fn on_buffer(p: Description, current: usize, buffer: &[u32]) -> Test
     requires { 1 ≤ length buffer.now }
-    ensures { asTest result ≡ onBuffer (seen p current [] (was buffer)) true }
+    ensures { as_test result ≡ on_buffer (seen p current [] (was buffer)) true }
 {
     if current == 0 {
         return Test::No;
@@ -183,7 +183,7 @@ pub fn on_buffer(p: Description, current: usize, buffer: &[u32]) -> Test
 
 // Whether the buffer, if it is flagged, has a block to be written to.
 pub fn can_flush(p: Description, current: usize, flag: bool) -> bool
-    ensures { result ≡ flushOk (seen p current [] []) flag }
+    ensures { result ≡ flush_ok (seen p current [] []) flag }
 {
     if !flag {
         return true;
@@ -206,7 +206,7 @@ fn look_at<'a>(
     requires { Fitting p file.now buffer.now
         × (p.k ≤ length key.now)
         × PathFits (seen p current file.now buffer.now) w }
-    ensures { asLook result ≡ passed (lookAt (at_entry p current file buffer) (part 0 p.k (was key)) w) }
+    ensures { as_look result ≡ passed (look_at (at_entry p current file buffer) (part 0 p.k (was key)) w) }
 {
     let t = drum::text_of(p, current, file, buffer, w.detail);
     let n = drum::kinds::records_in(p, t);
@@ -227,7 +227,7 @@ fn look_outside<'a>(
     key: &[u32],
 ) -> Look
     requires { Fitting p file.now buffer.now × (p.k ≤ length key.now) }
-    ensures { asLook result ≡ lookOutside (at_entry p current file buffer) flag (part 0 p.k (was key)) }
+    ensures { as_look result ≡ look_outside (at_entry p current file buffer) flag (part 0 p.k (was key)) }
 {
     let at = Held {
         desc: p,
@@ -258,7 +258,7 @@ fn look_buffered<'a>(
     requires { Fitting p file.now buffer.now
         × (p.k ≤ length key.now)
         × BufferFits (seen p current file.now buffer.now) }
-    ensures { asLook result ≡ looked (at_entry p current file buffer) flag (part 0 p.k (was key)) }
+    ensures { as_look result ≡ looked (at_entry p current file buffer) flag (part 0 p.k (was key)) }
 {
     let n = drum::kinds::records_in(p, buffer);
     let i = table::find(Want::Equal, p.detail_shape(), buffer, n, key, 0);
@@ -278,7 +278,7 @@ pub fn look<'a>(
     key: &[u32],
 ) -> Look
     requires { Fitting p file.now buffer.now × (p.k ≤ length key.now) }
-    ensures { asLook result ≡ looked (at_entry p current file buffer) flag (part 0 p.k (was key)) }
+    ensures { as_look result ≡ looked (at_entry p current file buffer) flag (part 0 p.k (was key)) }
 {
     let held = on_buffer(p, current, buffer);
     match held {

@@ -9,18 +9,18 @@ use lib.Dec.{ltb}
 use mir.Syntax.{w64}
 use mir.Val.{Fits}
 use lib.ListN.{length, length-append}
-use Rattle.numbers.specs.Numbers.{badFile}
+use Rattle.numbers.specs.Numbers.{bad_file}
 use Rattle.numbers.specs.Checked.{passed, ◌>>=◌}
 use Rattle.words.specs.Words.{part}
 use Rattle.table.specs.declared.Shape.{Shape}
 use Rattle.table.specs.Tables.{count, place, inserted}
-use Rattle.table.specs.Splits.{lowCount}
+use Rattle.table.specs.Splits.{low_count}
 use Rattle.drum.specs.declared.Description.{Description}
-use Rattle.drum.specs.Params.{D, detailShape}
+use Rattle.drum.specs.Params.{D, detail_shape}
 use Rattle.drum.specs.Blocks.{Fitting, Texts, seen, text_of, block_at, Block}
 use Rattle.drum.proofs.Good.{caps}
 use Rattle.drum.proofs.Forms.{detail-tag}
-use Rattle.drum.proofs.Blocks.{length-textOf}
+use Rattle.drum.proofs.Blocks.{length-text_of}
 use Rattle.rules.specs.declared.Done.{Done}
 use Rattle.rules.specs.declared.Path.{Path}
 use Rattle.rules.specs.declared.Way.{Way}
@@ -28,11 +28,11 @@ use Rattle.rules.specs.declared.Way.TheVariants.{By}
 use Rattle.rules.specs.declared.Taken.{Taken}
 use Rattle.rules.specs.declared.Insert.{Insert}
 use Rattle.rules.specs.declared.Insert.TheVariants.{Bad, Stop, Room, Split, Both}
-use Rattle.rules.specs.State.{recordIn, keyIn}
+use Rattle.rules.specs.State.{record_in, key_in}
 use Rattle.rules.specs.Lookup.{bringing, reached, storing, landing, stopping}
 use Rattle.rules.specs.Fits.{WayFits}
-use Rattle.rules.specs.Nsert.{insertDeed}
-use Rattle.rules.specs.NsertDone.{half_of, splitMoves, bothSplitMoves, splitFile, bothSplitFile, insertDone, nsertSteps}
+use Rattle.rules.specs.Nsert.{insert_deed}
+use Rattle.rules.specs.NsertDone.{half_of, split_moves, both_split_moves, split_file, both_split_file, insert_done, nsert_steps}
 use Rattle.rules.specs.Told.{gave, told}
 use Rattle.rules.proofs.Rooms.{detail-row}
 use Rattle.rules.proofs.Kept.{reached-text}
@@ -41,8 +41,8 @@ use Rattle.acts.specs.Reach.{Come, come, came}
 use Rattle.acts.proofs.Moves.{stopped}
 use Rattle.acts.proofs.Ways.{moves-most}
 use Rattle.nsert.specs.declared.splits.Overflow.{Overflow}
-use Rattle.nsert.specs.Answers.{asInsert}
-use Rattle.nsert.specs.Fits.{RoomFits, CutFits, HalfFits, SplitFits, BothFits, InsertFits, oneSplit, firstSplit, second_of}
+use Rattle.nsert.specs.Answers.{as_insert}
+use Rattle.nsert.specs.Fits.{RoomFits, CutFits, HalfFits, SplitFits, BothFits, InsertFits, one_split, first_split, second_of}
 
 -- a key lies in a record
 pub key-within : (p : Description) (f b : List ℕ) → Fitting p f b → p.k ≤ p.wpr
@@ -50,14 +50,14 @@ key-within p f b fit = (caps p fit.good).facts.key
 
 -- of the two blocks of a split, the half with the record
 module _ (n i old new : ℕ) where
-  pub half-low : (low : ℕ) → low ≡ lowCount n → i < low → old ≡ half_of n i old new
+  pub half-low : (low : ℕ) → low ≡ low_count n → i < low → old ≡ half_of n i old new
   half-low low e h = simp (← e, lt-ltb _ _ h)
 
-  pub half_high : (low : ℕ) → low ≡ lowCount n → low ≤ i → new ≡ half_of n i old new
+  pub half_high : (low : ℕ) → low ≡ low_count n → low ≤ i → new ≡ half_of n i old new
   half_high low e h = simp (← e, le-ltb _ _ h)
 
   half_in : (p : Description) → Block p old → Block p new → Block p (half_of n i old new)
-  half_in p a b = go (ltb i (lowCount n))
+  half_in p a b = go (ltb i (low_count n))
     where
       go : (t : Bool) → Block p (cond t old new)
       go true = a
@@ -101,17 +101,17 @@ module _ (p : Description) (cur : ℕ) (f b : List ℕ) (flag : Bool) (w : Path)
   text-is : t ≡ text_of v w.detail
   text-is = ap (λ (z : Come). z.buffer) e ∙ reached-text v flag (By w)
 
-  module _ (i : ℕ) (h : Shape) (eh : h ≡ detailShape p) where
+  module _ (i : ℕ) (h : Shape) (eh : h ≡ detail_shape p) where
     pub room-base : 1 ≤ h.base
-    unfolding detailShape
+    unfolding detail_shape
     room-base = rw eh (omega arith)
 
     module _ (x : RoomFits v flag w i) (fit : Fitting p f b) where
       pub room_row : place h (count h t) + h.stride ≤ length t
-      unfolding detailShape
+      unfolding detail_shape
       room_row =
-          let l = length-textOf v w.detail fit (x.path.detail-least, x.path.detail-most) in
-          rw (eh, text-is, l) (detail-row p fit.good (count (detailShape p) (text_of v w.detail)) x.room)
+          let l = length-text_of v w.detail fit (x.path.detail-least, x.path.detail-most) in
+          rw (eh, text-is, l) (detail-row p fit.good (count (detail_shape p) (text_of v w.detail)) x.room)
 
       pub room-place : i ≤ count h t
       room-place = rw (eh, text-is) x.place
@@ -124,12 +124,12 @@ module _ (p : Description) (cur : ℕ) (f b : List ℕ) (flag : Bool) (w : Path)
           rw (eh, text-is) (omega (arith, detail-tag p fit.good))
 
     pub room-long : (work : List ℕ) → length work ≡ p.wpr → 0 + h.stride ≤ length work
-    unfolding detailShape
+    unfolding detail_shape
     room-long work l = rw eh (omega arith)
 
     pub room-buffer : (work u : List ℕ) → u ≡ inserted h i (part 0 h.stride work) t
-        → u ≡ inserted (detailShape p) i (recordIn p work) (reached v flag (By w)).buffer
-    unfolding detailShape
+        → u ≡ inserted (detail_shape p) i (record_in p work) (reached v flag (By w)).buffer
+    unfolding detail_shape
     room-buffer work u eu = eu ∙ (λ j. inserted (eh j) i (part 0 (eh j).stride work) (e j).buffer)
 
   pub room-moves : a.transfers ≡ length (reached v flag (By w)).moves
@@ -149,10 +149,10 @@ module _ (p : Description) (cur : ℕ) (f b : List ℕ) (flag : Bool) (d : Inser
   pub room_fits : (w : Path) (i n : ℕ) → d ≡ Room w i n → InsertFits u flag d → RoomFits u flag w i
   room_fits w i n e h = subst (InsertFits u flag) e h
 
-  pub split-fits : (w : Path) (i : ℕ) (x : Taken) (n : ℕ) → d ≡ Split w i x n → InsertFits u flag d → SplitFits u flag (oneSplit w i x)
+  pub split-fits : (w : Path) (i : ℕ) (x : Taken) (n : ℕ) → d ≡ Split w i x n → InsertFits u flag d → SplitFits u flag (one_split w i x)
   split-fits w i x n e h = subst (InsertFits u flag) e h
 
-  pub both-fits : (w : Path) (i y : ℕ) (x : Taken) (n : ℕ) → d ≡ Both w i y x n → InsertFits u flag d → BothFits u flag (firstSplit w i y x) x.block
+  pub both-fits : (w : Path) (i y : ℕ) (x : Taken) (n : ℕ) → d ≡ Both w i y x n → InsertFits u flag d → BothFits u flag (first_split w i y x) x.block
   both-fits w i y x n e h = subst (InsertFits u flag) e h
 
   -- the two blocks of a split are blocks
@@ -164,29 +164,29 @@ module _ (p : Description) (cur : ℕ) (f b : List ℕ) (flag : Bool) (d : Inser
     new-most = x.new.new.block.1;
   }
 
-  pub split-halves : (w : Path) (i : ℕ) (x : Taken) (n : ℕ) → d ≡ Split w i x n → InsertFits u flag d → HalfFits p (oneSplit w i x)
-  split-halves w i x n e h = halves-fit (oneSplit w i x) (split-fits w i x n e h).cut
+  pub split-halves : (w : Path) (i : ℕ) (x : Taken) (n : ℕ) → d ≡ Split w i x n → InsertFits u flag d → HalfFits p (one_split w i x)
+  split-halves w i x n e h = halves-fit (one_split w i x) (split-fits w i x n e h).cut
 
-  pub both_halves : (w : Path) (i y : ℕ) (x : Taken) (n : ℕ) → d ≡ Both w i y x n → InsertFits u flag d → HalfFits p (firstSplit w i y x)
-  both_halves w i y x n e h = halves-fit (firstSplit w i y x) (both-fits w i y x n e h).cut
+  pub both_halves : (w : Path) (i y : ℕ) (x : Taken) (n : ℕ) → d ≡ Both w i y x n → InsertFits u flag d → HalfFits p (first_split w i y x)
+  both_halves w i y x n e h = halves-fit (first_split w i y x) (both-fits w i y x n e h).cut
 
   module _ (r : Done) (work : List ℕ) where
-    pub told-bad : d ≡ Bad → r ≡ record { number = badFile; transfers = 0; current = cur; flag = flag; keyed = false }
-        → gave r f b work ≡ told u flag work (insertDone u flag work d)
-    unfolding insertDone
+    pub told-bad : d ≡ Bad → r ≡ record { number = bad_file; transfers = 0; current = cur; flag = flag; keyed = false }
+        → gave r f b work ≡ told u flag work (insert_done u flag work d)
+    unfolding insert_done
     told-bad e er = rw e (ap (λ (x : Done). gave x f b work) er)
 
     module _ (g t : List ℕ) where
       pub told-stop : (way : Way) (n : ℕ) → d ≡ Stop way n → gave r g t [] ≡ told u flag [] (passed (stopping n [] (reached u flag way)))
-          → gave r g t work ≡ told u flag work (insertDone u flag work d)
-      unfolding insertDone
+          → gave r g t work ≡ told u flag work (insert_done u flag work d)
+      unfolding insert_done
       told-stop way n e h = rw e (stopped u flag n work r g t (reached u flag way) h)
 
   pub told-room : (work g t : List ℕ) (w : Path) (i n m : ℕ) → d ≡ Room w i n → m ≡ length (reached u flag (By w)).moves
-      → g ≡ (reached u flag (By w)).file → t ≡ inserted (detailShape p) i (recordIn p work) (reached u flag (By w)).buffer
+      → g ≡ (reached u flag (By w)).file → t ≡ inserted (detail_shape p) i (record_in p work) (reached u flag (By w)).buffer
       → gave (record { number = n; transfers = m; current = w.detail; flag = true; keyed = true }) g t work
-      ≡ told u flag work (insertDone u flag work d)
-  unfolding insertDone storing reached bringing
+      ≡ told u flag work (insert_done u flag work d)
+  unfolding insert_done storing reached bringing
   told-room work g t w i n m e em eg et =
       rw e (λ j. record { number = n; transfers = em j; current = w.detail; flag = true; keyed = true; file = eg j; buffer = et j; work = work })
 
@@ -195,12 +195,12 @@ module _ (p : Description) (cur : ℕ) (f b : List ℕ) (flag : Bool) (d : Inser
     pub told-split : (x : Taken) (n : ℕ) → d ≡ Split w i x n
         → r ≡ record { number = n; transfers = m + 4; current = half_of (D p) i w.detail x.block; flag = false; keyed = true }
         → t ≡ block_at p g (half_of (D p) i w.detail x.block) → m ≡ length (reached u flag (By w)).moves
-        → g ≡ splitFile u flag w i (recordIn p work) x
-        → gave r g t work ≡ told u flag work (insertDone u flag work d)
-    unfolding insertDone landing splitMoves
+        → g ≡ split_file u flag w i (record_in p work) x
+        → gave r g t work ≡ told u flag work (insert_done u flag work d)
+    unfolding insert_done landing split_moves
     told-split x n e er et em eg =
-        let k : m + 4 ≡ length ((reached u flag (By w)).moves ++ splitMoves u w i (recordIn p work) x.block) =
-        ap (λ (z : ℕ). z + 4) em ∙ sym (length-append (reached u flag (By w)).moves (splitMoves u w i (recordIn p work) x.block)) in
+        let k : m + 4 ≡ length ((reached u flag (By w)).moves ++ split_moves u w i (record_in p work) x.block) =
+        ap (λ (z : ℕ). z + 4) em ∙ sym (length-append (reached u flag (By w)).moves (split_moves u w i (record_in p work) x.block)) in
         let q = half_of (D p) i w.detail x.block in
         rw e ((λ j. gave (er j) g (et j) work)
         ∙ (λ j. record { number = n; transfers = k j; current = q; flag = false; keyed = true; file = eg j; buffer = block_at p (eg j) q; work = work }))
@@ -208,12 +208,12 @@ module _ (p : Description) (cur : ℕ) (f b : List ℕ) (flag : Bool) (d : Inser
     pub told-both : (y : ℕ) (x : Taken) (n : ℕ) → d ≡ Both w i y x n
         → r ≡ record { number = n; transfers = m + 5; current = half_of (D p) i w.detail y; flag = false; keyed = true }
         → t ≡ block_at p g (half_of (D p) i w.detail y) → m ≡ length (reached u flag (By w)).moves
-        → g ≡ bothSplitFile u flag w i (recordIn p work) y x
-        → gave r g t work ≡ told u flag work (insertDone u flag work d)
-    unfolding insertDone landing bothSplitMoves
+        → g ≡ both_split_file u flag w i (record_in p work) y x
+        → gave r g t work ≡ told u flag work (insert_done u flag work d)
+    unfolding insert_done landing both_split_moves
     told-both y x n e er et em eg =
-        let k : m + 5 ≡ length ((reached u flag (By w)).moves ++ bothSplitMoves u w i (recordIn p work) y x.block) =
-        ap (λ (z : ℕ). z + 5) em ∙ sym (length-append (reached u flag (By w)).moves (bothSplitMoves u w i (recordIn p work) y x.block)) in
+        let k : m + 5 ≡ length ((reached u flag (By w)).moves ++ both_split_moves u w i (record_in p work) y x.block) =
+        ap (λ (z : ℕ). z + 5) em ∙ sym (length-append (reached u flag (By w)).moves (both_split_moves u w i (record_in p work) y x.block)) in
         let q = half_of (D p) i w.detail y in
         rw e ((λ j. gave (er j) g (et j) work)
         ∙ (λ j. record { number = n; transfers = k j; current = q; flag = false; keyed = true; file = eg j; buffer = block_at p (eg j) q; work = work }))
@@ -227,8 +227,8 @@ module _ (p : Description) (cur : ℕ) (f b : List ℕ) (flag : Bool) (w : Path)
   five-more = let k = moves-most (seen p cur f b) flag (By w) in omega arith
 
 -- a plan that passed is done
-planned : (v : Texts) (flag : Bool) (work : List ℕ) (d : Insert) → insertDone v flag work d ≡ (asInsert d >>= insertDone v flag work)
-unfolding insertDone
+planned : (v : Texts) (flag : Bool) (work : List ℕ) (d : Insert) → insert_done v flag work d ≡ (as_insert d >>= insert_done v flag work)
+unfolding insert_done
 planned v flag work Bad = refl
 planned v flag work (Stop way n) = refl
 planned v flag work (Room w i n) = refl
@@ -237,10 +237,10 @@ planned v flag work (Both w i b x n) = refl
 
 -- NSERT by its plan and by what was done
 pub nsert-told : (p : Description) (cur : ℕ) (f b : List ℕ) (flag : Bool) (work : List ℕ) (d : Insert) (r : Done) (g h : List ℕ)
-    → asInsert d ≡ insertDeed (seen p cur f b) flag (keyIn p work)
-    → gave r g h work ≡ told (seen p cur f b) flag work (insertDone (seen p cur f b) flag work d)
-    → gave r g h work ≡ told (seen p cur f b) flag work (nsertSteps (seen p cur f b) flag work)
-unfolding nsertSteps
+    → as_insert d ≡ insert_deed (seen p cur f b) flag (key_in p work)
+    → gave r g h work ≡ told (seen p cur f b) flag work (insert_done (seen p cur f b) flag work d)
+    → gave r g h work ≡ told (seen p cur f b) flag work (nsert_steps (seen p cur f b) flag work)
+unfolding nsert_steps
 nsert-told p cur f b flag work d r g h e t =
     let v = seen p cur f b in
-    t ∙ ap (told v flag work) (planned v flag work d ∙ ap (λ x. x >>= insertDone v flag work) e)
+    t ∙ ap (told v flag work) (planned v flag work d ∙ ap (λ x. x >>= insert_done v flag work) e)

@@ -2,7 +2,7 @@
 use Rattle.std.specs.Prelude.{ℕ, ◌+◌, ◌≤◌, ◌<◌, ◌≡◌, Bool, List, length}
 use Rattle.table.specs.Tables.{count}
 use Rattle.drum.specs.declared.Description.{Description}
-use Rattle.drum.specs.Params.{D, I, detailShape, index_shape}
+use Rattle.drum.specs.Params.{D, I, detail_shape, index_shape}
 use Rattle.drum.specs.Blocks.{Texts, text_of, sections, Block}
 use Rattle.rules.specs.declared.Path.{Path}
 use Rattle.rules.specs.declared.Taken.{Taken}
@@ -15,8 +15,8 @@ use Rattle.nsert.specs.declared.splits.Overflow.{Overflow}
 pub record RoomFits (v : Texts) (flag : Bool) (w : Path) (i : ℕ) : Type 0 where
   pub flush : FlushFits v flag
   pub path : PathFits v w
-  pub place : i ≤ count (detailShape v.desc) (text_of v w.detail)
-  pub room : count (detailShape v.desc) (text_of v w.detail) < D v.desc
+  pub place : i ≤ count (detail_shape v.desc) (text_of v w.detail)
+  pub room : count (detail_shape v.desc) (text_of v w.detail) < D v.desc
 
 -- the detail block is split: what both kinds of a split have
 pub record CutFits (v : Texts) (flag : Bool) (c : Overflow) : Type 0 where
@@ -45,20 +45,20 @@ pub record BothFits (v : Texts) (flag : Bool) (c : Overflow) (x : ℕ) : Type 0 
   pub section : sections v.file < v.desc.control
 
 -- one split, and the first of two
-abbrev pub oneSplit : Path → ℕ → Taken → Overflow
-oneSplit w i d = record { path = w; place = i; new = d }
+abbrev pub one_split : Path → ℕ → Taken → Overflow
+one_split w i d = record { path = w; place = i; new = d }
 
 -- the first of two: words 1 and 2 are those after the second new block
-abbrev pub firstSplit : Path → ℕ → ℕ → Taken → Overflow
-firstSplit w i b x = oneSplit w i (record { block = b; head = x.head; lowest = x.lowest })
+abbrev pub first_split : Path → ℕ → ℕ → Taken → Overflow
+first_split w i b x = one_split w i (record { block = b; head = x.head; lowest = x.lowest })
 
 -- what any plan of NSERT tells it [C10]
 abbrev pub InsertFits : Texts → Bool → Insert → Type 0
 InsertFits v flag Bad = Unit {0}
 InsertFits v flag (Stop way n) = WayFits v flag way
 InsertFits v flag (Room w i n) = RoomFits v flag w i
-InsertFits v flag (Split w i d n) = SplitFits v flag (oneSplit w i d)
-InsertFits v flag (Both w i b x n) = BothFits v flag (firstSplit w i b x) x.block
+InsertFits v flag (Split w i d n) = SplitFits v flag (one_split w i d)
+InsertFits v flag (Both w i b x n) = BothFits v flag (first_split w i b x) x.block
 
 -- the record put in is whole, and an entry has room for its words
 pub record Lends (p : Description) (work entry : List ℕ) : Type 0 where

@@ -2,12 +2,12 @@
 ghost use Rattle.std.specs.Prelude.{◌≡◌, true, false, ◌≤◌, length};
 ghost use Rattle.words.specs.Slices.{was, became};
 ghost use Rattle.table.specs.Tables.{inserted};
-ghost use Rattle.drum.specs.Params.{D, detailShape};
+ghost use Rattle.drum.specs.Params.{D, detail_shape};
 ghost use Rattle.drum.specs.Blocks.{Fitting, seen, at_entry, block_at};
 ghost use Rattle.rules.specs.declared.Way.TheVariants as way-is;
 ghost use Rattle.rules.specs.Lookup.{reached};
-ghost use Rattle.rules.specs.NsertDone.{half_of, insertDone};
-ghost use Rattle.rules.specs.State.{recordIn};
+ghost use Rattle.rules.specs.NsertDone.{half_of, insert_done};
+ghost use Rattle.rules.specs.State.{record_in};
 ghost use Rattle.rules.specs.Told.{FollowsAt};
 ghost use Rattle.nsert.specs.Fits.{HalfFits, RoomFits, InsertFits};
 
@@ -61,7 +61,7 @@ fn put_in(at: Held, file: &mut [u32], buffer: &mut [u32], work: &[u32], w: Path,
     ensures { (result ≡ length (reached (at_entry at.desc at.current file buffer) at.flag (way-is.By w)).moves)
         × (became file ≡ (reached (at_entry at.desc at.current file buffer) at.flag (way-is.By w)).file)
         × (became buffer
-        ≡ inserted (detailShape at.desc) i (recordIn at.desc (was work))
+        ≡ inserted (detail_shape at.desc) i (record_in at.desc (was work))
         (reached (at_entry at.desc at.current file buffer) at.flag (way-is.By w)).buffer) }
 {
     let p = at.desc;
@@ -75,7 +75,7 @@ pub fn do_nsert(deed: Insert, at: Held, file: &mut [u32], buffer: &mut [u32], wo
     requires { Fitting at.desc file.old buffer.old
         × (length work.now ≡ at.desc.wpr)
         × InsertFits (seen at.desc at.current file.old buffer.old) at.flag deed }
-    ensures { FollowsAt result (λ v flag work. insertDone v flag work deed) at file buffer work }
+    ensures { FollowsAt result (λ v flag work. insert_done v flag work deed) at file buffer work }
 {
     let p = at.desc;
     match deed {

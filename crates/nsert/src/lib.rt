@@ -5,7 +5,7 @@ mod splits;
 
 ghost use Rattle.std.specs.Prelude.{◌≡◌, length};
 ghost use Rattle.drum.specs.Blocks.{Fitting};
-ghost use Rattle.rules.specs.NsertDone.{nsertSteps};
+ghost use Rattle.rules.specs.NsertDone.{nsert_steps};
 ghost use Rattle.rules.specs.Told.{Follows};
 
 use drum::Description;
@@ -21,7 +21,7 @@ pub fn nsert(
     work: &[u32],
 ) -> Done
     requires { Fitting p file.old buffer.old × (length work.now ≡ p.wpr) }
-    ensures { Follows result nsertSteps p current flag file buffer work }
+    ensures { Follows result nsert_steps p current flag file buffer work }
 {
     let at = Held {
         desc: p,

@@ -3,12 +3,12 @@
 ghost use Rattle.std.specs.Prelude.{◌≡◌, ◌≤◌, length};
 ghost use Rattle.words.specs.Words.{part};
 ghost use Rattle.words.specs.Slices.{was};
-ghost use Rattle.table.specs.Tables.{count, rowAbove};
-ghost use Rattle.drum.specs.Params.{detailShape};
+ghost use Rattle.table.specs.Tables.{count, row_above};
+ghost use Rattle.drum.specs.Params.{detail_shape};
 ghost use Rattle.drum.specs.Blocks.{Fitting, Block, seen, text_of, at_entry};
 ghost use Rattle.rules.specs.Fits.{PathFits};
-ghost use Rattle.rules.specs.Nsert.{halfCount, roomDeed, splitDeed, bothDeed, insertAt, insertDeed};
-ghost use Rattle.nsert.specs.Answers.{asInsert};
+ghost use Rattle.rules.specs.Nsert.{half_count, room_deed, split_deed, both_deed, insert_at, insert_deed};
+ghost use Rattle.nsert.specs.Answers.{as_insert};
 
 use free::{Grant, Grants, Number};
 use numbers::{NO_ROOM, NOT_FOUND};
@@ -27,7 +27,7 @@ fn count_of<'a>(at: Held, file: &'a [u32], buffer: &'a [u32], b: usize, h: Shape
 // How many records the half has in which the one put in at place i of n falls.
 fn half_count(n: usize, i: usize) -> usize
     requires { n ≤ 262143 }
-    ensures { result ≡ halfCount n i }
+    ensures { result ≡ half_count n i }
 {
     let low = split::low_count(n);
     if i < low {
@@ -39,7 +39,7 @@ fn half_count(n: usize, i: usize) -> usize
 // The block has room: the number that goes with the record's place.
 fn room_deed<'a>(at: Held, file: &'a [u32], buffer: &'a [u32], w: Path, i: usize) -> Insert
     requires { Fitting at.desc file.now buffer.now × PathFits (seen at.desc at.current file.now buffer.now) w }
-    ensures { asInsert result ≡ roomDeed (at_entry at.desc at.current file buffer) w i }
+    ensures { as_insert result ≡ room_deed (at_entry at.desc at.current file buffer) w i }
 {
     let n = count_of(at, file, buffer, w.detail, at.desc.detail_shape());
     let head = words::word_at(file, 1);
@@ -52,7 +52,7 @@ fn room_deed<'a>(at: Held, file: &'a [u32], buffer: &'a [u32], w: Path, i: usize
 // The block is full: one new block is needed.
 fn split_deed<'a>(at: Held, file: &'a [u32], buffer: &'a [u32], w: Path, i: usize) -> Insert
     requires { Fitting at.desc file.now buffer.now }
-    ensures { asInsert result ≡ splitDeed (at_entry at.desc at.current file buffer) at.flag w i }
+    ensures { as_insert result ≡ split_deed (at_entry at.desc at.current file buffer) at.flag w i }
 {
     let Grant::Got(d) = free::take_one(at, file, buffer, w) else {
         return Insert::Bad;
@@ -70,7 +70,7 @@ fn split_deed<'a>(at: Held, file: &'a [u32], buffer: &'a [u32], w: Path, i: usiz
 // The index block is full too: two new blocks are needed, and a section.
 fn both_deed<'a>(at: Held, file: &'a [u32], buffer: &'a [u32], w: Path, i: usize) -> Insert
     requires { Fitting at.desc file.now buffer.now }
-    ensures { asInsert result ≡ bothDeed (at_entry at.desc at.current file buffer) at.flag w i }
+    ensures { as_insert result ≡ both_deed (at_entry at.desc at.current file buffer) at.flag w i }
 {
     let Grants::Got(t) = free::take_two(at, file, buffer, w) else {
         return Insert::Bad;
@@ -89,7 +89,7 @@ fn both_deed<'a>(at: Held, file: &'a [u32], buffer: &'a [u32], w: Path, i: usize
 // The record goes to place i of the block at the end of the way.
 pub fn insert_at<'a>(at: Held, file: &'a [u32], buffer: &'a [u32], w: Path, i: usize) -> Insert
     requires { Fitting at.desc file.now buffer.now × PathFits (seen at.desc at.current file.now buffer.now) w }
-    ensures { asInsert result ≡ insertAt (at_entry at.desc at.current file buffer) at.flag w i }
+    ensures { as_insert result ≡ insert_at (at_entry at.desc at.current file buffer) at.flag w i }
 {
     if count_of(at, file, buffer, w.detail, at.desc.detail_shape()) < at.desc.d() {
         return room_deed(at, file, buffer, w, i);
@@ -106,7 +106,7 @@ pub fn place_of<'a>(at: Held, file: &'a [u32], buffer: &'a [u32], key: &[u32], w
         × (at.desc.k ≤ length key.now)
         × PathFits (seen at.desc at.current file.now buffer.now) w }
     ensures { result
-        ≡ rowAbove (detailShape at.desc) (part 0 at.desc.k (was key))
+        ≡ row_above (detail_shape at.desc) (part 0 at.desc.k (was key))
         (text_of (at_entry at.desc at.current file buffer) w.detail) }
 {
     let t = drum::text_of(at.desc, at.current, file, buffer, w.detail);
@@ -117,8 +117,8 @@ pub fn place_of<'a>(at: Held, file: &'a [u32], buffer: &'a [u32], key: &[u32], w
 // What NSERT will do.
 pub fn plan_nsert<'a>(at: Held, file: &'a [u32], buffer: &'a [u32], key: &[u32]) -> Insert
     requires { Fitting at.desc file.now buffer.now × (at.desc.k ≤ length key.now) }
-    ensures { asInsert result
-        ≡ insertDeed (at_entry at.desc at.current file buffer) at.flag (part 0 at.desc.k (was key)) }
+    ensures { as_insert result
+        ≡ insert_deed (at_entry at.desc at.current file buffer) at.flag (part 0 at.desc.k (was key)) }
 {
     let found = lookup::look(at.desc, at.current, at.flag, file, buffer, key);
     match found {

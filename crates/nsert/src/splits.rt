@@ -5,10 +5,10 @@ ghost use Rattle.words.specs.Slices.{was, became};
 ghost use Rattle.drum.specs.Blocks.{Fitting, seen, at_entry};
 ghost use Rattle.rules.specs.declared.Way.TheVariants as way-is;
 ghost use Rattle.rules.specs.Lookup.{reached};
-ghost use Rattle.rules.specs.NsertDone.{detailEntry, splitFile, bothSplitFile};
-ghost use Rattle.rules.specs.State.{recordIn};
+ghost use Rattle.rules.specs.NsertDone.{detail_entry, split_file, both_split_file};
+ghost use Rattle.rules.specs.State.{record_in};
 ghost use Rattle.nsert.specs.Fits.{CutFits, SplitFits, BothFits, Lends, AboveFits, second_of};
-ghost use Rattle.nsert.specs.Steps.{cutFile, aboveFile};
+ghost use Rattle.nsert.specs.Steps.{cut_file, above_file};
 
 use drum::Description;
 use rules::{Held, Path, Taken, Way};
@@ -35,9 +35,9 @@ fn cut(
         × Lends at.desc work.now entry.old
         × CutFits (seen at.desc at.current file.old buffer.old) at.flag c }
     ensures { (result ≡ length (reached (at_entry at.desc at.current file buffer) at.flag (way-is.By c.path)).moves)
-        × (became file ≡ cutFile (at_entry at.desc at.current file buffer) at.flag c (recordIn at.desc (was work)))
+        × (became file ≡ cut_file (at_entry at.desc at.current file buffer) at.flag c (record_in at.desc (was work)))
         × (part 0 (at.desc.k + 1) (became entry)
-        ≡ detailEntry (at_entry at.desc at.current file buffer) c.path c.place (recordIn at.desc (was work))) }
+        ≡ detail_entry (at_entry at.desc at.current file buffer) c.path c.place (record_in at.desc (was work))) }
 {
     let p = at.desc;
     let w = c.path;
@@ -68,8 +68,8 @@ pub fn write_split(
         × SplitFits (seen at.desc at.current file.old buffer.old) at.flag c }
     ensures { (result ≡ length (reached (at_entry at.desc at.current file buffer) at.flag (way-is.By c.path)).moves)
         × (became file
-        ≡ splitFile (at_entry at.desc at.current file buffer) at.flag c.path c.place
-        (recordIn at.desc (was work)) c.new) }
+        ≡ split_file (at_entry at.desc at.current file buffer) at.flag c.path c.place
+        (record_in at.desc (was work)) c.new) }
 {
     let mut entry = [0u32; 64];
     let w = c.path;
@@ -89,7 +89,7 @@ fn write_above(
     x: usize,
 )
     requires { Fitting p file.old buffer.old × AboveFits p file.old c x × (p.k + 1 ≤ length entry.now) }
-    ensures { became file ≡ aboveFile p c.path (part 0 (p.k + 1) (was entry)) c.new.block x (was file) }
+    ensures { became file ≡ above_file p c.path (part 0 (p.k + 1) (was entry)) c.new.block x (was file) }
 {
     let mut above = [0u32; 64];
     let w = c.path;
@@ -120,8 +120,8 @@ pub fn write_both(
         × BothFits (seen at.desc at.current file.old buffer.old) at.flag c x }
     ensures { (result ≡ length (reached (at_entry at.desc at.current file buffer) at.flag (way-is.By c.path)).moves)
         × (became file
-        ≡ bothSplitFile (at_entry at.desc at.current file buffer) at.flag c.path c.place
-        (recordIn at.desc (was work)) c.new.block (second_of c x)) }
+        ≡ both_split_file (at_entry at.desc at.current file buffer) at.flag c.path c.place
+        (record_in at.desc (was work)) c.new.block (second_of c x)) }
 {
     let mut entry = [0u32; 64];
     let moved = cut(at, file, buffer, work, c, &mut entry);

@@ -6,7 +6,7 @@ use mathlib.Core.Bool.{Bool, true, false, cond, ◌&&◌}
 use lib.Dec.{leb}
 use borrow.Author.Tests.{leb-true}
 use native.Mathlib.Omega.{arith}
-use Rattle.numbers.specs.Numbers.{badFile}
+use Rattle.numbers.specs.Numbers.{bad_file}
 use Rattle.numbers.specs.Checked.{Checked, passed, refused, ◌>>=◌, ◌>>◌, require, within, up_to}
 
 -- P holds of whatever c passes
@@ -68,12 +68,12 @@ both false b e = absurd (let z : ◌≡◌ {A = ℕ} 0 1 = cc in omega arith)
 -- a passed `within`: the number lies in the range
 pub ranged : (lo hi x y : ℕ) → within lo hi x ≡ passed y → (lo ≤ x) × (x ≤ hi) × (x ≡ y)
 ranged lo hi x y e =
-    let a = passed_on (leb lo x && leb x hi) badFile x y e in
+    let a = passed_on (leb lo x && leb x hi) bad_file x y e in
     let b = both (leb lo x) (leb x hi) a.0 in
     (leb-true lo x b.0, leb-true x hi b.1, a.1)
 
 -- a passed `up_to`: the number is not above the limit
 pub limited : (hi x y : ℕ) → up_to hi x ≡ passed y → (x ≤ hi) × (x ≡ y)
 limited hi x y e =
-    let a = passed_on (leb x hi) badFile x y e in
+    let a = passed_on (leb x hi) bad_file x y e in
     (leb-true x hi a.0, a.1)

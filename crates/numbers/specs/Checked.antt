@@ -1,7 +1,7 @@
 -- How refusals are written. Document 01, "Numbers returned": "Checked in this order; the first that applies is given". A call is a
 -- chain of steps, one a line; the first that refuses gives the number.
 use Rattle.std.specs.Prelude.{ℕ, Bool, true, false, ◌&&◌, leb}
-use Rattle.numbers.specs.Numbers.{badFile}
+use Rattle.numbers.specs.Numbers.{bad_file}
 
 infixl 20 ◌>>=◌ ◌>>◌
 -- a step's answer: refused with a number, or passed with a value [N5]
@@ -30,8 +30,8 @@ between lo hi x = leb lo x && leb x hi
 
 -- the number x if it is one of lo..hi, else it is a bad number [B1, B2]
 abbrev pub within : ℕ → ℕ → ℕ → Checked ℕ
-within lo hi x = require (between lo hi x) badFile >> passed x
+within lo hi x = require (between lo hi x) bad_file >> passed x
 
 -- the number x if it is one of 0..hi, else it is a bad number [B2]
 abbrev pub up_to : ℕ → ℕ → Checked ℕ
-up_to hi x = require (leb x hi) badFile >> passed x
+up_to hi x = require (leb x hi) bad_file >> passed x

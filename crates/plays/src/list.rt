@@ -1,6 +1,6 @@
 // A list as it is written: the parameters, and the lines that follow.
 ghost use Rattle.std.specs.Prelude.{◌≡◌, true, ◌≤◌, ◌<◌, length};
-ghost use Rattle.drum.specs.Params.{goodParams};
+ghost use Rattle.drum.specs.Params.{good_params};
 
 use super::deeds::{Deed, Line, play};
 use drum::Description;
@@ -146,7 +146,7 @@ fn play_lines(
 
 // The lines of a list over a file of zeros of at most 8,192 words.
 fn play_with(p: Description, text: &[u8])
-    requires { goodParams p ≡ true }
+    requires { good_params p ≡ true }
 {
     let mut file = [0u32; 8192];
     let mut buffer = [0u32; 4096];

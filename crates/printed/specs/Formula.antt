@@ -6,12 +6,12 @@ use Rattle.drum.specs.Params.{FD, FI}
 use Rattle.rules.specs.declared.Call.TheVariants.{Create, Open}
 use Rattle.rules.specs.Run.{begun}
 use Rattle.rules.specs.Requests.{left}
-use Rattle.demands.specs.Formula.{hD, hI, S, s, X, x, allTransfers}
+use Rattle.demands.specs.Formula.{h_d, h_i, S, s, X, x, all_transfers}
 use Rattle.demands.specs.Lines.{NoCreate}
-use Rattle.lines.specs.Lines.{parameters, parse, aCall, words_of, lines_of}
+use Rattle.lines.specs.Lines.{parameters, parse, a_call, words_of, lines_of}
 use Rattle.printed.specs.declared.Start.TheVariants.{Good}
 use Rattle.printed.specs.Output.{start_of, output}
-use Rattle.printed.specs.Rows.{Asked, asked, endText, results, leaves, requests, resultTexts, Row, rows, row_of, counts, shares, M}
+use Rattle.printed.specs.Rows.{Asked, asked, end_text, results, leaves, requests, result_texts, Row, rows, row_of, counts, shares, M}
 
 -- an input: a first line with good parameters of a file not "above 8,192 words", and the lines ls behind it
 pub record Input (input : List ℕ) (p : Description) (ls : List (List ℕ)) : Type 0 where
@@ -23,7 +23,7 @@ pub record Input (input : List ℕ) (p : Description) (ls : List (List ℕ)) : T
 abbrev pub PrintsResults : Type 0
 PrintsResults =
     (input : List ℕ) (p : Description) (ls : List (List ℕ)) → Input input p ls
-    → output input ≡ resultTexts (results (begun p) (asked p ls)) ++ endText p ls
+    → output input ≡ result_texts (results (begun p) (asked p ls)) ++ end_text p ls
 
 -- CREATE and then OPEN, by themselves on their lines
 abbrev pub making : List Asked
@@ -34,8 +34,8 @@ pub record SessionInput (input : List ℕ) (p : Description) (ls : List (List �
   pub creating : List ℕ
   pub opening : List ℕ
   pub given : Input input p (creating ∷ (opening ∷ ls))
-  pub creates : parse p creating ≡ aCall Create []
-  pub opens : parse p opening ≡ aCall Open []
+  pub creates : parse p creating ≡ a_call Create []
+  pub opens : parse p opening ≡ a_call Open []
   pub others : NoCreate (map (λ (a : Asked). a.call) (asked p ls))
 
 -- the printed bytes, read back, are the results of these calls
@@ -47,9 +47,9 @@ PrintsRows =
 -- "hD·S ≤ M, FD-as-X ≤ M, hI·s ≤ S+X, FI·x ≤ S+X, and the sum of transfers is at most 3·(SEEK+UPDAT+NSERT) + 5·ADV + 6·DLETE + 4·XTEND + CLOSE
 -- + 4·(S+X) + s + x", with 6 for XTEND's 4 [E6]: with M, the sum and the calls as the rows have them
 pub record KeepsFormula (p : Description) (printed : List Row) (S s X x : ℕ) : Type 0 where
-  pub splits : hD p * S ≤ M printed
+  pub splits : h_d p * S ≤ M printed
   pub starts : FD p * X ≤ M printed
-  pub index-splits : hI p * s ≤ S + X
+  pub index-splits : h_i p * s ≤ S + X
   pub index-starts : FI p * x ≤ S + X
   pub transfers : counts printed ≤ shares printed + 4 * (S + X) + s + x
 
@@ -60,4 +60,4 @@ PrintedFormula =
     → let st = leaves (begun p) making in
     let qs = requests st (asked p ls) in
     let printed = rows (output input) in
-    (leaves st (asked p ls) ≡ left st qs) × (counts printed ≡ allTransfers st qs) × KeepsFormula p printed (S st qs) (s st qs) (X st qs) (x st qs)
+    (leaves st (asked p ls) ≡ left st qs) × (counts printed ≡ all_transfers st qs) × KeepsFormula p printed (S st qs) (s st qs) (X st qs) (x st qs)

@@ -3,12 +3,12 @@
 ghost use Rattle.std.specs.Prelude.{◌≡◌, ◌+◌, ◌*◌, ◌≤◌, length};
 ghost use Rattle.std.proofs.Math.Option.{none};
 ghost use Rattle.words.specs.Words.{part, put};
-ghost use Rattle.rules.specs.Run.{shows as showsWork};
+ghost use Rattle.rules.specs.Run.{shows as shows_work};
 ghost use Rattle.searchfile.specs.Promise.{given};
 ghost use Rattle.lines.specs.Lines.{named};
-ghost use Rattle.lines.specs.Reading.{call_of, parsedAs, parametersIn};
-ghost use Rattle.printed.specs.Output.{startWith, start_of, startText, played, refusal};
-ghost use Rattle.printed.specs.Promise.{toldLine, shown, shownAt, said, saidAt};
+ghost use Rattle.lines.specs.Reading.{call_of, parsed_as, parameters_in};
+ghost use Rattle.printed.specs.Output.{start_with, start_of, start_text, played, refusal};
+ghost use Rattle.printed.specs.Promise.{told_line, shown, shown_at, said, said_at};
 ghost use Rattle.words.specs.Slices.{was, became};
 
 use drum::Description;
@@ -42,7 +42,7 @@ pub struct Turn {
 }
 
 fn start_with(p: Description) -> Start
-    ensures { result ≡ startWith p }
+    ensures { result ≡ start_with p }
 {
     if !p.is_good() {
         return Start::OutOfRange;
@@ -56,7 +56,7 @@ fn start_with(p: Description) -> Start
 // The first line, of what was kept of it.
 pub fn start_of(r: Reading, numbers: &[u32]) -> Start
     requires { 6 ≤ length numbers.now }
-    ensures { result ≡ start_of (parametersIn r (was numbers)) }
+    ensures { result ≡ start_of (parameters_in r (was numbers)) }
 {
     let given = lines::parameters_of(r, numbers);
     match given {
@@ -68,7 +68,7 @@ pub fn start_of(r: Reading, numbers: &[u32]) -> Start
 // What the first line prints.
 pub fn put_start(start: Start, out: &mut [u8], at: usize) -> usize
     requires { at + 16 ≤ length out.old }
-    ensures { (became out ≡ put (was out) at (startText start)) × (result ≡ at + length (startText start)) × (result ≤ at + 16) }
+    ensures { (became out ≡ put (was out) at (start_text start)) × (result ≡ at + length (start_text start)) × (result ≤ at + 16) }
 {
     match start {
         Start::BadLine => texts::put_bytes(out, at, b"BAD LINE\n"),
@@ -81,7 +81,7 @@ pub fn put_start(start: Start, out: &mut [u8], at: usize) -> usize
 // A line that ends the program.
 fn bad_line(out: &mut [u8], at: usize) -> Told
     requires { at + 16 ≤ length out.old }
-    ensures out_value { said result (became out) ≡ saidAt (was out) at (refusal none) }
+    ensures out_value { said result (became out) ≡ said_at (was out) at (refusal none) }
     ensures at_bound { result.at ≤ at + 16 }
 {
     let end = texts::put_bytes(out, at, b"BAD LINE\n");
@@ -94,7 +94,7 @@ fn bad_line(out: &mut [u8], at: usize) -> Told
 // A line with parameters out of range, of what was kept of it.
 pub fn refuse_line(r: Reading, name: &[u8], out: &mut [u8], at: usize) -> Told
     requires { at + 16 ≤ length out.old }
-    ensures out_value { said result (became out) ≡ saidAt (was out) at (refusal (named (part 0 r.spelled (was name)))) }
+    ensures out_value { said result (became out) ≡ said_at (was out) at (refusal (named (part 0 r.spelled (was name)))) }
     ensures at_bound { result.at ≤ at + 16 }
 {
     let kind = lines::call_named(name, r.spelled);
@@ -112,7 +112,7 @@ pub fn refuse_line(r: Reading, name: &[u8], out: &mut [u8], at: usize) -> Told
 
 // Whether the workspace is printed: "for SEEK and ADV answering 0 or 030002".
 fn shows(call: Call, number: u32) -> bool
-    ensures { result ≡ showsWork call number }
+    ensures { result ≡ shows_work call number }
 {
     match call {
         Call::Create => false,
@@ -130,8 +130,8 @@ fn shows(call: Call, number: u32) -> bool
 // The line of a call that was performed.
 fn tell(call: Call, number: u32, transfers: usize, work: &[u32], out: &mut [u8], at: usize) -> usize
     requires { at + 35 + 21 * length work.now ≤ length out.old }
-    ensures { (became out ≡ put (was out) at (toldLine call number transfers (was work)))
-        × (result ≡ at + length (toldLine call number transfers (was work)))
+    ensures { (became out ≡ put (was out) at (told_line call number transfers (was work)))
+        × (result ≡ at + length (told_line call number transfers (was work)))
         × (result ≤ at + 35 + 21 * length (was work)) }
 {
     if shows(call, number) {
@@ -160,8 +160,8 @@ pub fn call_line(
         × (length marks.old ≡ s.desc.n)
         × (at + 35 + 21 * length work.old ≤ length out.old) }
     ensures out_value { shown result (became file) (became buffer) (became work) (became out)
-        ≡ shownAt (was out) at
-        (played (given s (was file) (was buffer) (was work)) (parsedAs s.desc (call_of s.desc r (was name)) (was numbers))) }
+        ≡ shown_at (was out) at
+        (played (given s (was file) (was buffer) (was work)) (parsed_as s.desc (call_of s.desc r (was name)) (was numbers))) }
     ensures desc_value { (result.session.desc ≡ s.desc) × (result.at ≤ at + 35 + 21 * length (was work)) }
 {
     let parsed = lines::call_of(s.desc, r, name);

@@ -9,11 +9,11 @@ use borrow.Author.Tests.{eq-eqb, eqb-true}
 use lib.Dec.{eqb}
 use lib.ListN.{length}
 use Rattle.numbers.specs.Checked.{Checked, passed, refused, ◌>>=◌, ◌>>◌, require}
-use Rattle.numbers.specs.Numbers.{wrongSize, badFile}
+use Rattle.numbers.specs.Numbers.{wrong_size, bad_file}
 use Rattle.numbers.proofs.Passed.{Passed, chain, by-refused, by-bind, by-passed}
 use Rattle.drum.specs.Params.{sized}
 use Rattle.drum.specs.Blocks.{Texts, Transfer, Read, written, writes}
-use Rattle.layout.specs.Inspect.{layoutMarks}
+use Rattle.layout.specs.Inspect.{layout_marks}
 use Rattle.rules.specs.declared.Path.{Path}
 use Rattle.rules.specs.declared.Way.{Way}
 use Rattle.rules.specs.declared.Way.TheVariants.{Here, By}
@@ -21,18 +21,18 @@ use Rattle.rules.specs.declared.Look.{Look}
 use Rattle.rules.specs.declared.Look.TheVariants as look_is
 use Rattle.rules.specs.declared.Step.{Step}
 use Rattle.rules.specs.declared.Step.TheVariants as step_is
-use Rattle.rules.specs.State.{State, Outcome, Effect, desc, texts, keyIn, positionKey, lent, atRest, holding, positioned, outcome, unchanged, settle}
-use Rattle.rules.specs.Checks.{sizesOk, workOk, isOpen, keyOk}
-use Rattle.rules.specs.Lookup.{look, flushMoves, bringing, reached, stopping}
+use Rattle.rules.specs.State.{State, Outcome, Effect, desc, texts, key_in, position_key, lent, at_rest, holding, positioned, outcome, unchanged, settle}
+use Rattle.rules.specs.Checks.{sizes_ok, work_ok, is_open, key_ok}
+use Rattle.rules.specs.Lookup.{look, flush_moves, bringing, reached, stopping}
 use Rattle.rules.specs.Fits.{PathFits}
-use Rattle.rules.specs.Seek.{seek, seekDone, seekSteps, giving}
-use Rattle.rules.specs.Adv.{adv, nextPath, advBeyond, advAt, advOutside, advGiving, advReads, advDone, advStep, advSteps}
-use Rattle.rules.specs.Open.{openFile, openDone, openChecks, openLayout}
-use Rattle.rules.specs.Close.{close, closeChecks, closeDone}
+use Rattle.rules.specs.Seek.{seek, seek_done, seek_steps, giving}
+use Rattle.rules.specs.Adv.{adv, next_path, adv_beyond, adv_at, adv_outside, adv_giving, adv_reads, adv_done, adv_step, adv_steps}
+use Rattle.rules.specs.Open.{open_file, open_done, open_checks, open_layout}
+use Rattle.rules.specs.Close.{close, close_checks, close_done}
 use Rattle.rules.proofs.Fits.{covering-fits, next-passed}
 use Rattle.reading.specs.declared.ReadingSession.{ReadingSession}
-use Rattle.reading.specs.Finished.{finished, finishedMarks}
-use Rattle.reading.specs.Reading.{asSession, given, oneSection, profile, altering, readOpen, readOpenDone, readSeek, readAdv, readClose, readAlter}
+use Rattle.reading.specs.Finished.{finished, finished_marks}
+use Rattle.reading.specs.Reading.{as_session, given, one_section, profile, altering, read_open, read_open_done, read_seek, read_adv, read_close, read_alter}
 use Rattle.reading.specs.Claims.{ReadingIsRules, SeekTwo, AdvThree, Unwritten, FileKept, Refused020010}
 use Rattle.reading.proofs.Kept.{Kept, seek-kept, adv-kept}
 use Rattle.reading.proofs.Profile.{profile-is}
@@ -45,19 +45,19 @@ Two e = (length e.transfers ≡ 0) ⊎ (length e.transfers ≡ 2)
 
 module _ (v : Texts) where
   way-two : (way : Way) → (length (reached v false way).moves ≡ 0) ⊎ (length (reached v false way).moves ≡ 2)
-  unfolding reached bringing flushMoves
+  unfolding reached bringing flush_moves
   way-two Here = inl refl
   way-two (By w) = inr refl
 
-  seek-done-two : (work : List ℕ) (l : Look) → Passed Two (seekDone v false work l)
-  unfolding seekDone stopping giving
+  seek-done-two : (work : List ℕ) (l : Look) → Passed Two (seek_done v false work l)
+  unfolding seek_done stopping giving
   seek-done-two work look_is.Bad = by-refused _
   seek-done-two work (look_is.Found way i) = by-passed _ (way-two way)
   seek-done-two work (look_is.Missing w) = by-passed _ (way-two (By w))
 
-  seek-two-steps : (work : List ℕ) → Passed Two (seekSteps v false work)
-  unfolding seekSteps
-  seek-two-steps work = by-bind (look v false (keyIn v.desc work)) (seekDone v false work) (λ l e. seek-done-two work l)
+  seek-two-steps : (work : List ℕ) → Passed Two (seek_steps v false work)
+  unfolding seek_steps
+  seek-two-steps work = by-bind (look v false (key_in v.desc work)) (seek_done v false work) (λ l e. seek-done-two work l)
 
   -- ADV: with one section the next detail block is in the section of the first path
   abbrev Same : Step → Type 0
@@ -66,41 +66,41 @@ module _ (v : Texts) where
   Same (step_is.Beyond w x i) = x.section ≡ w.section
 
   module _ (one : v.desc.control ≡ 1) (at : List ℕ) where
-    same-section : (w x : Path) (i : ℕ) → PathFits v w → nextPath v w ≡ passed x → Same (step_is.Beyond w x i)
+    same-section : (w x : Path) (i : ℕ) → PathFits v w → next_path v w ≡ passed x → Same (step_is.Beyond w x i)
     same-section w x i fits e =
         let next = (next-passed v w).holds x e in
         omega (arith, one, fits.section-below, fits.sections-most, next.section-below)
 
-    outside-same : (placed : Bool) → Passed Same (advOutside v false placed at)
-    unfolding advOutside advAt advBeyond
+    outside-same : (placed : Bool) → Passed Same (adv_outside v false placed at)
+    unfolding adv_outside adv_at adv_beyond
     outside-same placed = search (chain, same-section, covering-fits v false at) depth 14
 
-    step_same : (placed : Bool) → Passed Same (advStep v false placed at)
-    unfolding advStep
+    step_same : (placed : Bool) → Passed Same (adv_step v false placed at)
+    unfolding adv_step
     step_same false = outside-same false
     step_same true = search (chain, outside-same)
 
   way-three : (way : Way) → length (reached v false way).moves ≤ 3
-  unfolding reached bringing flushMoves
+  unfolding reached bringing flush_moves
   way-three Here = omega arith
   way-three (By w) = omega arith
 
-  beyond-three : (w x : Path) → x.section ≡ w.section → length (bringing v false x.detail (advReads w x)).moves ≤ 3
-  unfolding bringing flushMoves advReads
+  beyond-three : (w x : Path) → x.section ≡ w.section → length (bringing v false x.detail (adv_reads w x)).moves ≤ 3
+  unfolding bringing flush_moves adv_reads
   beyond-three w x e = simp (eq-eqb _ _ e) (omega arith)
 
   abbrev Three : Effect → Type 0
   Three e = length e.transfers ≤ 3
 
-  adv-done-three : (s : Step) → Same s → Passed Three (advDone v false s)
-  unfolding advDone advGiving giving
+  adv-done-three : (s : Step) → Same s → Passed Three (adv_done v false s)
+  unfolding adv_done adv_giving giving
   adv-done-three step_is.Bad h = by-refused _
   adv-done-three (step_is.At way i) h = by-passed _ (way-three way)
   adv-done-three (step_is.Beyond w x i) h = by-passed _ (beyond-three w x h)
 
-  adv-three-steps : v.desc.control ≡ 1 → (placed : Bool) (at : List ℕ) → Passed Three (advSteps v false placed at)
-  unfolding advSteps
-  adv-three-steps one placed at = by-bind (advStep v false placed at) (advDone v false) (λ s e. adv-done-three s ((step_same one at placed).holds s e))
+  adv-three-steps : v.desc.control ≡ 1 → (placed : Bool) (at : List ℕ) → Passed Three (adv_steps v false placed at)
+  unfolding adv_steps
+  adv-three-steps one placed at = by-bind (adv_step v false placed at) (adv_done v false) (λ s e. adv-done-three s ((step_same one at placed).holds s e))
 
 -- a call is its refusals, which move nothing, and then its steps
 module _ (P : Outcome → Type 0) (st : State) (none : (n : ℕ) → P (unchanged st n)) where
@@ -109,13 +109,13 @@ module _ (P : Outcome → Type 0) (st : State) (none : (n : ℕ) → P (unchange
   settled (refused n) h = none n
   settled (passed e) h = h.holds e refl
 
-  profiled : (call : State → Outcome) → (oneSection (desc st) ≡ true → P (call st)) → P (profile call st)
+  profiled : (call : State → Outcome) → (one_section (desc st) ≡ true → P (call st)) → P (profile call st)
   unfolding profile
-  profiled call h = go (oneSection (desc st)) refl
+  profiled call h = go (one_section (desc st)) refl
     where
-      go : (t : Bool) → oneSection (desc st) ≡ t → P (cond t (call st) (unchanged st wrongSize))
+      go : (t : Bool) → one_section (desc st) ≡ t → P (cond t (call st) (unchanged st wrong_size))
       go true e = h e
-      go false e = none wrongSize
+      go false e = none wrong_size
 
 pub seek-two : SeekTwo
 unfolding seek outcome
@@ -138,18 +138,18 @@ unwritten-none : (s : ReadingSession) (f b w : List ℕ) (n : ℕ) → Unwritten
 unfolding writes
 unwritten-none s f b w n = record { file = refl; off = refl; reads = λ c. refl }
 
-kept-outcome : (s : ReadingSession) (f b w : List ℕ) (e : Effect) → Kept (texts (given s f b w)) e → Unwritten (given s f b w) (outcome (asSession s) e)
+kept-outcome : (s : ReadingSession) (f b w : List ℕ) (e : Effect) → Kept (texts (given s f b w)) e → Unwritten (given s f b w) (outcome (as_session s) e)
 unfolding outcome holding positioned
 kept-outcome s f b w e k = record { file = k.same; off = go e.keyed; reads = k.reads }
   where
     go : (t : Bool)
-        → (cond t (positioned (keyIn s.desc e.work) (holding e.current e.flag (asSession s))) (holding e.current e.flag (asSession s))).flag
+        → (cond t (positioned (key_in s.desc e.work) (holding e.current e.flag (as_session s))) (holding e.current e.flag (as_session s))).flag
         ≡ false
     go true = k.off
     go false = k.off
 
 kept-outcomes : (s : ReadingSession) (f b w : List ℕ) (c : Checked Effect) → Passed (Kept (texts (given s f b w))) c
-    → Passed (λ e. Unwritten (given s f b w) (outcome (asSession s) e)) c
+    → Passed (λ e. Unwritten (given s f b w) (outcome (as_session s) e)) c
 kept-outcomes s f b w c h = record { holds = λ e q. kept-outcome s f b w e (h.holds e q) }
 
 call_kept : (s : ReadingSession) (f b w : List ℕ) (c : Checked Effect) → Passed (Kept (texts (given s f b w))) c
@@ -168,30 +168,30 @@ alters-kept : (s : ReadingSession) (f b w : List ℕ) → Unwritten (given s f b
 unfolding altering
 alters-kept s f b w = call_kept s f b w _ (search chain depth 9)
 
-closed-kept : (s : ReadingSession) (f b w : List ℕ) (x : Bool) → Unwritten (given s f b w) (closeDone (given s f b w) (passed x))
-unfolding closeDone flushMoves written writes atRest
+closed-kept : (s : ReadingSession) (f b w : List ℕ) (x : Bool) → Unwritten (given s f b w) (close_done (given s f b w) (passed x))
+unfolding close_done flush_moves written writes at_rest
 closed-kept s f b w x = record { file = refl; off = refl; reads = λ c. refl }
 
 closes_kept : (s : ReadingSession) (f b w : List ℕ) → Unwritten (given s f b w) (close (given s f b w))
-unfolding close closeDone
-closes_kept s f b w = go (closeChecks (given s f b w))
+unfolding close close_done
+closes_kept s f b w = go (close_checks (given s f b w))
   where
-    go : (c : Checked Bool) → Unwritten (given s f b w) (closeDone (given s f b w) c)
+    go : (c : Checked Bool) → Unwritten (given s f b w) (close_done (given s f b w) c)
     go (refused n) = unwritten-none s f b w n
     go (passed x) = closed-kept s f b w x
 
-layout-kept : (s : ReadingSession) (f b w : List ℕ) (c : Checked (List ℕ)) → Unwritten (given s f b w) (openLayout (given s f b w) c).outcome
-unfolding openLayout atRest writes
+layout-kept : (s : ReadingSession) (f b w : List ℕ) (c : Checked (List ℕ)) → Unwritten (given s f b w) (open_layout (given s f b w) c).outcome
+unfolding open_layout at_rest writes
 layout-kept s f b w (refused n) = unwritten-none s f b w n
 layout-kept s f b w (passed m) = record { file = refl; off = refl; reads = λ c. refl }
 
-opens_kept : (s : ReadingSession) (f b w marks : List ℕ) → Unwritten (given s f b w) (readOpen (given s f b w) marks).outcome
-unfolding readOpen readOpenDone
-opens_kept s f b w marks = go (require (oneSection s.desc) _ >> openChecks (given s f b w) marks)
+opens_kept : (s : ReadingSession) (f b w marks : List ℕ) → Unwritten (given s f b w) (read_open (given s f b w) marks).outcome
+unfolding read_open read_open_done
+opens_kept s f b w marks = go (require (one_section s.desc) _ >> open_checks (given s f b w) marks)
   where
-    go : (c : Checked Bool) → Unwritten (given s f b w) (readOpenDone (given s f b w) marks c).outcome
+    go : (c : Checked Bool) → Unwritten (given s f b w) (read_open_done (given s f b w) marks c).outcome
     go (refused n) = unwritten-none s f b w n
-    go (passed x) = layout-kept s f b w (finishedMarks s.desc f)
+    go (passed x) = layout-kept s f b w (finished_marks s.desc f)
 
 pub file-kept : FileKept
 file-kept =
@@ -208,22 +208,22 @@ file-kept =
 
 -- ---- the calls are the rules'
 
-finished-same : (s : ReadingSession) (f : List ℕ) → finished s.desc f ≡ true → finishedMarks s.desc f ≡ layoutMarks s.desc f
-unfolding finishedMarks
-finished-same s f e = go (layoutMarks s.desc f)
+finished-same : (s : ReadingSession) (f : List ℕ) → finished s.desc f ≡ true → finished_marks s.desc f ≡ layout_marks s.desc f
+unfolding finished_marks
+finished-same s f e = go (layout_marks s.desc f)
   where
-    go : (c : Checked (List ℕ)) → (c >>= (λ marks. require (finished s.desc f) badFile >> passed marks)) ≡ c
+    go : (c : Checked (List ℕ)) → (c >>= (λ marks. require (finished s.desc f) bad_file >> passed marks)) ≡ c
     go (refused n) = refl
     go (passed m) = simp e
 
 opens-same : (s : ReadingSession) (f b w marks : List ℕ) → s.desc.control ≡ 1 → finished s.desc f ≡ true
-    → readOpen (given s f b w) marks ≡ openFile (given s f b w) marks
-unfolding readOpen readOpenDone openFile openDone
-opens-same s f b w marks one e = simp (eq-eqb _ _ one) (go (openChecks (given s f b w) marks))
+    → read_open (given s f b w) marks ≡ open_file (given s f b w) marks
+unfolding read_open read_open_done open_file open_done
+opens-same s f b w marks one e = simp (eq-eqb _ _ one) (go (open_checks (given s f b w) marks))
   where
-    go : (c : Checked Bool) → readOpenDone (given s f b w) marks c ≡ openDone (given s f b w) marks c
+    go : (c : Checked Bool) → read_open_done (given s f b w) marks c ≡ open_done (given s f b w) marks c
     go (refused n) = refl
-    go (passed x) = ap (openLayout (given s f b w)) (finished-same s f e)
+    go (passed x) = ap (open_layout (given s f b w)) (finished-same s f e)
 
 pub reading-is-rules : (s : ReadingSession) (one : s.desc.control ≡ 1) → ReadingIsRules s one
 reading-is-rules s one = record {
@@ -235,6 +235,6 @@ reading-is-rules s one = record {
 }
 
 pub refused-020010 : Refused020010
-unfolding altering sizesOk workOk isOpen settle
+unfolding altering sizes_ok work_ok is_open settle
 refused-020010 s f b w one fit long o =
     profile-is altering (given s f b w) (eq-eqb _ _ one) ∙ simp (fit, eq-eqb _ _ long, o)

@@ -6,7 +6,7 @@ use Rattle.drum.specs.Parts.{part_of}
 use Rattle.rules.specs.State.{Outcome}
 use Rattle.face.specs.Counted.{counted}
 use Rattle.reading.specs.declared.Answer.{Answer}
-use Rattle.reading.specs.Reading.{answered, answeredOpen}
+use Rattle.reading.specs.Reading.{answered, answered_open}
 use Rattle.reading.specs.OneResult.{OneReading}
 
 one_answer : (o : Outcome) (r s : Answer) (f g b d w u : List ℕ) → answered r f b w ≡ counted o → answered s g d u ≡ counted o
@@ -33,7 +33,7 @@ pub one-reading : OneReading
 one-reading = record {
   answers = one_answer;
   opens = λ o r s f g b d m n x y.
-      let e : answeredOpen r f b m ≡ answeredOpen s g d n = x ∙ sym y in
+      let e : answered_open r f b m ≡ answered_open s g d n = x ∙ sym y in
       let a = one_answer o.outcome r s f g b d [] [] (λ i. (x i).outcome) (λ i. (y i).outcome) in
       (a.0, a.1, a.2, λ i. (e i).marks);
   views = λ s file buffer b one other x y. let e : part_of one ≡ part_of other = x ∙ sym y in (λ i. (e i).address, λ i. (e i).words);

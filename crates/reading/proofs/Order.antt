@@ -10,7 +10,7 @@ use lib.Dec.{eqb}
 use lib.ListN.{length, get_or}
 use mir.Syntax.{w64}
 use mir.Val.{Fits}
-use Rattle.numbers.specs.Numbers.{badFile}
+use Rattle.numbers.specs.Numbers.{bad_file}
 use Rattle.numbers.specs.Checked.{Checked, passed, refused, ◌>>=◌, ◌>>◌, require}
 use Rattle.words.specs.Words.{zeros}
 use Rattle.words.proofs.Parts.{get_d_part}
@@ -18,58 +18,58 @@ use Rattle.table.specs.declared.Shape.{Shape}
 use Rattle.table.specs.Tables.{count}
 use Rattle.table.proofs.Places.{row-le}
 use Rattle.drum.specs.declared.Description.{Description}
-use Rattle.drum.specs.Params.{I, FD, start, index_shape, detailShape}
-use Rattle.drum.specs.Blocks.{chainHead, sections, block_at, Block}
+use Rattle.drum.specs.Params.{I, FD, start, index_shape, detail_shape}
+use Rattle.drum.specs.Blocks.{chain_head, sections, block_at, Block}
 use Rattle.drum.proofs.Good.{caps}
-use Rattle.layout.specs.Inspect.{named, layoutMarks}
-use Rattle.layout.specs.Inspected.{Fit, flagged, leftMarks}
+use Rattle.layout.specs.Inspect.{named, layout_marks}
+use Rattle.layout.specs.Inspected.{Fit, flagged, left_marks}
 use Rattle.layout.proofs.CodeFlags.{halted, moved}
 use Rattle.layout.proofs.CodeSizes.{start-inside, row_inside, file-short, file-long}
 use Rattle.layout.proofs.Read.{LeavesAt, SectionFacts, Sections, entries_at}
 use Rattle.layout.proofs.Found.{layout-facts}
-use Rattle.reading.specs.Finished.{holdsFD, entryOk, inOrder, finished, finishedMarks}
+use Rattle.reading.specs.Finished.{holds_fd, entry_ok, in_order, finished, finished_marks}
 use Rattle.reading.specs.Fits.{NamesBlocks, Inspected}
 
 -- ---- a block's count
 
-pub last-holds : (p : Description) (f : List ℕ) (b behind : ℕ) → behind ≡ 0 → true ≡ holdsFD p f b behind
-unfolding holdsFD
+pub last-holds : (p : Description) (f : List ℕ) (b behind : ℕ) → behind ≡ 0 → true ≡ holds_fd p f b behind
+unfolding holds_fd
 last-holds p f b behind e = simp (eq-eqb _ _ e)
 
-pub other-holds : (p : Description) (f t : List ℕ) (b behind n m : ℕ) → n ≡ count (detailShape p) t → t ≡ block_at p f b → m ≡ FD p → (behind ≡ 0 → ⊥)
-    → eqb n m ≡ holdsFD p f b behind
-unfolding holdsFD
+pub other-holds : (p : Description) (f t : List ℕ) (b behind n m : ℕ) → n ≡ count (detail_shape p) t → t ≡ block_at p f b → m ≡ FD p → (behind ≡ 0 → ⊥)
+    → eqb n m ≡ holds_fd p f b behind
+unfolding holds_fd
 other-holds p f t b behind n m en et em z = simp (ne_eqb _ _ z, en, et, em)
 
 -- ---- the entries, one by one: what is left tells what all tell
 
 order-step : (p : Description) (f : List ℕ) (at b left : ℕ) → 0 < left
-    → inOrder p f at b left ≡ (entryOk p f at b (left - 1) && inOrder p f (at + (p.k + 1)) (b + 1) (left - 1))
-unfolding inOrder
+    → in_order p f at b left ≡ (entry_ok p f at b (left - 1) && in_order p f (at + (p.k + 1)) (b + 1) (left - 1))
+unfolding in_order
 order-step p f at b zero h = absurd (not-suc-le-zero h)
 order-step p f at b (suc n) h =
-    ap (λ (m : ℕ). entryOk p f at b m && inOrder p f (at + (p.k + 1)) (b + 1) m) (let d : n ≡ suc n - 1 = omega arith in d)
+    ap (λ (m : ℕ). entry_ok p f at b m && in_order p f (at + (p.k + 1)) (b + 1) m) (let d : n ≡ suc n - 1 = omega arith in d)
 
-module _ (p : Description) (f : List ℕ) (at b left : ℕ) (whole : Bool) (q : whole ≡ inOrder p f at b left) where
+module _ (p : Description) (f : List ℕ) (at b left : ℕ) (whole : Bool) (q : whole ≡ in_order p f at b left) where
   pub order-done : left ≤ 0 → true ≡ whole
-  unfolding inOrder
-  order-done h = sym (q ∙ ap (inOrder p f at b) (let z : left ≡ 0 = omega arith in z))
+  unfolding in_order
+  order-done h = sym (q ∙ ap (in_order p f at b) (let z : left ≡ 0 = omega arith in z))
 
-  module _ (t : Bool) (h : t ≡ entryOk p f at b (left - 1)) (some : 0 < left) where
+  module _ (t : Bool) (h : t ≡ entry_ok p f at b (left - 1)) (some : 0 < left) where
     pub order-stop : not t ≡ true → false ≡ whole
     order-stop n = sym (q ∙ order-step p f at b left some ∙ simp (sym h ∙ not-true t n))
 
-    pub order-next : not t ≡ false → whole ≡ inOrder p f (at + (p.k + 1)) (b + 1) (left - 1)
+    pub order-next : not t ≡ false → whole ≡ in_order p f (at + (p.k + 1)) (b + 1) (left - 1)
     order-next n = q ∙ order-step p f at b left some ∙ simp (sym h ∙ not-false t n)
 
 -- one entry: m is the block that it names
 module _ (p : Description) (f : List ℕ) (e b behind m : ℕ) (em : m ≡ named p f e) where
-  pub other_block : (m ≡ b → ⊥) → false ≡ entryOk p f e b behind
-  unfolding entryOk
+  pub other_block : (m ≡ b → ⊥) → false ≡ entry_ok p f e b behind
+  unfolding entry_ok
   other_block n = simp (ap (λ (z : ℕ). eqb z b) (sym em) ∙ ne_eqb m b n)
 
-  pub this-block : (t : Bool) → t ≡ holdsFD p f b behind → m ≡ b → t ≡ entryOk p f e b behind
-  unfolding entryOk
+  pub this-block : (t : Bool) → t ≡ holds_fd p f b behind → m ≡ b → t ≡ entry_ok p f e b behind
+  unfolding entry_ok
   this-block t h y = simp (ap (λ (z : ℕ). eqb z b) (sym em) ∙ eq-eqb m b y) h
 
   module _ (y : m ≡ b) (h : Block p (named p f e)) where
@@ -131,9 +131,9 @@ count_at p f h b some =
     let e : start p b + 0 ≡ start p b = omega arith in
     ap (λ (x : ℕ). x - h.tag) (get_d_part (start p b) p.wpb 0 f some ∙ ap (λ (a : ℕ). get_or f a 0) e)
 
-pub inspected : (p : Description) (f ms : List ℕ) (r : Bool) → layoutMarks p f ≡ flagged r ms → not r ≡ false → Fit p f → Inspected p f
+pub inspected : (p : Description) (f ms : List ℕ) (r : Bool) → layout_marks p f ≡ flagged r ms → not r ≡ false → Fit p f → Inspected p f
 inspected p f ms r e y w =
-    let z = (layout-facts p f).holds ms (moved r ms (layoutMarks p f) e y) in
+    let z = (layout-facts p f).holds ms (moved r ms (layout_marks p f) e y) in
     let s = first-section p f (sections f) z.control.0 z.tree in
     let wide : 0 < p.wpb = let g = caps p w.good in omega arith in
     let counted : count (index_shape p) (block_at p f 1) ≡ entries_at p f (start p 1) = count_at p f (index_shape p) 1 wide in
@@ -156,11 +156,11 @@ module _ (p : Description) (f : List ℕ) where
     unfolding finished
     elsewhere n = simp (ap (λ (z : ℕ). eqb z 0) (sym ex) ∙ eq-eqb x 0 none, ap (λ (z : ℕ). eqb z 1) (sym ey) ∙ ne_eqb y 1 n)
 
-    pub in-first : y ≡ 1 → (t : List ℕ) (n s : ℕ) (r : Bool) → r ≡ inOrder p f (s + 1) 2 n → n ≡ count (index_shape p) t → t ≡ block_at p f 1 → s ≡ start p 1
+    pub in-first : y ≡ 1 → (t : List ℕ) (n s : ℕ) (r : Bool) → r ≡ in_order p f (s + 1) 2 n → n ≡ count (index_shape p) t → t ≡ block_at p f 1 → s ≡ start p 1
         → r ≡ finished p f
     unfolding finished
     in-first one t n s r er en et es =
-        er ∙ (λ j. inOrder p f (es j + 1) 2 ((en ∙ ap (count (index_shape p)) et) j))
+        er ∙ (λ j. in_order p f (es j + 1) 2 ((en ∙ ap (count (index_shape p)) et) j))
         ∙ sym (simp (ap (λ (z : ℕ). eqb z 0) (sym ex) ∙ eq-eqb x 0 none, ap (λ (z : ℕ). eqb z 1) (sym ey) ∙ eq-eqb y 1 one))
 
   module _ (w : Inspected p f) where
@@ -205,30 +205,30 @@ module _ (p : Description) (f : List ℕ) where
 
 -- ---- the marks
 
-module _ (p : Description) (f ms : List ℕ) (r : Bool) (e : layoutMarks p f ≡ flagged r ms) where
-  pub not-laid : not r ≡ true → finishedMarks p f ≡ refused badFile
-  unfolding finishedMarks
-  not-laid h = simp (halted r ms (layoutMarks p f) e h)
+module _ (p : Description) (f ms : List ℕ) (r : Bool) (e : layout_marks p f ≡ flagged r ms) where
+  pub not-laid : not r ≡ true → finished_marks p f ≡ refused bad_file
+  unfolding finished_marks
+  not-laid h = simp (halted r ms (layout_marks p f) e h)
 
   module _ (h : not r ≡ false) (x : Bool) (ex : x ≡ finished p f) where
-    pub is-laid : x ≡ true → finishedMarks p f ≡ passed ms
-    unfolding finishedMarks
-    is-laid y = simp (moved r ms (layoutMarks p f) e h, sym ex ∙ y)
+    pub is-laid : x ≡ true → finished_marks p f ≡ passed ms
+    unfolding finished_marks
+    is-laid y = simp (moved r ms (layout_marks p f) e h, sym ex ∙ y)
 
-    pub not-finished : x ≡ false → finishedMarks p f ≡ refused badFile
-    unfolding finishedMarks
-    not-finished y = simp (moved r ms (layoutMarks p f) e h, sym ex ∙ y)
+    pub not-finished : x ≡ false → finished_marks p f ≡ refused bad_file
+    unfolding finished_marks
+    not-finished y = simp (moved r ms (layout_marks p f) e h, sym ex ∙ y)
 
     -- the marks left
-    pub marks-kept : x ≡ true → ms ≡ leftMarks p.n (finishedMarks p f)
-    unfolding leftMarks
-    marks-kept y = sym (ap (leftMarks p.n) (is-laid y))
+    pub marks-kept : x ≡ true → ms ≡ left_marks p.n (finished_marks p f)
+    unfolding left_marks
+    marks-kept y = sym (ap (left_marks p.n) (is-laid y))
 
     pub marks-cleared : x ≡ false → (ms' ms₀ : List ℕ) → ms' ≡ zeros (length ms) → length ms ≡ length ms₀ → length ms₀ ≡ p.n
-        → ms' ≡ leftMarks p.n (finishedMarks p f)
-    unfolding leftMarks
-    marks-cleared y ms' ms₀ ez l l₀ = ez ∙ ap zeros (l ∙ l₀) ∙ sym (ap (leftMarks p.n) (not-finished y))
+        → ms' ≡ left_marks p.n (finished_marks p f)
+    unfolding left_marks
+    marks-cleared y ms' ms₀ ez l l₀ = ez ∙ ap zeros (l ∙ l₀) ∙ sym (ap (left_marks p.n) (not-finished y))
 
-  pub marks-none : not r ≡ true → ms ≡ leftMarks p.n (layoutMarks p f) → ms ≡ leftMarks p.n (finishedMarks p f)
-  unfolding leftMarks
-  marks-none h l = l ∙ ap (leftMarks p.n) (halted r ms (layoutMarks p f) e h ∙ sym (not-laid h))
+  pub marks-none : not r ≡ true → ms ≡ left_marks p.n (layout_marks p f) → ms ≡ left_marks p.n (finished_marks p f)
+  unfolding left_marks
+  marks-none h l = l ∙ ap (left_marks p.n) (halted r ms (layout_marks p f) e h ∙ sym (not-laid h))

@@ -5,10 +5,10 @@ use mathlib.Core.List.{List}
 use Prim.Native.Nat.{ℕ, ◌+◌, ◌≤◌}
 use native.Mathlib.Omega.{arith}
 use lib.ListN.{length}
-use Rattle.numbers.specs.Numbers.{notFound}
+use Rattle.numbers.specs.Numbers.{not_found}
 use Rattle.table.specs.Tables.{row}
 use Rattle.drum.specs.declared.Description.{Description}
-use Rattle.drum.specs.Params.{detailShape}
+use Rattle.drum.specs.Params.{detail_shape}
 use Rattle.drum.specs.Blocks.{Texts, seen, text_of, written}
 use Rattle.rules.specs.declared.Path.{Path}
 use Rattle.rules.specs.declared.Way.{Way}
@@ -18,14 +18,14 @@ use Rattle.rules.specs.declared.Look.TheVariants.{Missing}
 use Rattle.rules.specs.declared.Step.{Step}
 use Rattle.rules.specs.declared.Step.TheVariants.{Beyond}
 use Rattle.rules.specs.declared.Done.{Done}
-use Rattle.rules.specs.Lookup.{flushMoves, bringing, reached, stopping}
+use Rattle.rules.specs.Lookup.{flush_moves, bringing, reached, stopping}
 use Rattle.rules.specs.Fits.{WayFits, StepFits}
-use Rattle.rules.specs.Seek.{seekDone}
-use Rattle.rules.specs.Adv.{advReads, advDone, advStep, advSteps}
+use Rattle.rules.specs.Seek.{seek_done}
+use Rattle.rules.specs.Adv.{adv_reads, adv_done, adv_step, adv_steps}
 use Rattle.rules.specs.Told.{gave, told}
 use Rattle.acts.specs.declared.Arrived.{Arrived}
 use Rattle.acts.specs.Reach.{come, came}
-use Rattle.adv.specs.Answers.{asStep, handed}
+use Rattle.adv.specs.Answers.{as_step, handed}
 use Rattle.adv.proofs.Given.{adv-beyond-told}
 use Rattle.adv.proofs.Fits.{step_fits}
 use Rattle.adv.proofs.Steps.{adv-told}
@@ -49,17 +49,17 @@ module _ (p : Description) (cur : ℕ) (f b : List ℕ) where
 
     pub by-come : (t : List ℕ) → t ≡ text_of v w.detail
         → record { file = f; current = w.detail; flag = false; buffer = t; transfers = 2 } ≡ come (reached v false way)
-    unfolding reached bringing flushMoves written
+    unfolding reached bringing flush_moves written
     by-come t et = rw e (λ j. record { file = f; current = w.detail; flag = false; buffer = et j; transfers = 2 })
 
   -- SEEK does not find the key
   pub missing-told : (l : Look) (w : Path) (work : List ℕ) (here : Arrived) (t : List ℕ) → came here f t ≡ come (reached v false (By w)) → l ≡ Missing w
-      → gave (record { number = notFound; transfers = here.transfers; current = here.current; flag = here.flag; keyed = false }) f t work
-      ≡ told v false work (seekDone v false work l)
-  unfolding seekDone stopping
+      → gave (record { number = not_found; transfers = here.transfers; current = here.current; flag = here.flag; keyed = false }) f t work
+      ≡ told v false work (seek_done v false work l)
+  unfolding seek_done stopping
   missing-told l w work here t e el =
       rw el (λ j. record {
-        number = notFound;
+        number = not_found;
         transfers = (e j).transfers;
         current = (e j).current;
         flag = (e j).flag;
@@ -71,22 +71,22 @@ module _ (p : Description) (cur : ℕ) (f b : List ℕ) where
 
   -- ADV brings the next block
   pub beyond-told : (s : Step) (w x : Path) (i n : ℕ) (work given t : List ℕ) (r : Done) → s ≡ Beyond w x i
-      → r ≡ handed p t i (record { transfers = n; current = x.detail; flag = false }) → n ≡ length (advReads w x) → t ≡ text_of v x.detail
-      → given ≡ row (detailShape p) t i → gave r f t given ≡ told v false work (advDone v false s)
-  unfolding flushMoves written
+      → r ≡ handed p t i (record { transfers = n; current = x.detail; flag = false }) → n ≡ length (adv_reads w x) → t ≡ text_of v x.detail
+      → given ≡ row (detail_shape p) t i → gave r f t given ≡ told v false work (adv_done v false s)
+  unfolding flush_moves written
   beyond-told s w x i n work given t r es er en et eg =
       let none : n ≡ 0 + n = omega arith in
       let read = er ∙ ap (λ (m : ℕ). handed p t i (record { transfers = m; current = x.detail; flag = false })) none in
       adv-beyond-told p cur f b false s w x i es 0 n work given f t r refl en refl et read eg
 
   -- ADV's step, planned with the flag that is off
-  module _ (flag placed : Bool) (key : List ℕ) (s : Step) (e : asStep s ≡ advStep v flag placed key) (off : flag ≡ false) where
-    planned : asStep s ≡ advStep v false placed key
-    planned = e ∙ ap (λ (z : Bool). advStep v z placed key) off
+  module _ (flag placed : Bool) (key : List ℕ) (s : Step) (e : as_step s ≡ adv_step v flag placed key) (off : flag ≡ false) where
+    planned : as_step s ≡ adv_step v false placed key
+    planned = e ∙ ap (λ (z : Bool). adv_step v z placed key) off
 
     pub plan-fits : StepFits v false s
     plan-fits = step_fits v false placed key s planned
 
-    pub plan-told : (r : Done) (g t w work : List ℕ) → gave r g t w ≡ told v false work (advDone v false s)
-        → gave r g t w ≡ told v false work (advSteps v false placed key)
+    pub plan-told : (r : Done) (g t w work : List ℕ) → gave r g t w ≡ told v false work (adv_done v false s)
+        → gave r g t w ≡ told v false work (adv_steps v false placed key)
     plan-told r g t w work h = adv-told v false placed key work s r g t w planned h

@@ -9,43 +9,43 @@ use lib.ListN.{length}
 use Rattle.numbers.specs.Checked.{between}
 use Rattle.words.proofs.All.{and_both}
 use Rattle.drum.specs.Params.{sized}
-use Rattle.drum.specs.Parts.{Borrowed, Part, part_of, partText, textPart}
+use Rattle.drum.specs.Parts.{Borrowed, Part, part_of, part_text, text_part}
 use Rattle.drum.specs.Blocks.{Fitting, seen, text_of}
 use Rattle.drum.proofs.Good.{sized-facts}
 use Rattle.rules.specs.State.{lent}
 use Rattle.rules.specs.Close.{view}
 use Rattle.face.specs.Parts.{shown}
 use Rattle.reading.specs.declared.ReadingSession.{ReadingSession}
-use Rattle.reading.specs.Reading.{oneSection, asSession, readShown, readPart}
+use Rattle.reading.specs.Reading.{one_section, as_session, read_shown, read_part}
 use Rattle.reading.proofs.Profile.{fit-one, fit-sized, fit_none}
 
 -- ---- whether a block is shown: t is the test of the sizes
 
-module _ (s : ReadingSession) (file buffer b : ℕ) (t : Bool) (e : t ≡ (oneSection s.desc && sized s.desc file buffer)) where
-  pub shows-sizes : not t ≡ true → false ≡ readShown (asSession s) file buffer b
-  unfolding readShown shown
+module _ (s : ReadingSession) (file buffer b : ℕ) (t : Bool) (e : t ≡ (one_section s.desc && sized s.desc file buffer)) where
+  pub shows-sizes : not t ≡ true → false ≡ read_shown (as_session s) file buffer b
+  unfolding read_shown shown
   shows-sizes h = fit_none s.desc file buffer t e h (λ many. simp many) (λ one no. simp (one, no, and-false))
 
   module _ (h : not t ≡ false) where
-    pub shows-closed : not s.opened ≡ true → false ≡ readShown (asSession s) file buffer b
-    unfolding readShown shown
+    pub shows-closed : not s.opened ≡ true → false ≡ read_shown (as_session s) file buffer b
+    unfolding read_shown shown
     shows-closed o = simp (fit-one s.desc file buffer t e h, not-true s.opened o)
 
-    pub shows-below : not s.opened ≡ false → b < 1 → false ≡ readShown (asSession s) file buffer b
-    unfolding readShown shown
+    pub shows-below : not s.opened ≡ false → b < 1 → false ≡ read_shown (as_session s) file buffer b
+    unfolding read_shown shown
     shows-below o l = simp (fit-one s.desc file buffer t e h, not-false s.opened o, fit-sized s.desc file buffer t e h, lt-leb 1 b l)
 
-    pub shows-last : not s.opened ≡ false → 1 ≤ b → leb b s.desc.n ≡ readShown (asSession s) file buffer b
-    unfolding readShown shown
+    pub shows-last : not s.opened ≡ false → 1 ≤ b → leb b s.desc.n ≡ read_shown (as_session s) file buffer b
+    unfolding read_shown shown
     shows-last o l = simp (fit-one s.desc file buffer t e h, not-false s.opened o, fit-sized s.desc file buffer t e h, le-leb 1 b l)
 
 -- ---- what a block that is shown is: t is the test above
 
-module _ (s : ReadingSession) (f d : List ℕ) (b : ℕ) (t : Bool) (e : t ≡ readShown (asSession s) (length f) (length d) b) (h : not t ≡ false) where
+module _ (s : ReadingSession) (f d : List ℕ) (b : ℕ) (t : Bool) (e : t ≡ read_shown (as_session s) (length f) (length d) b) (h : not t ≡ false) where
   parts : (sized s.desc (length f) (length d) ≡ true) × (between 1 s.desc.n b ≡ true)
-  unfolding readShown shown
+  unfolding read_shown shown
   parts =
-      let z = (and_both (oneSection s.desc) _ (sym e ∙ not-false t h)).1 in
+      let z = (and_both (one_section s.desc) _ (sym e ∙ not-false t h)).1 in
       and_both (sized s.desc (length f) (length d)) (between 1 s.desc.n b) (and_both s.opened _ z).1
 
   pub shown-fitting : Fitting s.desc f d
@@ -67,23 +67,23 @@ module _ (s : ReadingSession) (file buffer : Borrowed) (b : ℕ) where
   -- by the test whether the block is shown
   tested : Bool → Part
   tested t = record {
-    address = cond t (partText s.desc s.current file buffer b) file.ref_ptr;
+    address = cond t (part_text s.desc s.current file buffer b) file.ref_ptr;
     words = cond t (text_of (seen s.desc s.current file.now buffer.now) b) [];
   }
 
-  by-test : (t : Bool) → t ≡ readShown (asSession s) (length file.now) (length buffer.now) b → tested t ≡ readPart (asSession s) file buffer b
-  unfolding tested readShown shown view
+  by-test : (t : Bool) → t ≡ read_shown (as_session s) (length file.now) (length buffer.now) b → tested t ≡ read_part (as_session s) file buffer b
+  unfolding tested read_shown shown view
   by-test t e =
-      let x = shown (asSession s) (length file.now) (length buffer.now) b in
-      let w = both-tests (oneSection s.desc) x (text_of (seen s.desc s.current file.now buffer.now) b) [] in
-      ap tested e ∙ (λ j. record { address = (tested (oneSection s.desc && x)).address; words = w j })
+      let x = shown (as_session s) (length file.now) (length buffer.now) b in
+      let w = both-tests (one_section s.desc) x (text_of (seen s.desc s.current file.now buffer.now) b) [] in
+      ap tested e ∙ (λ j. record { address = (tested (one_section s.desc && x)).address; words = w j })
 
-  pub view-none : (r : Borrowed) (t : Bool) → t ≡ readShown (asSession s) (length file.now) (length buffer.now) b → not t ≡ true → r.ref_ptr ≡ file.ref_ptr
-      → r.now ≡ [] → part_of r ≡ readPart (asSession s) file buffer b
+  pub view-none : (r : Borrowed) (t : Bool) → t ≡ read_shown (as_session s) (length file.now) (length buffer.now) b → not t ≡ true → r.ref_ptr ≡ file.ref_ptr
+      → r.now ≡ [] → part_of r ≡ read_part (as_session s) file buffer b
   unfolding tested
   view-none r t e h a i = (λ j. record { address = a j; words = i j }) ∙ ap tested (sym (not-true t h)) ∙ by-test t e
 
-  pub view-shown : (r : Borrowed) (t : Bool) → part_of r ≡ textPart s.desc s.current file buffer b
-      → t ≡ readShown (asSession s) (length file.now) (length buffer.now) b → not t ≡ false → part_of r ≡ readPart (asSession s) file buffer b
+  pub view-shown : (r : Borrowed) (t : Bool) → part_of r ≡ text_part s.desc s.current file buffer b
+      → t ≡ read_shown (as_session s) (length file.now) (length buffer.now) b → not t ≡ false → part_of r ≡ read_part (as_session s) file buffer b
   unfolding tested
   view-shown r t is e h = is ∙ ap tested (sym (not-false t h)) ∙ by-test t e

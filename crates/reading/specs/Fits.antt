@@ -2,7 +2,7 @@
 use Rattle.std.specs.Prelude.{ℕ, zero, suc, ◌+◌, ◌≤◌, ◌≡◌, true, List, length}
 use Rattle.table.specs.Tables.{count}
 use Rattle.drum.specs.declared.Description.{Description}
-use Rattle.drum.specs.Params.{I, goodParams, fileSize, start, index_shape}
+use Rattle.drum.specs.Params.{I, good_params, file_size, start, index_shape}
 use Rattle.drum.specs.Blocks.{Block, block_at}
 use Rattle.layout.specs.Inspect.{named}
 
@@ -13,7 +13,7 @@ NamesBlocks p f e (suc n) = Block p (named p f e) × NamesBlocks p f (e + (p.k +
 
 -- good parameters and the file's length; and where the master's first entry names block 1, the entries of that name blocks, and are I or fewer
 pub record Inspected (p : Description) (f : List ℕ) : Type 0 where
-  pub good : goodParams p ≡ true
-  pub size : length f ≡ fileSize p
+  pub good : good_params p ≡ true
+  pub size : length f ≡ file_size p
   pub few : named p f 3 ≡ 1 → count (index_shape p) (block_at p f 1) ≤ I p
   pub names : named p f 3 ≡ 1 → NamesBlocks p f (start p 1 + 1) (count (index_shape p) (block_at p f 1))

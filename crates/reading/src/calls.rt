@@ -1,9 +1,9 @@
 // The calls of a reading session. None has a condition on what it is given.
 ghost use Rattle.std.specs.Prelude.{◌≡◌, []};
 ghost use Rattle.drum.specs.Parts.{part_of};
-ghost use Rattle.face.specs.Counted.{counted, countedOpen};
-ghost use Rattle.reading.specs.Reading.{asSession, given, answered, answeredOpen, readOpen, readClose, readSeek, readAdv, readAlter};
-ghost use Rattle.reading.specs.Reading.{readShown, readPart};
+ghost use Rattle.face.specs.Counted.{counted, counted_open};
+ghost use Rattle.reading.specs.Reading.{as_session, given, answered, answered_open, read_open, read_close, read_seek, read_adv, read_alter};
+ghost use Rattle.reading.specs.Reading.{read_shown, read_part};
 ghost use Rattle.words.specs.Slices.{was, became};
 
 use super::{Answer, ReadingSession, finished, is_fitting, steps};
@@ -14,8 +14,8 @@ use rules::Held;
 impl ReadingSession {
     // OPEN: the file is inspected, and every block marked: 1 reached from the master, 0 never used.
     pub fn open(self, file: &[u32], buffer: &[u32], marks: &mut [u8]) -> Answer
-        ensures { answeredOpen result (was file) (was buffer) (became marks)
-            ≡ countedOpen (readOpen (given self (was file) (was buffer) []) (was marks)) }
+        ensures { answered_open result (was file) (was buffer) (became marks)
+            ≡ counted_open (read_open (given self (was file) (was buffer) []) (was marks)) }
     {
         let p = self.desc;
         if !is_fitting(p, file.len(), buffer.len()) {
@@ -40,7 +40,7 @@ impl ReadingSession {
 
     // CLOSE: the session is closed; there is nothing to write.
     pub fn close(self, file: &[u32], buffer: &[u32]) -> Answer
-        ensures { answered result (was file) (was buffer) [] ≡ counted (readClose (given self (was file) (was buffer) [])) }
+        ensures { answered result (was file) (was buffer) [] ≡ counted (read_close (given self (was file) (was buffer) [])) }
     {
         if !is_fitting(self.desc, file.len(), buffer.len()) {
             return self.refused(WRONG_SIZE);
@@ -59,7 +59,7 @@ impl ReadingSession {
     // SEEK: the record with the workspace's key to the workspace.
     pub fn seek(self, file: &[u32], buffer: &mut [u32], work: &mut [u32]) -> Answer
         ensures { answered result (was file) (became buffer) (became work)
-            ≡ counted (readSeek (given self (was file) (was buffer) (was work))) }
+            ≡ counted (read_seek (given self (was file) (was buffer) (was work))) }
     {
         let p = self.desc;
         if p.control != 1 {
@@ -82,7 +82,7 @@ impl ReadingSession {
     // ADV: the record with the least key above position to the workspace.
     pub fn adv(self, file: &[u32], buffer: &mut [u32], work: &mut [u32]) -> Answer
         ensures { answered result (was file) (became buffer) (became work)
-            ≡ counted (readAdv (given self (was file) (was buffer) (was work))) }
+            ≡ counted (read_adv (given self (was file) (was buffer) (was work))) }
     {
         let p = self.desc;
         if p.control != 1 {
@@ -104,7 +104,7 @@ impl ReadingSession {
 
     // Whether VIEW of block b lends a text.
     pub fn shows(self, file: usize, buffer: usize, b: usize) -> bool
-        ensures { result ≡ readShown (asSession self) file buffer b }
+        ensures { result ≡ read_shown (as_session self) file buffer b }
     {
         let p = self.desc;
         if !is_fitting(p, file, buffer) {
@@ -121,7 +121,7 @@ impl ReadingSession {
 
     // VIEW: the current text of block b, a part of the buffer or of the file, or else an empty part.
     pub fn view<'a>(self, file: &'a [u32], buffer: &'a [u32], b: usize) -> &'a [u32]
-        ensures { part_of result ≡ readPart (asSession self) file.entry buffer.entry b }
+        ensures { part_of result ≡ read_part (as_session self) file.entry buffer.entry b }
     {
         if !self.shows(file.len(), buffer.len(), b) {
             return &file[..0];
@@ -132,7 +132,7 @@ impl ReadingSession {
     // NSERT, DLETE, UPDAT and XTEND alike: none is made, whatever the workspace has.
     fn altering(self, file: &[u32], buffer: &[u32], work: &[u32]) -> Answer
         ensures { answered result (was file) (was buffer) (was work)
-            ≡ counted (readAlter (given self (was file) (was buffer) (was work))) }
+            ≡ counted (read_alter (given self (was file) (was buffer) (was work))) }
     {
         let p = self.desc;
         if p.control != 1 {
@@ -148,7 +148,7 @@ impl ReadingSession {
     // NSERT, refused.
     pub fn nsert(self, file: &[u32], buffer: &[u32], work: &[u32]) -> Answer
         ensures { answered result (was file) (was buffer) (was work)
-            ≡ counted (readAlter (given self (was file) (was buffer) (was work))) }
+            ≡ counted (read_alter (given self (was file) (was buffer) (was work))) }
     {
         self.altering(file, buffer, work)
     }
@@ -156,7 +156,7 @@ impl ReadingSession {
     // DLETE, refused.
     pub fn dlete(self, file: &[u32], buffer: &[u32], work: &[u32]) -> Answer
         ensures { answered result (was file) (was buffer) (was work)
-            ≡ counted (readAlter (given self (was file) (was buffer) (was work))) }
+            ≡ counted (read_alter (given self (was file) (was buffer) (was work))) }
     {
         self.altering(file, buffer, work)
     }
@@ -164,7 +164,7 @@ impl ReadingSession {
     // UPDAT, refused.
     pub fn updat(self, file: &[u32], buffer: &[u32], work: &[u32]) -> Answer
         ensures { answered result (was file) (was buffer) (was work)
-            ≡ counted (readAlter (given self (was file) (was buffer) (was work))) }
+            ≡ counted (read_alter (given self (was file) (was buffer) (was work))) }
     {
         self.altering(file, buffer, work)
     }
@@ -172,7 +172,7 @@ impl ReadingSession {
     // XTEND, refused.
     pub fn xtend(self, file: &[u32], buffer: &[u32], work: &[u32]) -> Answer
         ensures { answered result (was file) (was buffer) (was work)
-            ≡ counted (readAlter (given self (was file) (was buffer) (was work))) }
+            ≡ counted (read_alter (given self (was file) (was buffer) (was work))) }
     {
         self.altering(file, buffer, work)
     }

@@ -7,9 +7,9 @@ mod steps;
 ghost use Rattle.std.specs.Prelude.{◌≡◌, false, ◌&&◌, ◌≤◌, length, replicate};
 ghost use Rattle.words.specs.Words.{part, put};
 ghost use Rattle.drum.specs.Params.{sized};
-ghost use Rattle.rules.specs.State.{atRest};
+ghost use Rattle.rules.specs.State.{at_rest};
 ghost use Rattle.face.specs.Counted.{next};
-ghost use Rattle.reading.specs.Reading.{oneSection, asSession};
+ghost use Rattle.reading.specs.Reading.{one_section, as_session};
 ghost use Rattle.words.specs.Slices.{was, became};
 
 use drum::Description;
@@ -35,7 +35,7 @@ pub struct Answer {
 
 // Whether the parameters are the profile's, and file and buffer of their lengths.
 fn is_fitting(p: Description, file: usize, buffer: usize) -> bool
-    ensures { result ≡ (oneSection p && sized p file buffer) }
+    ensures { result ≡ (one_section p && sized p file buffer) }
 {
     if p.control != 1 {
         return false;
@@ -78,7 +78,7 @@ impl ReadingSession {
 
     // "current 0, position none".
     fn at_rest(self, opened: bool) -> Self
-        ensures { asSession result ≡ atRest opened (asSession self) }
+        ensures { as_session result ≡ at_rest opened (as_session self) }
     {
         let mut rest = self;
         rest.opened = opened;
@@ -93,7 +93,7 @@ impl ReadingSession {
         requires { (self.desc.k ≤ 63) × (self.desc.k ≤ length work.now) × (done.flag ≡ false) }
         ensures { (result.number ≡ done.number)
             × (result.transfers ≡ done.transfers)
-            × (asSession result.session ≡ next (asSession self) done (was work)) }
+            × (as_session result.session ≡ next (as_session self) done (was work)) }
     {
         let k = self.desc.k;
         let mut next = Answer {

@@ -4,10 +4,10 @@ ghost use Rattle.words.specs.Words.{part};
 ghost use Rattle.drum.specs.Blocks.{Fitting};
 ghost use Rattle.rules.specs.Lookup.{reached};
 ghost use Rattle.rules.specs.Fits.{WayFits, LookFits, StepFits};
-ghost use Rattle.rules.specs.Seek.{seekDone, seekSteps};
-ghost use Rattle.rules.specs.Adv.{advDone, advSteps};
+ghost use Rattle.rules.specs.Seek.{seek_done, seek_steps};
+ghost use Rattle.rules.specs.Adv.{adv_done, adv_steps};
 ghost use Rattle.rules.specs.Told.{Follows};
-ghost use Rattle.acts.specs.Reach.{seenBy, come, came};
+ghost use Rattle.acts.specs.Reach.{seen_by, come, came};
 ghost use Rattle.words.specs.Slices.{was, became};
 
 use acts::Arrived;
@@ -16,8 +16,8 @@ use rules::{Done, Held, Look, Step, Way};
 
 // Reaches the block at the end of the way.
 fn reach(at: Held, file: &[u32], buffer: &mut [u32], way: Way) -> Arrived
-    requires { Fitting at.desc file.now buffer.old × WayFits (seenBy at file.now buffer.old) false way }
-    ensures { came result (was file) (became buffer) ≡ come (reached (seenBy at (was file) (was buffer)) false way) }
+    requires { Fitting at.desc file.now buffer.old × WayFits (seen_by at file.now buffer.old) false way }
+    ensures { came result (was file) (became buffer) ≡ come (reached (seen_by at (was file) (was buffer)) false way) }
 {
     match way {
         Way::Here => Arrived {
@@ -40,8 +40,8 @@ fn reach(at: Held, file: &[u32], buffer: &mut [u32], way: Way) -> Arrived
 fn act_seek(l: Look, at: Held, file: &[u32], buffer: &mut [u32], work: &mut [u32]) -> Done
     requires { Fitting at.desc file.now buffer.old
         × (length work.old ≡ at.desc.wpr)
-        × LookFits (seenBy at file.now buffer.old) false l }
-    ensures { Follows result (λ v flag work. seekDone v flag work l) at.desc at.current false file buffer work }
+        × LookFits (seen_by at file.now buffer.old) false l }
+    ensures { Follows result (λ v flag work. seek_done v flag work l) at.desc at.current false file buffer work }
 {
     match l {
         Look::Bad => Done::refused(BAD_FILE, at.current, false),
@@ -72,7 +72,7 @@ fn act_seek(l: Look, at: Held, file: &[u32], buffer: &mut [u32], work: &mut [u32
 // SEEK.
 pub fn seek(at: Held, file: &[u32], buffer: &mut [u32], work: &mut [u32]) -> Done
     requires { Fitting at.desc file.now buffer.old × (length work.old ≡ at.desc.wpr) }
-    ensures { Follows result seekSteps at.desc at.current false file buffer work }
+    ensures { Follows result seek_steps at.desc at.current false file buffer work }
 {
     let l = lookup::look(at.desc, at.current, false, file, buffer, work);
     act_seek(l, at, file, buffer, work)
@@ -82,8 +82,8 @@ pub fn seek(at: Held, file: &[u32], buffer: &mut [u32], work: &mut [u32]) -> Don
 fn act_adv(s: Step, at: Held, file: &[u32], buffer: &mut [u32], work: &mut [u32]) -> Done
     requires { Fitting at.desc file.now buffer.old
         × (length work.old ≡ at.desc.wpr)
-        × StepFits (seenBy at file.now buffer.old) false s }
-    ensures { Follows result (λ v flag work. advDone v flag s) at.desc at.current false file buffer work }
+        × StepFits (seen_by at file.now buffer.old) false s }
+    ensures { Follows result (λ v flag work. adv_done v flag s) at.desc at.current false file buffer work }
 {
     match s {
         Step::Bad => Done::refused(BAD_FILE, at.current, false),
@@ -116,7 +116,7 @@ pub fn adv(
         × Fitting at.desc file.now buffer.old
         × (length work.old ≡ at.desc.wpr)
         × (at.desc.k ≤ length position.now) }
-    ensures { Follows result (λ v flag work. advSteps v flag placed (part 0 at.desc.k (was position)))
+    ensures { Follows result (λ v flag work. adv_steps v flag placed (part 0 at.desc.k (was position)))
         at.desc at.current false file buffer work }
 {
     let s = adv::plan_adv(at, file, buffer, placed, position);

@@ -8,22 +8,22 @@ use native.Mathlib.Omega.{arith}
 use borrow.Author.Tests.{eqb-true, eq-eqb}
 use lib.Dec.{eqb}
 use lib.ListN.{length}
-use Rattle.numbers.specs.Numbers.{done, wrongSize, isClosed, badFile}
+use Rattle.numbers.specs.Numbers.{done, wrong_size, is_closed, bad_file}
 use Rattle.numbers.specs.Checked.{Checked, passed, refused, ◌>>=◌, ◌>>◌, require}
 use Rattle.words.specs.Words.{zeros}
 use Rattle.words.proofs.All.{and_both}
 use Rattle.drum.specs.declared.Description.{Description}
-use Rattle.drum.specs.Params.{goodParams, fileSize, sized, every}
+use Rattle.drum.specs.Params.{good_params, file_size, sized, every}
 use Rattle.drum.proofs.Good.{sized-facts}
-use Rattle.layout.specs.Inspect.{layoutMarks}
-use Rattle.layout.specs.Tree.{Leaf, Tree, leavesOf, marksOf}
+use Rattle.layout.specs.Inspect.{layout_marks}
+use Rattle.layout.specs.Tree.{Leaf, Tree, leaves_of, marks_of}
 use Rattle.layout.specs.Holds.{Holds}
 use Rattle.layout.proofs.Exact.{open-exact, refused_none}
-use Rattle.rules.specs.State.{Session, State, desc, texts, lent, atRest, unchanged}
-use Rattle.rules.specs.Checks.{sizesOk, isOpen}
-use Rattle.rules.specs.Lookup.{flushOk, flushMoves}
-use Rattle.rules.specs.Open.{Opened, create, openFile, openLayout}
-use Rattle.rules.specs.Close.{close, closeChecks, closeDone}
+use Rattle.rules.specs.State.{Session, State, desc, texts, lent, at_rest, unchanged}
+use Rattle.rules.specs.Checks.{sizes_ok, is_open}
+use Rattle.rules.specs.Lookup.{flush_ok, flush_moves}
+use Rattle.rules.specs.Open.{Opened, create, open_file, open_layout}
+use Rattle.rules.specs.Close.{close, close_checks, close_done}
 use Rattle.rules.specs.Requests.{Request, answer, left}
 use Rattle.demands.specs.Promises.{put_back}
 use Rattle.demands.specs.Filled.{ButLast, Full, Most, Any, Filled, OnlyXtends}
@@ -31,8 +31,8 @@ use Rattle.demands.proofs.Came.{same-parameters}
 use Rattle.demands.proofs.Demands.{opened-desc}
 use Rattle.demands.proofs.Filled.{extended-filled}
 use Rattle.reading.specs.declared.ReadingSession.{ReadingSession}
-use Rattle.reading.specs.Finished.{finished, finishedMarks}
-use Rattle.reading.specs.Reading.{given, readOpen}
+use Rattle.reading.specs.Finished.{finished, finished_marks}
+use Rattle.reading.specs.Reading.{given, read_open}
 use Rattle.reading.proofs.Order.{not-laid, is-laid, not-finished}
 use Rattle.reading.proofs.Opened.{read-inspected}
 use Rattle.readings.specs.Trees.{Finished, OpensFinished, ReadingOpens, FinishedWhileOne, ExtendedFinished, AllExtended}
@@ -41,16 +41,16 @@ use Rattle.readings.proofs.Trees.{finished-tree, tree-finished}
 -- ---- the inspection comes to one of two
 
 Bad : Description → List ℕ → Type 0
-Bad p f = finishedMarks p f ≡ refused badFile
+Bad p f = finished_marks p f ≡ refused bad_file
 
 Good : Description → List ℕ → Type 0
-Good p f = (ms : List ℕ) × (layoutMarks p f ≡ passed ms) × (finished p f ≡ true) × (finishedMarks p f ≡ passed ms)
+Good p f = (ms : List ℕ) × (layout_marks p f ≡ passed ms) × (finished p f ≡ true) × (finished_marks p f ≡ passed ms)
 
-one_of : (p : Description) (f : List ℕ) → goodParams p ≡ true → length f ≡ fileSize p → Bad p f ⊎ Good p f
+one_of : (p : Description) (f : List ℕ) → good_params p ≡ true → length f ≡ file_size p → Bad p f ⊎ Good p f
 unfolding Bad Good
-one_of p f good size = go (layoutMarks p f) (finished p f) refl refl
+one_of p f good size = go (layout_marks p f) (finished p f) refl refl
   where
-    go : (c : Checked (List ℕ)) (b : Bool) → layoutMarks p f ≡ c → finished p f ≡ b → Bad p f ⊎ Good p f
+    go : (c : Checked (List ℕ)) (b : Bool) → layout_marks p f ≡ c → finished p f ≡ b → Bad p f ⊎ Good p f
     go (refused n) b e q = inl (not-laid p f [] false ((open-exact p f good size).2 (refused_none p f n good size e)) refl)
     go (passed ms) false e q = inl (not-finished p f ms true e refl (finished p f) refl q)
     go (passed ms) true e q = inr (ms, e, q, is-laid p f ms true e refl (finished p f) refl q)
@@ -63,32 +63,32 @@ module _ (s : ReadingSession) (f b w marks : List ℕ) (one : s.desc.control ≡
   abbrev st : State
   st = given s f b w
 
-  good : goodParams p ≡ true
+  good : good_params p ≡ true
   good = (sized-facts p (length f) (length b) fit).good
 
-  size : length f ≡ fileSize p
+  size : length f ≡ file_size p
   size = (sized-facts p (length f) (length b) fit).file-is
 
-  seen : readOpen st marks ≡ openLayout st (finishedMarks p f)
+  seen : read_open st marks ≡ open_layout st (finished_marks p f)
   seen = read-inspected st marks (eq-eqb _ _ one) fit long shut
 
-  opened : (ms : List ℕ) → finishedMarks p f ≡ passed ms → ((readOpen st marks).outcome.number ≡ done) × ((readOpen st marks).marks ≡ ms)
-  unfolding openLayout
-  opened ms q = let o = seen ∙ ap (openLayout st) q in (ap (λ (x : Opened). x.outcome.number) o, ap (λ (x : Opened). x.marks) o)
+  opened : (ms : List ℕ) → finished_marks p f ≡ passed ms → ((read_open st marks).outcome.number ≡ done) × ((read_open st marks).marks ≡ ms)
+  unfolding open_layout
+  opened ms q = let o = seen ∙ ap (open_layout st) q in (ap (λ (x : Opened). x.outcome.number) o, ap (λ (x : Opened). x.marks) o)
 
-  refusal : Bad p f → ((readOpen st marks).outcome.number ≡ badFile) × ((readOpen st marks).marks ≡ zeros p.n)
-  unfolding openLayout Bad
-  refusal q = let o = seen ∙ ap (openLayout st) q in (ap (λ (x : Opened). x.outcome.number) o, ap (λ (x : Opened). x.marks) o)
+  refusal : Bad p f → ((read_open st marks).outcome.number ≡ bad_file) × ((read_open st marks).marks ≡ zeros p.n)
+  unfolding open_layout Bad
+  refusal q = let o = seen ∙ ap (open_layout st) q in (ap (λ (x : Opened). x.outcome.number) o, ap (λ (x : Opened). x.marks) o)
 
-  only-by : Bad p f ⊎ Good p f → (readOpen st marks).outcome.number ≡ done → (t : Tree) × Holds p f t × Finished p t
+  only-by : Bad p f ⊎ Good p f → (read_open st marks).outcome.number ≡ done → (t : Tree) × Holds p f t × Finished p t
   unfolding Good
   only-by (inl q) e = absurd (omega (arith, e, (refusal q).0))
   only-by (inr (ms, q, F, r)) e =
       let (t, h, m) = (open-exact p f good size).0 ms q in
       (t, h, finished-tree p f good one t h F)
 
-  refuses-by : Bad p f ⊎ Good p f → ((readOpen st marks).outcome.number ≡ done → ⊥)
-      → ((readOpen st marks).outcome.number ≡ badFile) × ((readOpen st marks).marks ≡ zeros p.n)
+  refuses-by : Bad p f ⊎ Good p f → ((read_open st marks).outcome.number ≡ done → ⊥)
+      → ((read_open st marks).outcome.number ≡ bad_file) × ((read_open st marks).marks ≡ zeros p.n)
   unfolding Good
   refuses-by (inl q) n = refusal q
   refuses-by (inr (ms, q, F, r)) n = absurd (n (opened ms r).0)
@@ -97,7 +97,7 @@ module _ (s : ReadingSession) (f b w marks : List ℕ) (one : s.desc.control ≡
   opens-finished = record {
     opens = λ t h F.
         let q = (open-exact p f good size).1 t h in
-        opened (marksOf t p.n) (is-laid p f (marksOf t p.n) true q refl (finished p f) refl (tree-finished p f good one t h F));
+        opened (marks_of t p.n) (is-laid p f (marks_of t p.n) true q refl (finished p f) refl (tree-finished p f good one t h F));
     only = only-by (one_of p f good size);
     refuses = refuses-by (one_of p f good size);
   }
@@ -114,16 +114,16 @@ any_last p (l ∷ []) h = tt
 any_last p (l ∷ m ∷ ls) h = (h.0, any_last p (m ∷ ls) h.1)
 
 filled-finished : (p : Description) (t : Tree) → Filled p t → length t.sections ≡ 1 → Finished p t
-filled-finished p t F one = record { one = one; order = F.order; details = any_last p (leavesOf t) F.details; chain = F.chain }
+filled-finished p t F one = record { one = one; order = F.order; details = any_last p (leaves_of t) F.details; chain = F.chain }
 
 -- CLOSE that answers 0 leaves the file with the buffer put back
 closed-file : (st : State) → (close st).number ≡ done → (close st).after.file ≡ put_back st
-unfolding close closeChecks closeDone sizesOk isOpen
+unfolding close close_checks close_done sizes_ok is_open
 closed-file st e =
-    go (sized (desc st) (length st.file) (length st.buffer)) st.session.opened (flushOk (texts st) st.session.flag) e
+    go (sized (desc st) (length st.file) (length st.buffer)) st.session.opened (flush_ok (texts st) st.session.flag) e
   where
-    go : (a b c : Bool) → (closeDone st (require a wrongSize >> (require b isClosed >> require c badFile))).number ≡ done
-        → (closeDone st (require a wrongSize >> (require b isClosed >> require c badFile))).after.file ≡ put_back st
+    go : (a b c : Bool) → (close_done st (require a wrong_size >> (require b is_closed >> require c bad_file))).number ≡ done
+        → (close_done st (require a wrong_size >> (require b is_closed >> require c bad_file))).after.file ≡ put_back st
     go true true true q = refl
     go true true false q = absurd (omega (arith, q))
     go true false c q = absurd (omega (arith, q))
@@ -136,18 +136,18 @@ left-desc st [] = refl
 left-desc st (q ∷ qs) = left-desc (answer st q).after qs ∙ same-parameters st q
 
 -- CREATE that answers 0 was given good parameters
-created-good : (p : Description) (f : List ℕ) → (create p f).number ≡ done → goodParams p ≡ true
+created-good : (p : Description) (f : List ℕ) → (create p f).number ≡ done → good_params p ≡ true
 unfolding create
-created-good p f e = (and_both (goodParams p) (eqb (length f) (fileSize p)) (go (goodParams p && eqb (length f) (fileSize p)) refl)).0
+created-good p f e = (and_both (good_params p) (eqb (length f) (file_size p)) (go (good_params p && eqb (length f) (file_size p)) refl)).0
   where
-    go : (t : Bool) → (goodParams p && eqb (length f) (fileSize p)) ≡ t → (goodParams p && eqb (length f) (fileSize p)) ≡ true
+    go : (t : Bool) → (good_params p && eqb (length f) (file_size p)) ≡ t → (good_params p && eqb (length f) (file_size p)) ≡ true
     go true q = q
     go false q = absurd (omega (arith, e, wrong q))
       where
-        wrong : (goodParams p && eqb (length f) (fileSize p)) ≡ false → (create p f).number ≡ wrongSize
+        wrong : (good_params p && eqb (length f) (file_size p)) ≡ false → (create p f).number ≡ wrong_size
         wrong q = simp q
 
-right-sizes : (p : Description) (f b : List ℕ) → goodParams p ≡ true → length f ≡ fileSize p → length b ≡ p.wpb → sized p (length f) (length b) ≡ true
+right-sizes : (p : Description) (f b : List ℕ) → good_params p ≡ true → length f ≡ file_size p → length b ≡ p.wpb → sized p (length f) (length b) ≡ true
 unfolding sized every
 right-sizes p f b good size buffer = simp (good, eq-eqb _ _ size, eq-eqb _ _ buffer)
 
@@ -157,7 +157,7 @@ extended-finished session f buffer work marks c o = record {
       let (t, h, F, n) = extended-filled session f buffer work marks c o qs only in
       (t, h, filled-finished _ t F);
   opens = λ one qs only closed r b w ms er shut lb lm.
-      let made = (openFile (lent session (create session.desc f).file buffer work) marks).outcome.after in
+      let made = (open_file (lent session (create session.desc f).file buffer work) marks).outcome.after in
       let st = left made qs in
       let (t, h, F, n) = extended-filled session f buffer work marks c o qs only in
       let d : desc st ≡ r.desc = left-desc made qs ∙ opened-desc (lent session (create session.desc f).file buffer work) marks o ∙ sym er in
@@ -165,7 +165,7 @@ extended-finished session f buffer work marks c o = record {
       = subst (λ (x : List ℕ). Holds r.desc x t) (sym (closed-file st closed)) (subst (λ (p : Description). Holds p (put_back st) t) d h) in
       let filled : Filled r.desc t = subst (λ (p : Description). Filled p t) d F in
       let single : r.desc.control ≡ 1 = ap (λ (p : Description). p.control) er ∙ one in
-      let good : goodParams r.desc ≡ true = ap goodParams er ∙ created-good session.desc f c in
+      let good : good_params r.desc ≡ true = ap good_params er ∙ created-good session.desc f c in
       let fit = right-sizes r.desc (close st).after.file b good held.size lb in
       ((opens-finished r (close st).after.file b w ms single fit lm shut).opens t held
       (filled-finished r.desc t filled (omega (arith, single, held.control)))).0;

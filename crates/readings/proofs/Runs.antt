@@ -7,7 +7,7 @@ use borrow.Author.Tests.{eqb-true, eq-eqb}
 use lib.Dec.{eqb}
 use lib.ListN.{length}
 use native.Mathlib.Omega.{arith}
-use Rattle.numbers.specs.Numbers.{done, wrongSize, isClosed, alreadyOpen, readingOnly}
+use Rattle.numbers.specs.Numbers.{done, wrong_size, is_closed, already_open, reading_only}
 use Rattle.numbers.specs.Checked.{Checked, passed, refused, ◌>>=◌, ◌>>◌, require}
 use Rattle.words.specs.Words.{part}
 use Rattle.drum.specs.declared.Description.{Description}
@@ -15,30 +15,30 @@ use Rattle.drum.specs.Params.{sized}
 use Rattle.drum.proofs.Good.{sized-facts}
 use Rattle.layout.specs.Tree.{Tree, contents}
 use Rattle.layout.specs.Holds.{Holds}
-use Rattle.layout.specs.Inspect.{layoutMarks}
-use Rattle.rules.specs.State.{Session, State, Outcome, Effect, desc, keyIn, lent, unchanged, settle}
-use Rattle.rules.specs.Checks.{sizesOk, workOk, isOpen}
-use Rattle.rules.specs.Lookup.{flushMoves}
+use Rattle.layout.specs.Inspect.{layout_marks}
+use Rattle.rules.specs.State.{Session, State, Outcome, Effect, desc, key_in, lent, unchanged, settle}
+use Rattle.rules.specs.Checks.{sizes_ok, work_ok, is_open}
+use Rattle.rules.specs.Lookup.{flush_moves}
 use Rattle.drum.specs.Blocks.{written}
 use Rattle.rules.specs.Seek.{seek}
 use Rattle.rules.specs.Adv.{adv}
-use Rattle.rules.specs.Open.{Opened, openFile, openDone, openChecks, openLayout}
-use Rattle.rules.specs.Close.{close, closeChecks, closeDone}
+use Rattle.rules.specs.Open.{Opened, open_file, open_done, open_checks, open_layout}
+use Rattle.rules.specs.Close.{close, close_checks, close_done}
 use Rattle.rules.specs.Requests.{Request, lending, answer, left}
 use Rattle.rules.specs.Requests as rules
-use Rattle.demands.specs.History.{withKey}
+use Rattle.demands.specs.History.{with_key}
 use Rattle.demands.specs.Contents.{Contains}
-use Rattle.demands.specs.Answers.{Answered, Sought, Advanced, ordinary, abovePosition}
+use Rattle.demands.specs.Answers.{Answered, Sought, Advanced, ordinary, above_position}
 use Rattle.demands.proofs.Came.{same-parameters}
 use Rattle.demands.proofs.Answered.{call-answers}
 use Rattle.reading.specs.declared.ReadingSession.{ReadingSession}
-use Rattle.reading.specs.Finished.{finished, finishedMarks}
-use Rattle.reading.specs.Reading.{oneSection, asSession, given, profile, readOpen, readOpenDone, readClose, readSeek, readAdv, readAlter}
+use Rattle.reading.specs.Finished.{finished, finished_marks}
+use Rattle.reading.specs.Reading.{one_section, as_session, given, profile, read_open, read_open_done, read_close, read_seek, read_adv, read_alter}
 use Rattle.reading.specs.Reading as reading-is
 use Rattle.reading.specs.Claims.{Unwritten}
 use Rattle.reading.proofs.Claims.{reading-is-rules, file-kept}
 use Rattle.readings.specs.Trees.{Finished}
-use Rattle.readings.specs.Runs.{Reading, opening, closing, seeking, advancing, altering, read, readLeft, ReadsRight, ReadingRun}
+use Rattle.readings.specs.Runs.{Reading, opening, closing, seeking, advancing, altering, read, read_left, ReadsRight, ReadingRun}
 use Rattle.readings.proofs.Trees.{tree-finished}
 use Rattle.readings.proofs.Opens.{reading-opens}
 
@@ -51,9 +51,9 @@ record Given (s : ReadingSession) (f b marks : List ℕ) : Type 0 where
   shut : s.opened ≡ false
 
 given_by : (st : State) (marks : List ℕ) (a b c d : Bool)
-    → (readOpenDone st marks (require a wrongSize >> (require b wrongSize >> (require c wrongSize >> require d alreadyOpen)))).outcome.number ≡ done
+    → (read_open_done st marks (require a wrong_size >> (require b wrong_size >> (require c wrong_size >> require d already_open)))).outcome.number ≡ done
     → (a ≡ true) × (b ≡ true) × (c ≡ true) × (d ≡ true)
-unfolding readOpenDone
+unfolding read_open_done
 given_by st marks true true true true e = (refl, refl, refl, refl)
 given_by st marks true true true false e = absurd (omega (arith, e))
 given_by st marks true true false d e = absurd (omega (arith, e))
@@ -64,8 +64,8 @@ not-open : (x : Bool) → not x ≡ true → x ≡ false
 not-open true e = sym e
 not-open false e = refl
 
-opened-given : (s : ReadingSession) (f b w marks : List ℕ) → (readOpen (given s f b w) marks).outcome.number ≡ done → Given s f b marks
-unfolding readOpen openChecks sizesOk
+opened-given : (s : ReadingSession) (f b w marks : List ℕ) → (read_open (given s f b w) marks).outcome.number ≡ done → Given s f b marks
+unfolding read_open open_checks sizes_ok
 opened-given s f b w marks e =
     let (x, y, z, u) = given_by (given s f b w) marks _ _ _ _ e in
     record { one = eqb-true _ _ x; fit = y; long = eqb-true _ _ z; shut = not-open s.opened u }
@@ -86,38 +86,38 @@ same_alike : (a b : State) → a ≡ b → Alike a b
 same_alike a b e = record { session = ap (λ (z : State). z.session) e; file = ap (λ (z : State). z.file) e; buffer = ap (λ (z : State). z.buffer) e }
 
 close-work : (s : Session) (f b w u : List ℕ) → Alike (close (lent s f b w)).after (close (lent s f b u)).after
-unfolding close closeDone closeChecks sizesOk isOpen
-close-work s f b w u = go (closeChecks (lent s f b w))
+unfolding close close_done close_checks sizes_ok is_open
+close-work s f b w u = go (close_checks (lent s f b w))
   where
-    go : (c : Checked Bool) → Alike (closeDone (lent s f b w) c).after (closeDone (lent s f b u) c).after
+    go : (c : Checked Bool) → Alike (close_done (lent s f b w) c).after (close_done (lent s f b u) c).after
     go (refused n) = record { session = refl; file = refl; buffer = refl }
     go (passed x) = record { session = refl; file = refl; buffer = refl }
 
-open-work : (s : Session) (f b w u marks : List ℕ) → Alike (openFile (lent s f b w) marks).outcome.after (openFile (lent s f b u) marks).outcome.after
-unfolding openFile openDone openLayout openChecks sizesOk
-open-work s f b w u marks = go (openChecks (lent s f b w) marks)
+open-work : (s : Session) (f b w u marks : List ℕ) → Alike (open_file (lent s f b w) marks).outcome.after (open_file (lent s f b u) marks).outcome.after
+unfolding open_file open_done open_layout open_checks sizes_ok
+open-work s f b w u marks = go (open_checks (lent s f b w) marks)
   where
-    lay : (c : Checked (List ℕ)) → Alike (openLayout (lent s f b w) c).outcome.after (openLayout (lent s f b u) c).outcome.after
+    lay : (c : Checked (List ℕ)) → Alike (open_layout (lent s f b w) c).outcome.after (open_layout (lent s f b u) c).outcome.after
     lay (refused n) = record { session = refl; file = refl; buffer = refl }
     lay (passed m) = record { session = refl; file = refl; buffer = refl }
 
-    go : (c : Checked Bool) → Alike (openDone (lent s f b w) marks c).outcome.after (openDone (lent s f b u) marks c).outcome.after
+    go : (c : Checked Bool) → Alike (open_done (lent s f b w) marks c).outcome.after (open_done (lent s f b u) marks c).outcome.after
     go (refused n) = record { session = refl; file = refl; buffer = refl }
-    go (passed x) = lay (layoutMarks s.desc f)
+    go (passed x) = lay (layout_marks s.desc f)
 
 -- an altering call leaves what it was given
-alter-none : (st : State) (a b c : Bool) → (settle st (require a wrongSize >> (require b wrongSize >> (require c isClosed >> refused readingOnly)))).after ≡ st
+alter-none : (st : State) (a b c : Bool) → (settle st (require a wrong_size >> (require b wrong_size >> (require c is_closed >> refused reading_only)))).after ≡ st
 unfolding settle
 alter-none st true true true = refl
 alter-none st true true false = refl
 alter-none st true false c = refl
 alter-none st false b c = refl
 
-alter-same : (st : State) → (readAlter st).after ≡ st
-unfolding profile reading-is.altering sizesOk workOk isOpen
-alter-same st = go (oneSection (desc st))
+alter-same : (st : State) → (read_alter st).after ≡ st
+unfolding profile reading-is.altering sizes_ok work_ok is_open
+alter-same st = go (one_section (desc st))
   where
-    go : (t : Bool) → (cond t (reading-is.altering st) (unchanged st wrongSize)).after ≡ st
+    go : (t : Bool) → (cond t (reading-is.altering st) (unchanged st wrong_size)).after ≡ st
     go true =
         alter-none st (sized (desc st) (length st.file) (length st.buffer)) (eqb (length st.work) (desc st).wpr) st.session.opened
     go false = refl
@@ -171,7 +171,7 @@ module _ (p : Description) (f : List ℕ) (one : p.control ≡ 1) (fin : finishe
     done-file = ap (λ (d : Description). finished d f) a.parameters ∙ fin
 
     -- the rules' state, with the reading session's fields
-    y-is : lent (asSession r) f a.b y.work ≡ y
+    y-is : lent (as_session r) f a.b y.work ≡ y
     y-is =
         let x = sym a.is in
         let S = ap (λ (z : State). z.session) x ∙ a.alike.session in
@@ -186,31 +186,31 @@ module _ (p : Description) (f : List ℕ) (one : p.control ≡ 1) (fin : finishe
     step : (q : Reading) → Along (read st q).after
     unfolding read answer lending
     step (seeking work) =
-        let e : read st (seeking work) ≡ readSeek (given r f a.b work) = ap (λ (z : State). readSeek (lending work z)) a.is in
+        let e : read st (seeking work) ≡ read_seek (given r f a.b work) = ap (λ (z : State). read_seek (lending work z)) a.is in
         let k = file-kept.seeks r f a.b work in
         let t = e ∙ (reading-is-rules r single).seeks f a.b work ∙ ap seek (lent_same work) in
         go_on st a _ (rules.seeking work) (same_alike _ _ (ap (λ (o : Outcome). o.after) t)) (ap (λ (o : Outcome). o.after.file) e ∙ k.file)
         (ap (λ (o : Outcome). o.after.session.flag) e ∙ k.off)
     step (advancing work) =
-        let e : read st (advancing work) ≡ readAdv (given r f a.b work) = ap (λ (z : State). readAdv (lending work z)) a.is in
+        let e : read st (advancing work) ≡ read_adv (given r f a.b work) = ap (λ (z : State). read_adv (lending work z)) a.is in
         let k = file-kept.advances r f a.b work in
         let t = e ∙ (reading-is-rules r single).advances f a.b work ∙ ap adv (lent_same work) in
         go_on st a _ (rules.advancing work) (same_alike _ _ (ap (λ (o : Outcome). o.after) t)) (ap (λ (o : Outcome). o.after.file) e ∙ k.file)
         (ap (λ (o : Outcome). o.after.session.flag) e ∙ k.off)
     step closing =
-        let e : read st closing ≡ readClose (given r f a.b a.w) = ap readClose a.is in
+        let e : read st closing ≡ read_close (given r f a.b a.w) = ap read_close a.is in
         let k = file-kept.closes r f a.b a.w in
         let t = e ∙ (reading-is-rules r single).closes f a.b a.w in
-        let h = subst (λ (z : State). Alike (close (given r f a.b a.w)).after (close z).after) y-is (close-work (asSession r) f a.b a.w y.work) in
+        let h = subst (λ (z : State). Alike (close (given r f a.b a.w)).after (close z).after) y-is (close-work (as_session r) f a.b a.w y.work) in
         go_on st a _ rules.closing (subst (λ (o : Outcome). Alike o.after (close y).after) (sym t) h) (ap (λ (o : Outcome). o.after.file) e ∙ k.file)
         (ap (λ (o : Outcome). o.after.session.flag) e ∙ k.off)
     step (opening marks) =
-        let e : read st (opening marks) ≡ (readOpen (given r f a.b a.w) marks).outcome = ap (λ (z : State). (readOpen z marks).outcome) a.is in
+        let e : read st (opening marks) ≡ (read_open (given r f a.b a.w) marks).outcome = ap (λ (z : State). (read_open z marks).outcome) a.is in
         let k = file-kept.opens r f a.b a.w marks in
         let t = e ∙ ap (λ (o : Opened). o.outcome) ((reading-is-rules r single).opens f a.b a.w marks done-file) in
-        let h = subst (λ (z : State). Alike (openFile (given r f a.b a.w) marks).outcome.after (openFile z marks).outcome.after) y-is
-        (open-work (asSession r) f a.b a.w y.work marks) in
-        go_on st a _ (rules.opening marks) (subst (λ (o : Outcome). Alike o.after (openFile y marks).outcome.after) (sym t) h)
+        let h = subst (λ (z : State). Alike (open_file (given r f a.b a.w) marks).outcome.after (open_file z marks).outcome.after) y-is
+        (open-work (as_session r) f a.b a.w y.work marks) in
+        go_on st a _ (rules.opening marks) (subst (λ (o : Outcome). Alike o.after (open_file y marks).outcome.after) (sym t) h)
         (ap (λ (o : Outcome). o.after.file) e ∙ k.file) (ap (λ (o : Outcome). o.after.session.flag) e ∙ k.off)
     step (altering work) =
         let e : (read st (altering work)).after ≡ lending work st = alter-same (lending work st) in
@@ -224,8 +224,8 @@ module _ (p : Description) (f : List ℕ) (one : p.control ≡ 1) (fin : finishe
           alike = record { session = a.alike.session; file = a.alike.file; buffer = a.alike.buffer };
         })
 
-  along : (qs : List Reading) (st : State) → Along st → Along (readLeft st qs)
-  unfolding readLeft
+  along : (qs : List Reading) (st : State) → Along st → Along (read_left st qs)
+  unfolding read_left
   along [] st a = a
   along (q ∷ qs) st a = along qs (read st q).after (step st a q)
 
@@ -233,10 +233,10 @@ module _ (p : Description) (f : List ℕ) (one : p.control ≡ 1) (fin : finishe
   module _ (t : Tree) (h : Holds p f t) (st : State) (a : Along st)
       (answers : (c : Contains (left u a.calls) (contents t)) → Answered (left u a.calls) (contents t)) where
     abbrev mine : State
-    mine = lent (asSession a.s) f a.b (left u a.calls).work
+    mine = lent (as_session a.s) f a.b (left u a.calls).work
 
     holds : Contains (left u a.calls) (contents t)
-    unfolding flushMoves written
+    unfolding flush_moves written
     holds =
         subst (λ (z : State). Contains z (contents t)) (y-is st a)
         (record { tree = t; held = subst (λ (d : Description). Holds d f t) (sym a.parameters) h; are = refl })
@@ -249,15 +249,15 @@ module _ (p : Description) (f : List ℕ) (one : p.control ≡ 1) (fin : finishe
     right = record {
       file = refl;
       seek = λ work k.
-          subst (Sought work (withKey a.s.desc (keyIn a.s.desc work) (contents t))) (sym ((reading-is-rules a.s (single st a)).seeks f a.b work)) (answered.seek work k);
+          subst (Sought work (with_key a.s.desc (key_in a.s.desc work) (contents t))) (sym ((reading-is-rules a.s (single st a)).seeks f a.b work)) (answered.seek work k);
       adv = λ work k.
-          subst (Advanced a.s.desc (ordinary a.s.desc (abovePosition (asSession a.s) (contents t)))) (sym ((reading-is-rules a.s (single st a)).advances f a.b work)) (answered.adv work k);
+          subst (Advanced a.s.desc (ordinary a.s.desc (above_position (as_session a.s) (contents t)))) (sym ((reading-is-rules a.s (single st a)).advances f a.b work)) (answered.adv work k);
     }
 
     reads-right : ReadsRight f (contents t) st
     reads-right = subst (ReadsRight f (contents t)) (sym a.is) right
 
-kept-desc : (st : State) (marks : List ℕ) → desc (openFile st marks).outcome.after ≡ desc st
+kept-desc : (st : State) (marks : List ℕ) → desc (open_file st marks).outcome.after ≡ desc st
 unfolding answer
 kept-desc st marks = same-parameters st (rules.opening marks)
 
@@ -267,9 +267,9 @@ left-none u = record { session = refl; file = refl; buffer = refl }
 
 -- the state that OPEN leaves
 first-along : (s : ReadingSession) (f b w marks : List ℕ) (one : s.desc.control ≡ 1) (fin : finished s.desc f ≡ true)
-    → Along s.desc f one fin (openFile (given s f b w) marks).outcome.after (openFile (given s f b w) marks).outcome.after
+    → Along s.desc f one fin (open_file (given s f b w) marks).outcome.after (open_file (given s f b w) marks).outcome.after
 first-along s f b w marks one fin =
-    let u = (openFile (given s f b w) marks).outcome.after in
+    let u = (open_file (given s f b w) marks).outcome.after in
     let o = ap (λ (x : Opened). x.outcome) ((reading-is-rules s one).opens f b w marks fin) in
     let k = file-kept.opens s f b w marks in
     let file : u.file ≡ f = ap (λ (x : Outcome). x.after.file) (sym o) ∙ k.file in
@@ -291,14 +291,14 @@ reading-run s f b w marks e =
     let (t, h, F) = (reading-opens s f b w marks g.one g.fit g.long g.shut).only e in
     let good = (sized-facts s.desc (length f) (length b) g.fit).good in
     let fin = tree-finished s.desc f good g.one t h F in
-    let o : readOpen (given s f b w) marks ≡ openFile (given s f b w) marks = (reading-is-rules s g.one).opens f b w marks fin in
-    let u = (openFile (given s f b w) marks).outcome.after in
+    let o : read_open (given s f b w) marks ≡ open_file (given s f b w) marks = (reading-is-rules s g.one).opens f b w marks fin in
+    let u = (open_file (given s f b w) marks).outcome.after in
     let first : Along s.desc f g.one fin u u = first-along s f b w marks g.one fin in (
       t,
       h,
       λ qs.
           let a = along s.desc f g.one fin u qs u first in
-          subst (λ (z : State). ReadsRight f (contents t) (readLeft z qs)) (sym (ap (λ (x : Opened). x.outcome.after) o))
-          (reads-right s.desc f g.one fin u t h (readLeft u qs) a
+          subst (λ (z : State). ReadsRight f (contents t) (read_left z qs)) (sym (ap (λ (x : Opened). x.outcome.after) o))
+          (reads-right s.desc f g.one fin u t h (read_left u qs) a
           (call-answers (given s f b w) marks (sym (ap (λ (x : Opened). x.outcome.number) o) ∙ e) a.calls (contents t))),
     )

@@ -12,9 +12,9 @@ use Rattle.rules.specs.declared.Way.TheVariants.{By}
 use Rattle.rules.specs.declared.Look.{Look}
 use Rattle.rules.specs.declared.Look.TheVariants as look_is
 use Rattle.rules.specs.State.{State, Effect, Outcome, desc, texts, outcome, settle}
-use Rattle.rules.specs.Checks.{keyedCall}
+use Rattle.rules.specs.Checks.{keyed_call}
 use Rattle.rules.specs.Lookup.{stopping, storing}
-use Rattle.rules.specs.Seek.{giving, seekDone, seekSteps, seek, updatDone, updatSteps, updat}
+use Rattle.rules.specs.Seek.{giving, seek_done, seek_steps, seek, updat_done, updat_steps, updat}
 use Rattle.rules.proofs.Sizes.{way-few}
 use Rattle.searchfile.specs.declared.Answer.{Answer}
 use Rattle.searchfile.specs.Promise.{Counted, counted, answered}
@@ -24,24 +24,24 @@ abbrev Few : Effect → Type 0
 Few e = length e.transfers ≤ 3
 
 module _ (v : Texts) (flag : Bool) (work : List ℕ) where
-  seek-done : (l : Look) → Passed Few (seekDone v flag work l)
-  unfolding seekDone giving stopping
+  seek-done : (l : Look) → Passed Few (seek_done v flag work l)
+  unfolding seek_done giving stopping
   seek-done look_is.Bad = search chain
   seek-done (look_is.Found way i) = by-passed _ (way-few v flag way)
   seek-done (look_is.Missing w) = by-passed _ (way-few v flag (By w))
 
-  seek-steps : Passed Few (seekSteps v flag work)
-  unfolding seekSteps
+  seek-steps : Passed Few (seek_steps v flag work)
+  unfolding seek_steps
   seek-steps = search (chain, seek-done)
 
-  updat-done : (l : Look) → Passed Few (updatDone v flag work l)
-  unfolding updatDone storing stopping
+  updat-done : (l : Look) → Passed Few (updat_done v flag work l)
+  unfolding updat_done storing stopping
   updat-done look_is.Bad = search chain
   updat-done (look_is.Found way i) = by-passed _ (way-few v flag way)
   updat-done (look_is.Missing w) = by-passed _ (way-few v flag (By w))
 
-  updat-steps : Passed Few (updatSteps v flag work)
-  unfolding updatSteps
+  updat-steps : Passed Few (updat_steps v flag work)
+  unfolding updat_steps
   updat-steps = search (chain, updat-done)
 
 module _ (st : State) where
@@ -51,7 +51,7 @@ module _ (st : State) where
   settled (passed e) p = p.holds e refl
 
   module _ (c : Checked Effect) (steps : Passed Few c) (reads : ℕ) where
-    keyed : length (keyedCall reads st c).transfers ≤ 3
+    keyed : length (keyed_call reads st c).transfers ≤ 3
     keyed = settled _ (search (chain, steps) depth 9)
 
   pub seek-few : length (seek st).transfers ≤ 3

@@ -8,7 +8,7 @@ use native.Mathlib.Omega.{arith}
 use borrow.Author.Tests.{lt-ltb, le-ltb}
 use lib.Dec.{ltb}
 use lib.ListN.{length}
-use Rattle.numbers.specs.Numbers.{wrongSize}
+use Rattle.numbers.specs.Numbers.{wrong_size}
 use Rattle.numbers.specs.Checked.{Checked, passed, refused, require}
 use Rattle.words.specs.Words.{put, zeros}
 use Rattle.rules.specs.State.{State, Outcome, desc, unchanged}
@@ -22,8 +22,8 @@ use Rattle.searchfile.specs.Promise.{Counted, given, counted, answered}
 use Rattle.face.specs.Checks.{refusing}
 use Rattle.face.proofs.Refusing.{refusing-some, refusing-none}
 use Rattle.register.specs.Names.{raw}
-use Rattle.register.specs.Register.{hasState, nameOk, spelledOk, checked, rawName, enter, ask, next, move, spelled, romanise, turned, turn}
-use Rattle.register.proofs.Refusing.{nameTests, spelledTests, name-chain, spelled-chain, name-fits}
+use Rattle.register.specs.Register.{has_state, name_ok, spelled_ok, checked, raw_name, enter, ask, next, move, spelled, romanise, turned, turn}
+use Rattle.register.proofs.Refusing.{name_tests, spelled_tests, name-chain, spelled-chain, name-fits}
 use Rattle.register.proofs.Records.{raw-written}
 
 -- a call: what it refuses, and then what the routine does
@@ -56,64 +56,64 @@ guard_passed {call} {checks} {rest} g s f b w f₁ b₁ w₁ n r e h z =
 
 -- ---- the calls
 
-pub enter-guard : Guard enter nameTests (λ st. nsert (lending (rawName (desc st) st.work) st))
+pub enter-guard : Guard enter name_tests (λ st. nsert (lending (raw_name (desc st) st.work) st))
 unfolding enter
-enter-guard = record { is = λ st. ap (λ (c : Checked Bool). checked st c (nsert (lending (rawName (desc st) st.work) st))) (name-chain st) }
+enter-guard = record { is = λ st. ap (λ (c : Checked Bool). checked st c (nsert (lending (raw_name (desc st) st.work) st))) (name-chain st) }
 
-pub ask-guard : Guard ask hasState seek
+pub ask-guard : Guard ask has_state seek
 unfolding ask
 ask-guard = record { is = λ st. refl }
 
-pub next-guard : Guard next hasState adv
+pub next-guard : Guard next has_state adv
 unfolding next
 next-guard = record { is = λ st. refl }
 
-pub romanise-guard : (spelling : List ℕ) → Guard (romanise spelling) (spelledTests spelling) (λ st. move raw (spelled (desc st) spelling) st)
+pub romanise-guard : (spelling : List ℕ) → Guard (romanise spelling) (spelled_tests spelling) (λ st. move raw (spelled (desc st) spelling) st)
 unfolding romanise
 romanise-guard spelling = record { is = λ st. ap (λ (c : Checked Bool). checked st c (move raw (spelled (desc st) spelling) st)) (spelled-chain spelling st) }
 
-pub turn-guard : (from to : ℕ) → Guard (turn from to) nameTests (λ st. move from (turned (desc st) to) st)
+pub turn-guard : (from to : ℕ) → Guard (turn from to) name_tests (λ st. move from (turned (desc st) to) st)
 unfolding turn
 turn-guard from to = record { is = λ st. ap (λ (c : Checked Bool). checked st c (move from (turned (desc st) to) st)) (name-chain st) }
 
 -- ---- the moves' refusals, whatever their states and spellings
 
 module _ (s : code.Session) (f b w : List ℕ) (n : ℕ) (r : Answer) (e : r ≡ record { number = n; transfers = 0; session = s }) where
-  pub turn-refused : (from to : ℕ) → refusing n ≡ nameTests (given s f b w) → (n ≡ 0 → ⊥) → answered r f b w ≡ counted (turn from to (given s f b w))
+  pub turn-refused : (from to : ℕ) → refusing n ≡ name_tests (given s f b w) → (n ≡ 0 → ⊥) → answered r f b w ≡ counted (turn from to (given s f b w))
   turn-refused from to = guard-refused (turn-guard from to) s f b w n r e
 
-  pub romanise-refused : (spelling : List ℕ) → refusing n ≡ spelledTests spelling (given s f b w) → (n ≡ 0 → ⊥)
+  pub romanise-refused : (spelling : List ℕ) → refusing n ≡ spelled_tests spelling (given s f b w) → (n ≡ 0 → ⊥)
       → answered r f b w ≡ counted (romanise spelling (given s f b w))
   romanise-refused spelling = guard-refused (romanise-guard spelling) s f b w n r e
 
 pub romanise-passed : (s : code.Session) (f b w f₁ b₁ w₁ spelling : List ℕ) (n : ℕ) (r : Answer)
-    → answered r f₁ b₁ w₁ ≡ counted (move raw (spelled s.desc spelling) (given s f b w)) → refusing n ≡ spelledTests spelling (given s f b w) → n ≡ 0
+    → answered r f₁ b₁ w₁ ≡ counted (move raw (spelled s.desc spelling) (given s f b w)) → refusing n ≡ spelled_tests spelling (given s f b w) → n ≡ 0
     → answered r f₁ b₁ w₁ ≡ counted (romanise spelling (given s f b w))
 romanise-passed s f b w f₁ b₁ w₁ spelling n r = guard_passed (romanise-guard spelling) s f b w f₁ b₁ w₁ n r
 
 pub turn-passed : (s : code.Session) (f b w f₁ b₁ w₁ : List ℕ) (from to n : ℕ) (r : Answer)
-    → answered r f₁ b₁ w₁ ≡ counted (move from (turned s.desc to) (given s f b w)) → refusing n ≡ nameTests (given s f b w) → n ≡ 0
+    → answered r f₁ b₁ w₁ ≡ counted (move from (turned s.desc to) (given s f b w)) → refusing n ≡ name_tests (given s f b w) → n ≡ 0
     → answered r f₁ b₁ w₁ ≡ counted (turn from to (given s f b w))
 turn-passed s f b w f₁ b₁ w₁ from to n r = guard_passed (turn-guard from to) s f b w f₁ b₁ w₁ n r
 
 -- ---- asking and listing, whose one test is of the data word
 
-module _ {call rest : State → Outcome} (g : Guard call hasState rest) (s : code.Session) (f b w : List ℕ) (r : Answer) where
-  pub state-none : r ≡ record { number = wrongSize; transfers = 0; session = s } → s.desc.wpr ≤ s.desc.k
+module _ {call rest : State → Outcome} (g : Guard call has_state rest) (s : code.Session) (f b w : List ℕ) (r : Answer) where
+  pub state-none : r ≡ record { number = wrong_size; transfers = 0; session = s } → s.desc.wpr ≤ s.desc.k
       → answered r f b w ≡ counted (call (given s f b w))
-  unfolding hasState
+  unfolding has_state
   state-none e h =
-      guard-refused g s f b w wrongSize r e (ap (λ (t : Bool). require t wrongSize) (sym (le-ltb _ _ h))) (λ z. omega arith)
+      guard-refused g s f b w wrong_size r e (ap (λ (t : Bool). require t wrong_size) (sym (le-ltb _ _ h))) (λ z. omega arith)
 
   pub state-some : (f₁ b₁ w₁ : List ℕ) → answered r f₁ b₁ w₁ ≡ counted (rest (given s f b w)) → s.desc.k < s.desc.wpr
       → answered r f₁ b₁ w₁ ≡ counted (call (given s f b w))
-  unfolding hasState
-  state-some f₁ b₁ w₁ e h = guard_passed g s f b w f₁ b₁ w₁ 0 r e (ap (λ (t : Bool). require t wrongSize) (sym (lt-ltb _ _ h))) refl
+  unfolding has_state
+  state-some f₁ b₁ w₁ e h = guard_passed g s f b w f₁ b₁ w₁ 0 r e (ap (λ (t : Bool). require t wrong_size) (sym (lt-ltb _ _ h))) refl
 
 -- ---- entering: NSERT of the workspace with zeros behind its key
 
 pub enter-passed : (s : code.Session) (f b w f₁ b₁ w₁ : List ℕ) (n : ℕ) (r : Answer) → answered r f₁ b₁ w₁ ≡ counted (nsert (given s f b w₁))
-    → w₁ ≡ put w s.desc.k (zeros (s.desc.wpr - s.desc.k)) → refusing n ≡ nameTests (given s f b w) → n ≡ 0
+    → w₁ ≡ put w s.desc.k (zeros (s.desc.wpr - s.desc.k)) → refusing n ≡ name_tests (given s f b w) → n ≡ 0
     → answered r f₁ b₁ w₁ ≡ counted (enter (given s f b w))
 unfolding lending
 enter-passed s f b w f₁ b₁ w₁ n r e i h z =

@@ -8,20 +8,20 @@ use native.Mathlib.Omega.{arith}
 use borrow.Author.Tests.{eq-eqb, ne_eqb, not-true, not-false}
 use lib.Dec.{eqb}
 use lib.ListN.{length, get_or, set, length-append}
-use Rattle.numbers.specs.Numbers.{done, wrongKey, notAllowed}
+use Rattle.numbers.specs.Numbers.{done, wrong_key, not_allowed}
 use Rattle.numbers.specs.Checked.{Checked, passed, refused, ◌>>◌, require}
-use Rattle.words.specs.Words.{part, put, allWords}
+use Rattle.words.specs.Words.{part, put, all_words}
 use Rattle.words.proofs.Parts.{part-all}
 use Rattle.drum.specs.declared.Description.{Description}
-use Rattle.rules.specs.State.{State, Outcome, desc, keyIn}
+use Rattle.rules.specs.State.{State, Outcome, desc, key_in}
 use Rattle.rules.specs.Seek.{seek, updat}
 use Rattle.rules.specs.Requests.{lending}
 use Rattle.searchfile.specs.declared.Session as code
 use Rattle.searchfile.specs.declared.Answer.{Answer}
 use Rattle.searchfile.specs.Promise.{Counted, given, counted, answered}
-use Rattle.register.specs.Names.{romanised, onHold, spellingSize, name_of, state_of, spellingOf}
+use Rattle.register.specs.Names.{romanised, on_hold, spelling_size, name_of, state_of, spelling_of}
 use Rattle.register.specs.Register.{stopped, joined, sought, followed, move, spelled, turned, turn, hold, free}
-use Rattle.register.specs.Checks.{StateFits, SpellingFits, stoppedBy, after}
+use Rattle.register.specs.Checks.{StateFits, SpellingFits, stopped_by, after}
 use Rattle.register.proofs.Records.{spelled-written, turned-written}
 use Rattle.register.proofs.Costs.{seek-few}
 
@@ -40,7 +40,7 @@ module _ (from : ℕ) (st : State) where
   abbrev test : Bool
   test = eqb (seek st).number done && not (eqb (state_of (desc st) (seek st).after.work) from)
 
-  sought-is : (t : Bool) → test ≡ t → sought from st ≡ cond t (stopped notAllowed (seek st)) (seek st)
+  sought-is : (t : Bool) → test ≡ t → sought from st ≡ cond t (stopped not_allowed (seek st)) (seek st)
   unfolding sought
   sought-is t e = rw e
 
@@ -49,7 +49,7 @@ module _ (from : ℕ) (st : State) where
   unfolding stopped
   sought-few = rw (sought-is test refl) (go test)
     where
-      go : (t : Bool) → length (cond t (stopped notAllowed (seek st)) (seek st)).transfers ≤ 3
+      go : (t : Bool) → length (cond t (stopped not_allowed (seek st)) (seek st)).transfers ≤ 3
       go true = seek-few st
       go false = seek-few st
 
@@ -69,17 +69,17 @@ module _ (s : code.Session) (f b w f₁ b₁ w₁ : List ℕ) (from : ℕ) (a : 
     unfolding state_of
     state-is = sym (i ∙ ap (λ (y : List ℕ). get_or y s.desc.k 0) work-is)
 
-    other : (r : Answer) → r ≡ stoppedBy notAllowed a → (x ≡ from → ⊥) → answered r f₁ b₁ w₁ ≡ counted (sought from (given s f b w))
+    other : (r : Answer) → r ≡ stopped_by not_allowed a → (x ≡ from → ⊥) → answered r f₁ b₁ w₁ ≡ counted (sought from (given s f b w))
     unfolding stopped
     other r k h =
         (λ j. answered (k j) f₁ b₁ w₁)
-        ∙ (λ j. record { number = notAllowed; transfers = (e j).transfers; after = (e j).after })
+        ∙ (λ j. record { number = not_allowed; transfers = (e j).transfers; after = (e j).after })
         ∙ sym (ap counted (sought-is from (given s f b w) true (simp (eq-eqb _ _ (sym number_is ∙ z), ne_eqb _ _ (λ y. h (sym state-is ∙ y))))))
 
     pub sought-right : x ≡ from → answered a f₁ b₁ w₁ ≡ counted (sought from (given s f b w))
     sought-right h = e ∙ sym (ap counted (sought-is from (given s f b w) false (simp (eq-eqb _ _ (state-is ∙ h), and-false))))
 
-pub sought-other : (s : code.Session) (f b w f₁ b₁ w₁ : List ℕ) (from x : ℕ) (a r : Answer) → r ≡ stoppedBy notAllowed a
+pub sought-other : (s : code.Session) (f b w f₁ b₁ w₁ : List ℕ) (from x : ℕ) (a r : Answer) → r ≡ stopped_by not_allowed a
     → answered a f₁ b₁ w₁ ≡ counted (seek (given s f b w)) → a.number ≡ 0 → x ≡ get_or w₁ s.desc.k 0 → (x ≡ from → ⊥)
     → answered r f₁ b₁ w₁ ≡ counted (sought from (given s f b w))
 sought-other s f b w f₁ b₁ w₁ from x a r k e z i h = other s f b w f₁ b₁ w₁ from a e x z i r k h
@@ -106,7 +106,7 @@ module _ (s : code.Session) (f b w f₁ b₁ w₁ : List ℕ) (from : ℕ) (a : 
     pub move-missed : (a.number ≡ 0 → ⊥) → answered a f₁ b₁ w₁ ≡ counted (move from made (given s f b w))
     move-missed z = e ∙ sym (ap counted (move-is false (made w₁) (ne_eqb _ _ z) refl))
 
-    move-refused : (n : ℕ) (r : Answer) → made w₁ ≡ refused n → a.number ≡ 0 → r ≡ stoppedBy n a
+    move-refused : (n : ℕ) (r : Answer) → made w₁ ≡ refused n → a.number ≡ 0 → r ≡ stopped_by n a
         → answered r f₁ b₁ w₁ ≡ counted (move from made (given s f b w))
     unfolding followed stopped
     move-refused n r m z k =
@@ -155,14 +155,14 @@ romanised-done s f b w f₁ b₁ w₁ f₂ b₂ w₂ w₃ spelling from a r i p�
 -- ---- holding and freeing: t is the test of the record's own spelling
 
 module _ (s : code.Session) (f b w f₁ b₁ w₁ : List ℕ) (from to : ℕ) (t : Bool) (a : Answer) (e : answered a f₁ b₁ w₁ ≡ counted (sought from (given s f b w)))
-    (i : t ≡ allWords (part (s.desc.k + 1) (s.desc.wpr - s.desc.k - 1) w₁)) (z : a.number ≡ 0) where
+    (i : t ≡ all_words (part (s.desc.k + 1) (s.desc.wpr - s.desc.k - 1) w₁)) (z : a.number ≡ 0) where
   -- what they make of the record found, by that test
-  own_is : (x : Bool) → t ≡ x → turned s.desc to w₁ ≡ require x wrongKey >> passed (name_of (keyIn s.desc w₁) to (spellingOf s.desc w₁))
-  unfolding turned spellingOf
-  own_is x q = ap (λ (y : Bool). require y wrongKey >> passed (name_of (keyIn s.desc w₁) to (spellingOf s.desc w₁))) (sym i ∙ q)
+  own_is : (x : Bool) → t ≡ x → turned s.desc to w₁ ≡ require x wrong_key >> passed (name_of (key_in s.desc w₁) to (spelling_of s.desc w₁))
+  unfolding turned spelling_of
+  own_is x q = ap (λ (y : Bool). require y wrong_key >> passed (name_of (key_in s.desc w₁) to (spelling_of s.desc w₁))) (sym i ∙ q)
 
-  bad : (r : Answer) → r ≡ stoppedBy wrongKey a → not t ≡ true → answered r f₁ b₁ w₁ ≡ counted (move from (turned s.desc to) (given s f b w))
-  bad r k q = move-refused s f b w f₁ b₁ w₁ from a e (turned s.desc to) wrongKey r (own_is false (not-true t q)) z k
+  bad : (r : Answer) → r ≡ stopped_by wrong_key a → not t ≡ true → answered r f₁ b₁ w₁ ≡ counted (move from (turned s.desc to) (given s f b w))
+  bad r k q = move-refused s f b w f₁ b₁ w₁ from a e (turned s.desc to) wrong_key r (own_is false (not-true t q)) z k
 
   made : (f₂ b₂ w₂ : List ℕ) (r : Answer) → answered r f₂ b₂ w₂ ≡ after a.transfers (updat (given a.session f₁ b₁ w₂))
       → w₂ ≡ set w₁ s.desc.k to → not t ≡ false → StateFits s.desc w → length w₁ ≡ length w
@@ -172,27 +172,27 @@ module _ (s : code.Session) (f b w f₁ b₁ w₁ : List ℕ) (from to : ℕ) (t
       let m = own_is true (not-false t q) ∙ ap passed (sym (p₂ ∙ turned-written s.desc w₁ v to)) in
       move-made s f b w f₁ b₁ w₁ from a e (turned s.desc to) f₂ b₂ w₂ r m z j
 
-pub kept-bad : (s : code.Session) (f b w f₁ b₁ w₁ : List ℕ) (from to : ℕ) (t : Bool) (a r : Answer) → r ≡ stoppedBy wrongKey a
+pub kept-bad : (s : code.Session) (f b w f₁ b₁ w₁ : List ℕ) (from to : ℕ) (t : Bool) (a r : Answer) → r ≡ stopped_by wrong_key a
     → answered a f₁ b₁ w₁ ≡ counted (sought from (given s f b w)) → a.number ≡ 0
-    → t ≡ allWords (part (s.desc.k + 1) (s.desc.wpr - s.desc.k - 1) w₁) → not t ≡ true
+    → t ≡ all_words (part (s.desc.k + 1) (s.desc.wpr - s.desc.k - 1) w₁) → not t ≡ true
     → answered r f₁ b₁ w₁ ≡ counted (move from (turned s.desc to) (given s f b w))
 kept-bad s f b w f₁ b₁ w₁ from to t a r k e z i q = bad s f b w f₁ b₁ w₁ from to t a e i z r k q
 
 pub kept-done : (s : code.Session) (f b w f₁ b₁ w₁ f₂ b₂ w₂ : List ℕ) (from to : ℕ) (t : Bool) (a r : Answer)
     → answered r f₂ b₂ w₂ ≡ after a.transfers (updat (given a.session f₁ b₁ w₂))
     → w₂ ≡ set w₁ s.desc.k to → answered a f₁ b₁ w₁ ≡ counted (sought from (given s f b w)) → a.number ≡ 0
-    → t ≡ allWords (part (s.desc.k + 1) (s.desc.wpr - s.desc.k - 1) w₁) → not t ≡ false → StateFits s.desc w → length w₁ ≡ length w
+    → t ≡ all_words (part (s.desc.k + 1) (s.desc.wpr - s.desc.k - 1) w₁) → not t ≡ false → StateFits s.desc w → length w₁ ≡ length w
     → answered r f₂ b₂ w₂ ≡ counted (move from (turned s.desc to) (given s f b w))
 kept-done s f b w f₁ b₁ w₁ f₂ b₂ w₂ from to t a r j p₂ e z i q y l = made s f b w f₁ b₁ w₁ from to t a e i z f₂ b₂ w₂ r j p₂ q y l
 
 -- ---- the two by their states
 
-pub hold-is : (s : code.Session) (f b w f₁ b₁ w₁ : List ℕ) (r : Answer) → answered r f₁ b₁ w₁ ≡ counted (turn romanised onHold (given s f b w))
+pub hold-is : (s : code.Session) (f b w f₁ b₁ w₁ : List ℕ) (r : Answer) → answered r f₁ b₁ w₁ ≡ counted (turn romanised on_hold (given s f b w))
     → answered r f₁ b₁ w₁ ≡ counted (hold (given s f b w))
 unfolding hold
 hold-is s f b w f₁ b₁ w₁ r e = e
 
-pub free-is : (s : code.Session) (f b w f₁ b₁ w₁ : List ℕ) (r : Answer) → answered r f₁ b₁ w₁ ≡ counted (turn onHold romanised (given s f b w))
+pub free-is : (s : code.Session) (f b w f₁ b₁ w₁ : List ℕ) (r : Answer) → answered r f₁ b₁ w₁ ≡ counted (turn on_hold romanised (given s f b w))
     → answered r f₁ b₁ w₁ ≡ counted (free (given s f b w))
 unfolding free
 free-is s f b w f₁ b₁ w₁ r e = e

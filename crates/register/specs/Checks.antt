@@ -1,27 +1,27 @@
 -- What the code of the register tests before it calls the routine, what its moves may rely on, and the form of their promises.
 use Rattle.std.specs.Prelude.{ℕ, ◌+◌, ◌≤◌, ◌<◌, ◌≡◌, Bool, List, eqb, ltb, length}
-use Rattle.numbers.specs.Numbers.{wrongSize, wrongKey}
+use Rattle.numbers.specs.Numbers.{wrong_size, wrong_key}
 use Rattle.numbers.specs.Checked.{Checked, passed, refused, ◌>>=◌, ◌>>◌, require}
-use Rattle.words.specs.Words.{allWords}
+use Rattle.words.specs.Words.{all_words}
 use Rattle.drum.specs.declared.Description.{Description}
 use Rattle.rules.specs.State.{Outcome}
 use Rattle.searchfile.specs.declared.Answer.{Answer}
 use Rattle.searchfile.specs.Promise.{Counted}
-use Rattle.face.specs.Checks.{keyedChecks}
-use Rattle.register.specs.Names.{spellingSize}
+use Rattle.face.specs.Checks.{keyed_checks}
+use Rattle.register.specs.Names.{spelling_size}
 
 -- 020007, 020005, 030001: of a call on a name [G10, G12]
-unfoldable pub nameChecks : Description → Bool → ℕ → ℕ → List ℕ → Checked Bool
-nameChecks p opened file buffer work = do
-  require (ltb p.k p.wpr) wrongSize
-  keyedChecks p opened file buffer work p.k
+unfoldable pub name_checks : Description → Bool → ℕ → ℕ → List ℕ → Checked Bool
+name_checks p opened file buffer work = do
+  require (ltb p.k p.wpr) wrong_size
+  keyed_checks p opened file buffer work p.k
 
 -- the same where a spelling is given [G11, G12]
-unfoldable pub spelledChecks : Description → Bool → ℕ → ℕ → List ℕ → List ℕ → Checked Bool
-spelledChecks p opened file buffer work spelling = do
-  require (eqb (length spelling) (spellingSize p)) wrongSize
-  nameChecks p opened file buffer work
-  require (allWords spelling) wrongKey
+unfoldable pub spelled_checks : Description → Bool → ℕ → ℕ → List ℕ → List ℕ → Checked Bool
+spelled_checks p opened file buffer work spelling = do
+  require (eqb (length spelling) (spelling_size p)) wrong_size
+  name_checks p opened file buffer work
+  require (all_words spelling) wrong_key
 
 -- the workspace is a record with a key of 1..63 words and a data word
 pub record StateFits (p : Description) (work : List ℕ) : Type 0 where
@@ -32,11 +32,11 @@ pub record StateFits (p : Description) (work : List ℕ) : Type 0 where
 -- and the spelling is as long as the record's
 pub record SpellingFits (p : Description) (work spelling : List ℕ) : Type 0 where
   pub state : StateFits p work
-  pub as_long : length spelling ≡ spellingSize p
+  pub as_long : length spelling ≡ spelling_size p
 
 -- another number for an answer
-abbrev pub stoppedBy : ℕ → Answer → Answer
-stoppedBy n a = record { number = n; transfers = a.transfers; session = a.session }
+abbrev pub stopped_by : ℕ → Answer → Answer
+stopped_by n a = record { number = n; transfers = a.transfers; session = a.session }
 
 -- an outcome as a caller can see it after so many transfers [T3]
 abbrev pub after : ℕ → Outcome → Counted

@@ -13,12 +13,12 @@ abbrev pub romanised : ℕ
 romanised = 1
 
 -- "2 held" [G2]
-abbrev pub onHold : ℕ
-onHold = 2
+abbrev pub on_hold : ℕ
+on_hold = 2
 
 -- the words of a spelling: those of a record behind its key and its state [G2]
-abbrev pub spellingSize : Description → ℕ
-spellingSize p = p.wpr - p.k - 1
+abbrev pub spelling_size : Description → ℕ
+spelling_size p = p.wpr - p.k - 1
 
 -- a record: key, state, spelling [G2]
 unfoldable pub name_of : List ℕ → ℕ → List ℕ → List ℕ
@@ -29,5 +29,5 @@ unfoldable pub state_of : Description → List ℕ → ℕ
 state_of p r = get_or r p.k 0
 
 -- the spelling of a record: "the rest" [G2]
-unfoldable pub spellingOf : Description → List ℕ → List ℕ
-spellingOf p r = part (p.k + 1) (spellingSize p) r
+unfoldable pub spelling_of : Description → List ℕ → List ℕ
+spelling_of p r = part (p.k + 1) (spelling_size p) r

@@ -1,8 +1,8 @@
 // The moves of a name: SEEK, the test of its state, and UPDAT with the new record.
 ghost use Rattle.std.specs.Prelude.{◌≡◌, ◌<◌, ◌≤◌, length};
 ghost use Rattle.searchfile.specs.Promise.{given, counted, answered};
-ghost use Rattle.register.specs.Register.{sought as soughtIn, move, spelled, turned as own, turn};
-ghost use Rattle.register.specs.Checks.{StateFits, SpellingFits, stoppedBy, after};
+ghost use Rattle.register.specs.Register.{sought as sought_in, move, spelled, turned as own, turn};
+ghost use Rattle.register.specs.Checks.{StateFits, SpellingFits, stopped_by, after};
 ghost use Rattle.rules.specs.Seek.{updat};
 ghost use Rattle.words.specs.Slices.{was, became};
 
@@ -13,7 +13,7 @@ use searchfile::{Answer, Session};
 
 // Another number for what SEEK did.
 fn stopped(found: Answer, number: u32) -> Answer
-    ensures { result ≡ stoppedBy number found }
+    ensures { result ≡ stopped_by number found }
 {
     let session = found.session;
     Answer {
@@ -33,7 +33,7 @@ fn sought(
 ) -> Answer
     requires { StateFits session.desc work.old }
     ensures { answered result (became file) (became buffer) (became work)
-        ≡ counted (soughtIn from (given session (was file) (was buffer) (was work))) }
+        ≡ counted (sought_in from (given session (was file) (was buffer) (was work))) }
 {
     let k = session.desc.k;
     let found = session.seek(file, buffer, work);

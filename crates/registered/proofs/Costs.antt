@@ -7,26 +7,26 @@ use native.Mathlib.Omega.{arith}
 use borrow.Author.Tests.{eqb-true, lt-ltb}
 use lib.Dec.{eqb, ltb}
 use lib.ListN.{length}
-use Rattle.numbers.specs.Numbers.{done, notAllowed, wrongSize, isClosed, wrongKey}
+use Rattle.numbers.specs.Numbers.{done, not_allowed, wrong_size, is_closed, wrong_key}
 use Rattle.numbers.specs.Checked.{Checked, passed, refused, ◌>>◌, require}
 use Rattle.numbers.proofs.Passed.{Passed, clash, by-passed, by-then}
-use Rattle.words.specs.Words.{part, allWords}
-use Rattle.words.specs.Keys.{isOnes}
+use Rattle.words.specs.Words.{part, all_words}
+use Rattle.words.specs.Keys.{is_ones}
 use Rattle.drum.specs.Blocks.{Transfer}
 use Rattle.drum.specs.Params.{sized}
-use Rattle.rules.specs.State.{State, Effect, Outcome, desc, texts, keyIn, settle, unchanged}
-use Rattle.rules.specs.Checks.{sizesOk, workOk, isOpen, keyOk}
-use Rattle.rules.specs.Seek.{seek, seekSteps, updat}
+use Rattle.rules.specs.State.{State, Effect, Outcome, desc, texts, key_in, settle, unchanged}
+use Rattle.rules.specs.Checks.{sizes_ok, work_ok, is_open, key_ok}
+use Rattle.rules.specs.Seek.{seek, seek_steps, updat}
 use Rattle.rules.specs.Requests.{seeking, lending, given, answer}
 use Rattle.demands.proofs.Mission.{first}
-use Rattle.register.specs.Names.{raw, romanised, onHold, spellingSize, state_of, spellingOf}
-use Rattle.register.specs.Register.{hasState, nameOk, spelledOk, checked, stopped, joined, sought, followed}
+use Rattle.register.specs.Names.{raw, romanised, on_hold, spelling_size, state_of, spelling_of}
+use Rattle.register.specs.Register.{has_state, name_ok, spelled_ok, checked, stopped, joined, sought, followed}
 use Rattle.register.specs.Register.{move, spelled, turned, turn, ask, romanise, hold, free}
 use Rattle.register.specs.Checks.{StateFits}
 use Rattle.register.proofs.Refusing.{name-ok}
 use Rattle.register.proofs.Records.{key-read, key-long}
 use Rattle.registered.specs.Deeds.{did}
-use Rattle.registered.specs.Costs.{canSpell, MoveFree}
+use Rattle.registered.specs.Costs.{can_spell, MoveFree}
 use Rattle.registered.proofs.Runs.{sought-after}
 use Rattle.registered.proofs.Steps.{sought-done}
 use Rattle.registered.proofs.Again.{seek-brings, updat-free}
@@ -37,7 +37,7 @@ sought-moves : (from : ℕ) (st : State) → (sought from st).transfers ≡ (see
 unfolding sought stopped
 sought-moves from st = go (eqb (seek st).number done && not (eqb (state_of (desc st) (seek st).after.work) from))
   where
-    go : (t : Bool) → (cond t (stopped notAllowed (seek st)) (seek st)).transfers ≡ (seek st).transfers
+    go : (t : Bool) → (cond t (stopped not_allowed (seek st)) (seek st)).transfers ≡ (seek st).transfers
     go true = refl
     go false = refl
 
@@ -49,9 +49,9 @@ module _ (st : State) (fit : StateFits (desc st) st.work) where
 
   -- a record with the key of the one found
   abbrev SameName : List ℕ → Type 0
-  SameName s = keyIn (desc st) s ≡ keyIn (desc st) found
+  SameName s = key_in (desc st) s ≡ key_in (desc st) found
 
-  pub found-long : length (keyIn (desc st) found) ≡ (desc st).k
+  pub found-long : length (key_in (desc st) found) ≡ (desc st).k
   unfolding answer given lending
   found-long =
       key-long (desc st) found
@@ -59,13 +59,13 @@ module _ (st : State) (fit : StateFits (desc st) st.work) where
 
   pub spelled-name : (x : List ℕ) → Passed SameName (spelled (desc st) x found)
   unfolding spelled
-  spelled-name x = by-passed _ (key-read (desc st) (keyIn (desc st) found) romanised x found-long)
+  spelled-name x = by-passed _ (key-read (desc st) (key_in (desc st) found) romanised x found-long)
 
   pub turned-name : (to : ℕ) → Passed SameName (turned (desc st) to found)
   unfolding turned
   turned-name to =
-      by-then (require (allWords (spellingOf (desc st) found)) wrongKey) _
-      (λ a e. by-passed _ (key-read (desc st) (keyIn (desc st) found) to (spellingOf (desc st) found) found-long))
+      by-then (require (all_words (spelling_of (desc st) found)) wrong_key) _
+      (λ a e. by-passed _ (key-read (desc st) (key_in (desc st) found) to (spelling_of (desc st) found) found-long))
 
   move-cost : (from : ℕ) (made : List ℕ → Checked (List ℕ)) → Passed SameName (made found) → (move from made st).transfers ≡ (seek st).transfers
   unfolding move followed joined stopped
@@ -78,7 +78,7 @@ module _ (st : State) (fit : StateFits (desc st) st.work) where
       free-after w z e =
           let b = seek-brings st (omega arith) (sought-done from st z).0 in
           subst (λ (u : State). (updat (lending w u)).transfers ≡ []) (sym (sought-after from st))
-          (updat-free (desc st) (keyIn (desc st) st.work) w (seek st).after b (good.holds w e ∙ b.key-is))
+          (updat-free (desc st) (key_in (desc st) st.work) w (seek st).after b (good.holds w e ∙ b.key-is))
 
       go : (t : Bool) → eqb (sought from st).number done ≡ t → (c : Checked (List ℕ)) → made (sought from st).after.work ≡ c
           → (cond t (followed (sought from st) c) (sought from st)).transfers ≡ (seek st).transfers
@@ -101,24 +101,24 @@ refused-is a b e = ap of e
     of (passed x) = 0
 
 -- asking refuses what a move refuses, by the same number
-pub ask-refused : (st : State) (n : ℕ) → nameOk st ≡ refused n → ask st ≡ unchanged st n
-unfolding nameOk ask checked hasState seek sizesOk workOk isOpen keyOk settle
+pub ask-refused : (st : State) (n : ℕ) → name_ok st ≡ refused n → ask st ≡ unchanged st n
+unfolding name_ok ask checked has_state seek sizes_ok work_ok is_open key_ok settle
 ask-refused st n e =
     go
     (ltb (desc st).k (desc st).wpr)
     (sized (desc st) (length st.file) (length st.buffer))
     (eqb (length st.work) (desc st).wpr)
     st.session.opened
-    (allWords (part 0 (desc st).k st.work) && not (isOnes (keyIn (desc st) st.work)))
+    (all_words (part 0 (desc st).k st.work) && not (is_ones (key_in (desc st) st.work)))
     e
   where
     c : Checked Effect
-    c = seekSteps (texts st) st.session.flag st.work
+    c = seek_steps (texts st) st.session.flag st.work
 
     go : (h s w o k : Bool)
-        → require h wrongSize >> (require s wrongSize >> (require w wrongSize >> (require o isClosed >> require k wrongKey))) ≡ refused n
-        → checked st (require h wrongSize)
-        (settle st (require s wrongSize >> (require w wrongSize >> (require o isClosed >> (require k wrongKey >> c)))))
+        → require h wrong_size >> (require s wrong_size >> (require w wrong_size >> (require o is_closed >> require k wrong_key))) ≡ refused n
+        → checked st (require h wrong_size)
+        (settle st (require s wrong_size >> (require w wrong_size >> (require o is_closed >> (require k wrong_key >> c)))))
         ≡ unchanged st n
     go false s w o k e = ap (unchanged st) (refused-is _ _ e)
     go true false w o k e = ap (unchanged st) (refused-is _ _ e)
@@ -128,8 +128,8 @@ ask-refused st n e =
     go true true true true true e = clash n true (sym e)
 
 pub ask-passed : (st : State) → StateFits (desc st) st.work → ask st ≡ seek st
-unfolding ask checked hasState
-ask-passed st fit = ap (λ (t : Bool). checked st (require t wrongSize) (seek st)) (lt-ltb (desc st).k (desc st).wpr fit.data-word)
+unfolding ask checked has_state
+ask-passed st fit = ap (λ (t : Bool). checked st (require t wrong_size) (seek st)) (lt-ltb (desc st).k (desc st).wpr fit.data-word)
 
 -- ---- the moves
 
@@ -140,22 +140,22 @@ module _ (st : State) where
 
   turn-free : (from to : ℕ) → (turn from to st).transfers ≡ (ask st).transfers
   unfolding turn checked
-  turn-free from to = go (nameOk st) refl
+  turn-free from to = go (name_ok st) refl
     where
-      go : (c : Checked Bool) → nameOk st ≡ c → (checked st c (move from (turned (desc st) to) st)).transfers ≡ (ask st).transfers
+      go : (c : Checked Bool) → name_ok st ≡ c → (checked st c (move from (turned (desc st) to) st)).transfers ≡ (ask st).transfers
       go (refused n) e = ap (λ (o : Outcome). o.transfers) (sym (ask-refused st n e))
       go (passed x) e = let fit = name-ok st x e in as-asked from (turned (desc st) to) fit (turned-name st fit to)
 
-  romanise-free : (x : List ℕ) → (romanise x st).transfers ≡ cond (canSpell (desc st) x) (ask st).transfers []
-  unfolding romanise spelledOk checked canSpell
-  romanise-free x = go (eqb (length x) (spellingSize (desc st))) (allWords x) (nameOk st) refl
+  romanise-free : (x : List ℕ) → (romanise x st).transfers ≡ cond (can_spell (desc st) x) (ask st).transfers []
+  unfolding romanise spelled_ok checked can_spell
+  romanise-free x = go (eqb (length x) (spelling_size (desc st))) (all_words x) (name_ok st) refl
     where
       none : (b : Bool) → (ask st).transfers ≡ [] → [] ≡ cond b (ask st).transfers []
       none true e = sym e
       none false e = refl
 
-      go : (a b : Bool) (c : Checked Bool) → nameOk st ≡ c
-          → (checked st (require a wrongSize >> (c >> require b wrongKey)) (move raw (spelled (desc st) x) st)).transfers ≡ cond (a && b) (ask st).transfers []
+      go : (a b : Bool) (c : Checked Bool) → name_ok st ≡ c
+          → (checked st (require a wrong_size >> (c >> require b wrong_key)) (move raw (spelled (desc st) x) st)).transfers ≡ cond (a && b) (ask st).transfers []
       go false b c e = refl
       go true b (refused n) e = none b (ap (λ (o : Outcome). o.transfers) (ask-refused st n e))
       go true false (passed y) e = refl
@@ -164,7 +164,7 @@ module _ (st : State) where
 pub move-free : (st : State) (work : List ℕ) → MoveFree st work
 unfolding did hold free lending
 move-free st work = record {
-  holds = turn-free (lending work st) romanised onHold;
-  frees = turn-free (lending work st) onHold romanised;
+  holds = turn-free (lending work st) romanised on_hold;
+  frees = turn-free (lending work st) on_hold romanised;
   romanises = λ spelling. romanise-free (lending work st) spelling;
 }

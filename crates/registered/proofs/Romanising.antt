@@ -6,24 +6,24 @@ use mathlib.Core.List.{List, [], ◌∷◌, ◌++◌}
 use native.Mathlib.Omega.{arith}
 use borrow.Author.Tests.{eqb-true, eq-eqb}
 use lib.Dec.{eqb}
-use Rattle.numbers.specs.Numbers.{done, wrongSize, isClosed, wrongKey, accepted}
+use Rattle.numbers.specs.Numbers.{done, wrong_size, is_closed, wrong_key, accepted}
 use Rattle.numbers.specs.Checked.{Checked, passed, refused, ◌>>◌, require}
-use Rattle.words.specs.Keys.{sameKey}
-use Rattle.words.proofs.Keys.{sameKey-eq}
+use Rattle.words.specs.Keys.{same_key}
+use Rattle.words.proofs.Keys.{same_key-eq}
 use Rattle.drum.specs.declared.Description.{Description}
 use Rattle.layout.specs.Holds.{All}
-use Rattle.rules.specs.State.{State, desc, keyIn}
-use Rattle.rules.specs.Checks.{sizesOk, workOk, isOpen, keyOk}
+use Rattle.rules.specs.State.{State, desc, key_in}
+use Rattle.rules.specs.Checks.{sizes_ok, work_ok, is_open, key_ok}
 use Rattle.rules.specs.Seek.{seek, updat}
 use Rattle.rules.specs.Requests.{lending, answer, left}
 use Rattle.demands.specs.Story.{deed_of, deeds, stands, replaced, in_place}
 use Rattle.demands.specs.Story as story
-use Rattle.register.specs.Names.{raw, romanised, name_of, state_of, spellingOf}
-use Rattle.register.specs.Register.{hasState, nameOk, spelledOk, checked, joined, sought, followed, move, spelled, romanise}
+use Rattle.register.specs.Names.{raw, romanised, name_of, state_of, spelling_of}
+use Rattle.register.specs.Register.{has_state, name_ok, spelled_ok, checked, joined, sought, followed, move, spelled, romanise}
 use Rattle.register.specs.Checks.{SpellingFits}
 use Rattle.register.proofs.Refusing.{spelled-ok}
 use Rattle.register.proofs.Records.{key-read, state-read, spelling-read, key-long}
-use Rattle.registered.specs.Deeds.{Deed, romanising, ifPassed, toUpdate, moving, requestsOf, requests}
+use Rattle.registered.specs.Deeds.{Deed, romanising, if_passed, to_update, moving, requests_of, requests}
 use Rattle.registered.specs.Kept.{Registers, Step, stays, enters, moves, RomanisedAs, RawZero}
 use Rattle.registered.proofs.Runs.{sought-after, deeds-append, stands-append}
 use Rattle.registered.proofs.Tells.{Tells, onward, tells-on}
@@ -48,23 +48,23 @@ then-refuses : (a b : Checked Bool) → Refuses a → Refuses b → Refuses (a >
 then-refuses (refused n) b h k = record { some = λ m e z. h.some m e z }
 then-refuses (passed x) b h k = k
 
-size-no : (t : Bool) → Refuses (require t wrongSize)
-size-no t = test-refuses t wrongSize (λ z. omega arith)
+size-no : (t : Bool) → Refuses (require t wrong_size)
+size-no t = test-refuses t wrong_size (λ z. omega arith)
 
-closed-no : (t : Bool) → Refuses (require t isClosed)
-closed-no t = test-refuses t isClosed (λ z. omega arith)
+closed-no : (t : Bool) → Refuses (require t is_closed)
+closed-no t = test-refuses t is_closed (λ z. omega arith)
 
-key-no : (t : Bool) → Refuses (require t wrongKey)
-key-no t = test-refuses t wrongKey (λ z. omega arith)
+key-no : (t : Bool) → Refuses (require t wrong_key)
+key-no t = test-refuses t wrong_key (λ z. omega arith)
 
 ruleset tests = (then-refuses, size-no, closed-no, key-no)
 
-pub name-refuses : (st : State) → Refuses (nameOk st)
-unfolding nameOk hasState sizesOk workOk isOpen keyOk
+pub name-refuses : (st : State) → Refuses (name_ok st)
+unfolding name_ok has_state sizes_ok work_ok is_open key_ok
 name-refuses st = search tests depth 9
 
-spelled-refuses : (x : List ℕ) (st : State) → Refuses (spelledOk x st)
-unfolding spelledOk
+spelled-refuses : (x : List ℕ) (st : State) → Refuses (spelled_ok x st)
+unfolding spelled_ok
 spelled-refuses x st = search (tests, name-refuses) depth 9
 
 -- the move was begun on a raw name
@@ -79,9 +79,9 @@ move-done from made st z = go (eqb (sought from st).number done) refl z
 
 romanised-done : (x : List ℕ) (st : State) → (romanise x st).number ≡ done → ((seek st).number ≡ done) × (state_of (desc st) (seek st).after.work ≡ raw)
 unfolding romanise checked
-romanised-done x st z = go (spelledOk x st) refl z
+romanised-done x st z = go (spelled_ok x st) refl z
   where
-    go : (c : Checked Bool) → spelledOk x st ≡ c → (checked st c (move raw (spelled (desc st) x) st)).number ≡ done
+    go : (c : Checked Bool) → spelled_ok x st ≡ c → (checked st c (move raw (spelled (desc st) x) st)).number ≡ done
         → ((seek st).number ≡ done) × (state_of (desc st) (seek st).after.work ≡ raw)
     go (refused n) e z = absurd ((spelled-refuses x st).some n e z)
     go (passed y) e z = sought-done raw st (move-done raw (spelled (desc st) x) st z)
@@ -96,8 +96,8 @@ moving-tells from made v w s z e n =
     let after = (seek (lending w v)).after in
     let a : accepted (updat (lending s after)).number ≡ true
     = ap (λ (x : State). accepted (updat (lending s x)).number) (sym (sought-after from (lending w v))) ∙ ap accepted n in
-    ap (λ (t : Bool). deeds after (cond t (toUpdate (made o.after.work)) [])) (eq-eqb o.number done z)
-    ∙ ap (λ (c : Checked (List ℕ)). deeds after (toUpdate c)) e
+    ap (λ (t : Bool). deeds after (cond t (to_update (made o.after.work)) [])) (eq-eqb o.number done z)
+    ∙ ap (λ (c : Checked (List ℕ)). deeds after (to_update c)) e
     ∙ ap (λ (t : Bool). cond t (replaced s ∷ []) [] ++ []) a
 
 move-updates : (from : ℕ) (made : List ℕ → Checked (List ℕ)) (st : State) (s : List ℕ) → (move from made st).number ≡ done
@@ -112,10 +112,10 @@ move-updates from made st s z e =
     ∙ z
 
 romanise-tells : (v : State) (w x : List ℕ) → (romanise x (lending w v)).number ≡ done
-    → (SpellingFits (desc v) w x) × (deeds v (requestsOf v (romanising w x))
-    ≡ replaced (name_of (keyIn (desc v) (seek (lending w v)).after.work) romanised x) ∷ [])
-unfolding romanise checked requestsOf lending
-romanise-tells v w x z = go (spelledOk x (lending w v)) refl z
+    → (SpellingFits (desc v) w x) × (deeds v (requests_of v (romanising w x))
+    ≡ replaced (name_of (key_in (desc v) (seek (lending w v)).after.work) romanised x) ∷ [])
+unfolding romanise checked requests_of lending
+romanise-tells v w x z = go (spelled_ok x (lending w v)) refl z
   where
     st : State
     st = lending w v
@@ -124,17 +124,17 @@ romanise-tells v w x z = go (spelledOk x (lending w v)) refl z
     made = spelled (desc v) x
 
     s : List ℕ
-    s = name_of (keyIn (desc v) (sought raw st).after.work) romanised x
+    s = name_of (key_in (desc v) (sought raw st).after.work) romanised x
 
-    same : s ≡ name_of (keyIn (desc v) (seek st).after.work) romanised x
-    same = ap (λ (y : State). name_of (keyIn (desc v) y.work) romanised x) (sought-after raw st)
+    same : s ≡ name_of (key_in (desc v) (seek st).after.work) romanised x
+    same = ap (λ (y : State). name_of (key_in (desc v) y.work) romanised x) (sought-after raw st)
 
     is : made (sought raw st).after.work ≡ passed s
     is = unfold spelled in refl
 
-    go : (c : Checked Bool) → spelledOk x st ≡ c → (checked st c (move raw made st)).number ≡ done
-        → (SpellingFits (desc v) w x) × (deeds v (ifPassed c (moving raw made w v))
-        ≡ replaced (name_of (keyIn (desc v) (seek st).after.work) romanised x) ∷ [])
+    go : (c : Checked Bool) → spelled_ok x st ≡ c → (checked st c (move raw made st)).number ≡ done
+        → (SpellingFits (desc v) w x) × (deeds v (if_passed c (moving raw made w v))
+        ≡ replaced (name_of (key_in (desc v) (seek st).after.work) romanised x) ∷ [])
     go (refused n) e z = absurd ((spelled-refuses x st).some n e z)
     go (passed y) e z = (
       spelled-ok x st y e,
@@ -148,18 +148,18 @@ unfolding in_place
 in-place-one s r = refl
 
 pub romanises-here : (v : State) (now : List ℕ → List (List ℕ)) → Tells (desc v) v now → (w x : List ℕ) → (romanise x (lending w v)).number ≡ done
-    → RomanisedAs (desc v) (now (keyIn (desc v) w)) (stands (desc v) (keyIn (desc v) w) (deeds v (requestsOf v (romanising w x))) (now (keyIn (desc v) w))) x
+    → RomanisedAs (desc v) (now (key_in (desc v) w)) (stands (desc v) (key_in (desc v) w) (deeds v (requests_of v (romanising w x))) (now (key_in (desc v) w))) x
 unfolding stands
 romanises-here v now t w x y =
     let p = desc v in
-    let key = keyIn p w in
+    let key = key_in p w in
     let r = (seek (lending w v)).after.work in
     let d : ((seek (lending w v)).number ≡ done) × (state_of p r ≡ raw) = unfold lending in romanised-done x (lending w v) y in
     let n = seek-now v now t w d.0 in
     let (f, e) = romanise-tells v w x y in
-    let s = name_of (keyIn p r) romanised x in
+    let s = name_of (key_in p r) romanised x in
     let l = key-long p r (found-fits v now t w f.state) in
-    let i : sameKey (keyIn p s) key ≡ true = sameKey-eq (keyIn p s) key (key-read p (keyIn p r) romanised x l ∙ found-key v now t w r n) in
+    let i : same_key (key_in p s) key ≡ true = same_key-eq (key_in p s) key (key-read p (key_in p r) romanised x l ∙ found-key v now t w r n) in
     record {
       before = r;
       after = s;
@@ -170,15 +170,15 @@ romanises-here v now t w x y =
           ∙ ap (in_place s) n
           ∙ in-place-one s r;
       was-raw = d.1;
-      is-romanised = state-read p (keyIn p r) romanised x l;
-      is_spelled = spelling-read p (keyIn p r) romanised x l f.as_long;
+      is-romanised = state-read p (key_in p r) romanised x l;
+      is_spelled = spelling-read p (key_in p r) romanised x l f.as_long;
     }
 
 -- ---- raw is zero
 
 step-zero : (p : Description) (was now : List (List ℕ)) → RawZero p was → Step p was now → RawZero p now
 step-zero p was now z (stays e) r n a = z r (sym e ∙ n) a
-step-zero p was now z (enters s e m b c) r n a = ap (spellingOf p) (one-is r s (sym n ∙ m)) ∙ c
+step-zero p was now z (enters s e m b c) r n a = ap (spelling_of p) (one-is r s (sym n ∙ m)) ∙ c
 step-zero p was now z (moves q s e m v) r n a = absurd (moved-raw p q s v (ap (state_of p) (one-is s r (sym m ∙ n)) ∙ a))
 
 pub run-zero : (p : Description) (ds : List Deed) (u : State) (now : List ℕ → List (List ℕ)) → Tells p u now → (key : List ℕ) → RawZero p (now key)
@@ -187,7 +187,7 @@ pub run-zero : (p : Description) (ds : List Deed) (u : State) (now : List ℕ �
 unfolding requests deeds stands All
 run-zero p [] u now h key z g = z
 run-zero p (d ∷ ds) u now h key z g =
-    let qs = requestsOf u d in
+    let qs = requests_of u d in
     let v = left u qs in
     let a = step-zero p (now key) (stands p key (deeds u qs) (now key)) z (told-step p key now (deeds u qs) (told_of p u now h d g.0)) in
     let b = run-zero p ds v (onward p u qs now) (tells-on p u now h qs) key a g.1 in

@@ -7,15 +7,15 @@ use mathlib.Core.List.{List, [], ◌∷◌, ◌++◌}
 use native.Mathlib.Omega.{arith}
 use lib.Dec.{eqb}
 use Rattle.numbers.specs.Numbers.{done, accepted}
-use Rattle.words.specs.Keys.{sameKey}
+use Rattle.words.specs.Keys.{same_key}
 use Rattle.drum.specs.declared.Description.{Description}
 use Rattle.layout.specs.Holds.{All}
-use Rattle.rules.specs.State.{State, desc, keyIn}
+use Rattle.rules.specs.State.{State, desc, key_in}
 use Rattle.rules.specs.Requests.{opening, closing, seeking, advancing, inserting, deleting, updating, extending, answer, left}
 use Rattle.demands.specs.Story.{deed_of, deeds, stands, added, replaced, removed, added-to, in_place}
 use Rattle.demands.specs.Story as story
-use Rattle.register.specs.Names.{raw, romanised, state_of, spellingOf}
-use Rattle.registered.specs.Deeds.{Deed, entering, asking, listing, holding, freeing, romanising, calling, requestsOf, requests}
+use Rattle.register.specs.Names.{raw, romanised, state_of, spelling_of}
+use Rattle.registered.specs.Deeds.{Deed, entering, asking, listing, holding, freeing, romanising, calling, requests_of, requests}
 use Rattle.registered.specs.Kept.{Romanised, Moved, spelling, held, freed, Step, stays, enters, moves, Registers, Spares}
 use Rattle.registered.proofs.Runs.{deeds-append, stands-append}
 use Rattle.registered.proofs.Tells.{Tells, onward, tells-on}
@@ -26,7 +26,7 @@ pub record Keeps (p : Description) (r : List ℕ) (now : List (List ℕ)) : Type
   pub then : List ℕ
   pub stands-there : now ≡ then ∷ []
   pub still : Romanised p then
-  pub same-spelling : spellingOf p then ≡ spellingOf p r
+  pub same-spelling : spelling_of p then ≡ spelling_of p r
 
 pub none-some : (r : List ℕ) (rs : List (List ℕ)) → [] ≡ r ∷ rs → ⊥
 none-some r rs e = let z : ◌≡◌ {A = ℕ} 0 1 = ap size e in omega arith
@@ -55,8 +55,8 @@ moved-raw p q s (freed a b c) z = not-raw p s (inl b) z
 module _ (p : Description) (r : List ℕ) (rom : Romanised p r) where
   moved_keeps : (q s : List ℕ) (now : List (List ℕ)) → q ≡ r → now ≡ s ∷ [] → Moved p q s → Keeps p r now
   moved_keeps q s now e n (spelling a b) = absurd (not-raw p r rom (ap (state_of p) (sym e) ∙ a))
-  moved_keeps q s now e n (held a b c) = record { then = s; stands-there = n; still = inr b; same-spelling = c ∙ ap (spellingOf p) e }
-  moved_keeps q s now e n (freed a b c) = record { then = s; stands-there = n; still = inl b; same-spelling = c ∙ ap (spellingOf p) e }
+  moved_keeps q s now e n (held a b c) = record { then = s; stands-there = n; still = inr b; same-spelling = c ∙ ap (spelling_of p) e }
+  moved_keeps q s now e n (freed a b c) = record { then = s; stands-there = n; still = inl b; same-spelling = c ∙ ap (spelling_of p) e }
 
   step_keeps : (was now : List (List ℕ)) → was ≡ r ∷ [] → Step p was now → Keeps p r now
   step_keeps was now w (stays e) = record { then = r; stands-there = e ∙ w; still = rom; same-spelling = refl }
@@ -71,7 +71,7 @@ module _ (key r : List ℕ) (was : List (List ℕ)) (w : was ≡ r ∷ []) where
   put-stays : (p : Description) (x : List ℕ) (t : Bool) → stands p key (cond t (added x ∷ []) [] ++ []) was ≡ was
   unfolding stands added-to
   put-stays p x false = refl
-  put-stays p x true = go (sameKey (keyIn p x) key)
+  put-stays p x true = go (same_key (key_in p x) key)
     where
       there : added-to x was ≡ was
       there = ap (added-to x) w ∙ sym w
@@ -80,22 +80,22 @@ module _ (key r : List ℕ) (was : List (List ℕ)) (w : was ≡ r ∷ []) where
       go true = there
       go false = refl
 
-  replaced-stays : (p : Description) (x : List ℕ) (t : Bool) → sameKey (keyIn p x) key ≡ false → stands p key (cond t (replaced x ∷ []) [] ++ []) was ≡ was
+  replaced-stays : (p : Description) (x : List ℕ) (t : Bool) → same_key (key_in p x) key ≡ false → stands p key (cond t (replaced x ∷ []) [] ++ []) was ≡ was
   unfolding stands
   replaced-stays p x false e = refl
   replaced-stays p x true e = ap (λ (t : Bool). cond t (in_place x was) was) e
 
-  removed-stays : (p : Description) (x : List ℕ) (t : Bool) → sameKey x key ≡ false → stands p key (cond t (removed x ∷ []) [] ++ []) was ≡ was
+  removed-stays : (p : Description) (x : List ℕ) (t : Bool) → same_key x key ≡ false → stands p key (cond t (removed x ∷ []) [] ++ []) was ≡ was
   unfolding stands
   removed-stays p x false e = refl
   removed-stays p x true e = ap (λ (t : Bool). cond t [] was) e
 
 module _ (u : State) (now : List ℕ → List (List ℕ)) (h : Tells (desc u) u now) (key r : List ℕ) (is : now key ≡ r ∷ []) (rom : Romanised (desc u) r) where
-  registers-keeps : (d : Deed) → Registers d → Keeps (desc u) r (stands (desc u) key (deeds u (requestsOf u d)) (now key))
-  registers-keeps d g = step_keeps (desc u) r rom (now key) _ is (told-step (desc u) key now (deeds u (requestsOf u d)) (told_of (desc u) u now h d g))
+  registers-keeps : (d : Deed) → Registers d → Keeps (desc u) r (stands (desc u) key (deeds u (requests_of u d)) (now key))
+  registers-keeps d g = step_keeps (desc u) r rom (now key) _ is (told-step (desc u) key now (deeds u (requests_of u d)) (told_of (desc u) u now h d g))
 
-  here-keeps : (d : Deed) → Spares (desc u) key d → Keeps (desc u) r (stands (desc u) key (deeds u (requestsOf u d)) (now key))
-  unfolding requestsOf deeds deed_of
+  here-keeps : (d : Deed) → Spares (desc u) key d → Keeps (desc u) r (stands (desc u) key (deeds u (requests_of u d)) (now key))
+  unfolding requests_of deeds deed_of
   here-keeps (entering w) g = registers-keeps (entering w) tt
   here-keeps (asking w) g = registers-keeps (asking w) tt
   here-keeps (listing w) g = registers-keeps (listing w) tt
@@ -111,15 +111,15 @@ module _ (u : State) (now : List ℕ → List (List ℕ)) (h : Tells (desc u) u 
   here-keeps (calling (extending w)) g =
       stays-keeps (desc u) r rom (now key) _ is (put-stays key r (now key) is (desc u) w (accepted (answer u (extending w)).number))
   here-keeps (calling (deleting w)) g =
-      stays-keeps (desc u) r rom (now key) _ is (removed-stays key r (now key) is (desc u) (keyIn (desc u) w) (eqb (answer u (deleting w)).number done) g)
+      stays-keeps (desc u) r rom (now key) _ is (removed-stays key r (now key) is (desc u) (key_in (desc u) w) (eqb (answer u (deleting w)).number done) g)
   here-keeps (calling (updating w)) g =
       stays-keeps (desc u) r rom (now key) _ is (replaced-stays key r (now key) is (desc u) w (accepted (answer u (updating w)).number) g)
 
 pub call-keeps : (p : Description) (u : State) (now : List ℕ → List (List ℕ)) → Tells p u now → (key r : List ℕ) → now key ≡ r ∷ [] → Romanised p r
-    → (d : Deed) → Spares p key d → Keeps p r (stands p key (deeds u (requestsOf u d)) (now key))
+    → (d : Deed) → Spares p key d → Keeps p r (stands p key (deeds u (requests_of u d)) (now key))
 call-keeps p u now h key r is rom d g =
     let e = h.parameters in
-    subst (λ (q : Description). Keeps q r (stands q key (deeds u (requestsOf u d)) (now key))) e
+    subst (λ (q : Description). Keeps q r (stands q key (deeds u (requests_of u d)) (now key))) e
     (here-keeps u now (subst (λ (q : Description). Tells q u now) (sym e) h) key r is (subst (λ (q : Description). Romanised q r) (sym e) rom) d
     (subst (λ (q : Description). Spares q key d) (sym e) g))
 
@@ -130,7 +130,7 @@ pub run-keeps : (p : Description) (es : List Deed) (u : State) (now : List ℕ �
 unfolding requests deeds stands All
 run-keeps p [] u now h key r is rom g = record { then = r; stands-there = is; still = rom; same-spelling = refl }
 run-keeps p (d ∷ es) u now h key r is rom g =
-    let qs = requestsOf u d in
+    let qs = requests_of u d in
     let v = left u qs in
     let a = call-keeps p u now h key r is rom d g.0 in
     let b = run-keeps p es v (onward p u qs now) (tells-on p u now h qs) key a.then a.stands-there a.still g.1 in

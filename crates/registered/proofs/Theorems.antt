@@ -6,24 +6,24 @@ use mathlib.Core.Logic.{inl}
 use mathlib.Core.List.{List, [], ◌∷◌, ◌++◌, append-nil}
 use borrow.Author.Tests.{eqb-true, eq-eqb}
 use lib.Dec.{eqb, ltb}
-use Rattle.numbers.specs.Numbers.{done, wrongSize}
+use Rattle.numbers.specs.Numbers.{done, wrong_size}
 use Rattle.numbers.specs.Checked.{Checked, passed, refused, require}
 use Rattle.words.proofs.Keys.{clash}
 use Rattle.drum.specs.declared.Description.{Description}
 use Rattle.layout.specs.Tree.{contents}
-use Rattle.rules.specs.State.{State, Outcome, desc, keyIn}
-use Rattle.rules.specs.Open.{openFile}
+use Rattle.rules.specs.State.{State, Outcome, desc, key_in}
+use Rattle.rules.specs.Open.{open_file}
 use Rattle.rules.specs.Seek.{seek}
 use Rattle.rules.specs.Requests.{Request, seeking, advancing, lending, answer, left}
-use Rattle.demands.specs.Refusals.{leavesAll}
-use Rattle.demands.specs.History.{withKey, handed}
+use Rattle.demands.specs.Refusals.{leaves_all}
+use Rattle.demands.specs.History.{with_key, handed}
 use Rattle.demands.specs.Story.{deed_of, deeds, stands}
 use Rattle.demands.specs.Story as story
 use Rattle.demands.proofs.Mission.{second}
 use Rattle.demands.proofs.Demands.{opened-desc}
-use Rattle.register.specs.Names.{state_of, spellingOf}
-use Rattle.register.specs.Register.{hasState, checked, ask, romanise}
-use Rattle.registered.specs.Deeds.{Deed, asking, listing, romanising, did, leftBy, ifPassed, requestsOf, requests}
+use Rattle.register.specs.Names.{state_of, spelling_of}
+use Rattle.register.specs.Register.{has_state, checked, ask, romanise}
+use Rattle.registered.specs.Deeds.{Deed, asking, listing, romanising, did, left_by, if_passed, requests_of, requests}
 use Rattle.registered.specs.Kept.{under, FromOpen, Found, States, Step, Romanised}
 use Rattle.registered.specs.Kept.{SpellingKept, SpellingAsked, AskingChangesNothing, RomanisedAs, Romanises, Once, RawIsZero}
 use Rattle.registered.proofs.Runs.{same-run, left-desc, requests-append, deeds-append, stands-append}
@@ -45,10 +45,10 @@ module _ (u : State) (ds : List Deed) (key : List ℕ) (was : List (List ℕ)) w
       ∙ ap (λ (x : List story.Deed). stands (desc u) key x was) (deeds-append u (requests u ds) (requests then es))
       ∙ stands-append (desc u) key (deeds u (requests u ds)) (deeds then (requests then es)) was
 
-  under_more : (d : Deed) → under u (ds ++ d ∷ []) key was ≡ stands (desc u) key (deeds then (requestsOf then d)) (under u ds key was)
+  under_more : (d : Deed) → under u (ds ++ d ∷ []) key was ≡ stands (desc u) key (deeds then (requests_of then d)) (under u ds key was)
   under_more d =
       under-append (d ∷ [])
-      ∙ ap (λ (x : List Request). stands (desc u) key (deeds then x) (under u ds key was)) (unfold requests in append-nil (requestsOf then d))
+      ∙ ap (λ (x : List Request). stands (desc u) key (deeds then x) (under u ds key was)) (unfold requests in append-nil (requests_of then d))
 
 -- ---- from a state of which SEEK tells what stands
 
@@ -71,24 +71,24 @@ module _ (u : State) (was : List ℕ → List (List ℕ)) (h : Tells (desc u) u 
       (k.then, under-append u ds key (was key) es ∙ k.stands-there, k.still, k.same-spelling)
 
   -- what asking does
-  asks : (ds : List Deed) (w : List ℕ) → did (leftBy u ds) (asking w) ≡ ask (lending w (left u (requests u ds)))
+  asks : (ds : List Deed) (w : List ℕ) → did (left_by u ds) (asking w) ≡ ask (lending w (left u (requests u ds)))
   unfolding did
   asks ds w = ap ask (same-run u ds w)
 
-  found-by : (v : State) (n : List ℕ → List (List ℕ)) → Tells (desc u) v n → (w : List ℕ) → leavesAll (ask (lending w v)).number ≡ false
-      → handed (ask (lending w v)) ≡ n (keyIn (desc u) w)
-  unfolding ask checked hasState leavesAll answer lending
+  found-by : (v : State) (n : List ℕ → List (List ℕ)) → Tells (desc u) v n → (w : List ℕ) → leaves_all (ask (lending w v)).number ≡ false
+      → handed (ask (lending w v)) ≡ n (key_in (desc u) w)
+  unfolding ask checked has_state leaves_all answer lending
   found-by v n t w z = go (ltb (desc v).k (desc v).wpr) z
     where
-      go : (x : Bool) → leavesAll (checked (lending w v) (require x wrongSize) (seek (lending w v))).number ≡ false
-          → handed (checked (lending w v) (require x wrongSize) (seek (lending w v))) ≡ n (keyIn (desc u) w)
+      go : (x : Bool) → leaves_all (checked (lending w v) (require x wrong_size) (seek (lending w v))).number ≡ false
+          → handed (checked (lending w v) (require x wrong_size) (seek (lending w v))) ≡ n (key_in (desc u) w)
       go true z = tells-now (desc u) v n t w z
       go false z = absurd (clash z)
 
   pub found : Found u was
   found ds w z =
       ap handed (asks ds w)
-      ∙ found-by (left u (requests u ds)) (now ds) (tells-then ds) w (ap (λ (o : Outcome). leavesAll o.number) (sym (asks ds w)) ∙ z)
+      ∙ found-by (left u (requests u ds)) (now ds) (tells-then ds) w (ap (λ (o : Outcome). leaves_all o.number) (sym (asks ds w)) ∙ z)
 
   -- ---- the spelling, as asking shows it
 
@@ -105,31 +105,31 @@ module _ (u : State) (was : List ℕ → List (List ℕ)) (h : Tells (desc u) u 
   handed-one o z = ap (λ (t : Bool). cond t (o.after.work ∷ []) []) (eq-eqb _ _ z)
 
   spelling-asked : SpellingAsked u was
-  unfolding leavesAll
+  unfolding leaves_all
   spelling-asked ds es w g z rom y =
-      let a = did (leftBy u ds) (asking w) in
-      let b = did (leftBy u (ds ++ es)) (asking w) in
-      let key = keyIn (desc u) w in
-      let i : now ds key ≡ a.after.work ∷ [] = sym (found ds w (ap leavesAll z)) ∙ handed-one a z in
+      let a = did (left_by u ds) (asking w) in
+      let b = did (left_by u (ds ++ es)) (asking w) in
+      let key = key_in (desc u) w in
+      let i : now ds key ≡ a.after.work ∷ [] = sym (found ds w (ap leaves_all z)) ∙ handed-one a z in
       let (s, e, k, j) = spelling-kept ds es key a.after.work g i rom in
       let (d, f) = one-handed b s (found (ds ++ es) w y ∙ e) in
-      (d, subst (Romanised (desc u)) (sym f) k, ap (spellingOf (desc u)) f ∙ j)
+      (d, subst (Romanised (desc u)) (sym f) k, ap (spelling_of (desc u)) f ∙ j)
 
   -- ---- asking
 
-  silent : (c : Checked Bool) (v : State) (q : Request) → deeds v (q ∷ []) ≡ [] → deeds v (ifPassed c (q ∷ [])) ≡ []
+  silent : (c : Checked Bool) (v : State) (q : Request) → deeds v (q ∷ []) ≡ [] → deeds v (if_passed c (q ∷ [])) ≡ []
   silent (refused n) v q e = unfold deeds in refl
   silent (passed x) v q e = e
 
-  asking-silent : (v : State) (w : List ℕ) → deeds v (requestsOf v (asking w)) ≡ []
-  unfolding requestsOf
-  asking-silent v w = silent (hasState (lending w v)) v (seeking w) (unfold deeds deed_of in refl)
+  asking-silent : (v : State) (w : List ℕ) → deeds v (requests_of v (asking w)) ≡ []
+  unfolding requests_of
+  asking-silent v w = silent (has_state (lending w v)) v (seeking w) (unfold deeds deed_of in refl)
 
-  listing-silent : (v : State) (w : List ℕ) → deeds v (requestsOf v (listing w)) ≡ []
-  unfolding requestsOf
-  listing-silent v w = silent (hasState (lending w v)) v (advancing w) (unfold deeds deed_of in refl)
+  listing-silent : (v : State) (w : List ℕ) → deeds v (requests_of v (listing w)) ≡ []
+  unfolding requests_of
+  listing-silent v w = silent (has_state (lending w v)) v (advancing w) (unfold deeds deed_of in refl)
 
-  none-changes : (ds : List Deed) (d : Deed) (key : List ℕ) → deeds (left u (requests u ds)) (requestsOf (left u (requests u ds)) d) ≡ []
+  none-changes : (ds : List Deed) (d : Deed) (key : List ℕ) → deeds (left u (requests u ds)) (requests_of (left u (requests u ds)) d) ≡ []
       → now (ds ++ d ∷ []) key ≡ now ds key
   unfolding stands
   none-changes ds d key e = under_more u ds key (was key) d ∙ ap (λ (x : List story.Deed). stands (desc u) key x (now ds key)) e
@@ -147,18 +147,18 @@ module _ (u : State) (was : List ℕ → List (List ℕ)) (h : Tells (desc u) u 
       let l = left-desc u (requests u ds) in
       let y : (romanise x (lending w v)).number ≡ done = ap (λ (s : State). (romanise x s).number) (sym (same-run u ds w)) ∙ z in
       let t = subst (λ (q : Description). Tells q v (now ds)) (sym l) (tells-then ds) in
-      let a : RomanisedAs (desc u) (now ds (keyIn (desc u) w)) (stands (desc u) (keyIn (desc u) w) (deeds v (requestsOf v (romanising w x))) (now ds (keyIn (desc u) w))) x
+      let a : RomanisedAs (desc u) (now ds (key_in (desc u) w)) (stands (desc u) (key_in (desc u) w) (deeds v (requests_of v (romanising w x))) (now ds (key_in (desc u) w))) x
       = subst
-      (λ (q : Description). RomanisedAs q (now ds (keyIn q w)) (stands q (keyIn q w) (deeds v (requestsOf v (romanising w x))) (now ds (keyIn q w))) x)
+      (λ (q : Description). RomanisedAs q (now ds (key_in q w)) (stands q (key_in q w) (deeds v (requests_of v (romanising w x))) (now ds (key_in q w))) x)
       l
       (romanises-here v (now ds) t w x y) in
-      subst (λ (n : List (List ℕ)). RomanisedAs (desc u) (now ds (keyIn (desc u) w)) n x)
-      (sym (under_more u ds (keyIn (desc u) w) (was (keyIn (desc u) w)) (romanising w x)))
+      subst (λ (n : List (List ℕ)). RomanisedAs (desc u) (now ds (key_in (desc u) w)) n x)
+      (sym (under_more u ds (key_in (desc u) w) (was (key_in (desc u) w)) (romanising w x)))
       a
 
   once : Once u was
   once ds es w v x y g k z i =
-      let key = keyIn (desc u) w in
+      let key = key_in (desc u) w in
       let a = romanises ds w x z in
       let (s, e, rom, same) = spelling-kept (ds ++ romanising w x ∷ []) es key a.after g a.stands-there (inl a.is-romanised) in
       let b = romanises ((ds ++ romanising w x ∷ []) ++ es) v y i in
@@ -175,8 +175,8 @@ module _ (P : State → (List ℕ → List (List ℕ)) → Type 0) (all : (u : S
   pub from-open : FromOpen P
   from-open st marks o =
       let (t, stands-there, f) = second.tells st marks o in
-      let u = (openFile st marks).outcome.after in
-      let was : List ℕ → List (List ℕ) = λ key. withKey (desc st) key (contents t) in
+      let u = (open_file st marks).outcome.after in
+      let was : List ℕ → List (List ℕ) = λ key. with_key (desc st) key (contents t) in
       let e : desc u ≡ desc st = opened-desc st marks o in
       let h : Tells (desc st) u was = record { parameters = e; seen = f; keyed = λ key. with-keyed (desc st) key (contents t) } in
       (t, stands-there, all u was (subst (λ (q : Description). Tells q u was) (sym e) h))

@@ -11,7 +11,7 @@ use mir.Syntax.{w32}
 use mir.Val.{Fits}
 use lib.Dec.{leb}
 use lib.ListN.{length, get_or, set}
-use Rattle.numbers.specs.Numbers.{wrongSize}
+use Rattle.numbers.specs.Numbers.{wrong_size}
 use Rattle.numbers.specs.Checked.{Checked, passed, refused}
 use Rattle.sequential.specs.declared.Layout.{Layout}
 use Rattle.sequential.specs.declared.Place.{Place}
@@ -20,57 +20,57 @@ use Rattle.sequential.specs.declared.Spot.TheVariants.{At}
 use Rattle.sequential.specs.declared.PutAnswer.{PutAnswer}
 use Rattle.sequential.specs.declared.GetAnswer.{GetAnswer}
 use Rattle.sequential.specs.Rows.{behind, blocks}
-use Rattle.sequential.specs.Calls.{Stored, Read, putSpot, getSpot, putTold, getTold, putRow, get_row, putGave, getGave}
+use Rattle.sequential.specs.Calls.{Stored, Read, put_spot, get_spot, put_told, get_told, put_row, get_row, put_gave, get_gave}
 use Rattle.sequential.specs.Lent.{LiesIn}
 use Rattle.sequential.proofs.Good.{good-facts, whole-good, block-end, lies-few}
 use Rattle.sequential.proofs.Laid.{put-finds, get-lies}
-use Rattle.rowcalls.specs.Words.{is_row, layout_of, place_of, at_place, mostWord, Small}
-use Rattle.rowcalls.specs.Calls.{Returned, returned, toldPut, toldGet, putCalled, getCalled}
+use Rattle.rowcalls.specs.Words.{is_row, layout_of, place_of, at_place, most_word, Small}
+use Rattle.rowcalls.specs.Calls.{Returned, returned, told_put, told_get, put_called, get_called}
 use Rattle.rowcalls.proofs.Words.{row-facts}
 
 -- the place behind a record of a file with few enough blocks
-behind-small : (l : Layout) (r : Row) (file : ℕ) → LiesIn l r file → file ≤ mostWord * l.wpb → Small (behind r)
+behind-small : (l : Layout) (r : Row) (file : ℕ) → LiesIn l r file → file ≤ most_word * l.wpb → Small (behind r)
 unfolding behind
 behind-small l r file h few =
     let g = good-facts l (whole-good l file h.sized) in
     let e = block-end l r.place.block file h.block in
     let a = lies-few l r file h in
     let least = g.least in
-    record { block = go (leb r.place.block mostWord) refl e least; at = omega arith }
+    record { block = go (leb r.place.block most_word) refl e least; at = omega arith }
   where
-    go : (b : Bool) → leb r.place.block mostWord ≡ b → r.place.block * l.wpb + l.wpb ≤ file → 6 ≤ l.wpb
-        → r.place.block ≤ mostWord
+    go : (b : Bool) → leb r.place.block most_word ≡ b → r.place.block * l.wpb + l.wpb ≤ file → 6 ≤ l.wpb
+        → r.place.block ≤ most_word
     go true x e least = leb-true _ _ x
     go false x e least =
-        let y = leb-false r.place.block mostWord x in
-        let z : mostWord ≤ r.place.block = omega arith in
-        let m : mostWord * l.wpb ≤ r.place.block * l.wpb = mul-le-mul_right l.wpb z in
+        let y = leb-false r.place.block most_word x in
+        let z : most_word ≤ r.place.block = omega arith in
+        let m : most_word * l.wpb ≤ r.place.block * l.wpb = mul-le-mul_right l.wpb z in
         absurd (omega arith)
 
-module _ (l : Layout) (q : Place) (f w : List ℕ) (few : length f ≤ mostWord * l.wpb) (s : Small q) where
-  put_small : Small (putRow l q f w).place
-  unfolding putRow
-  put_small = go (putSpot l q (length f) w) refl
+module _ (l : Layout) (q : Place) (f w : List ℕ) (few : length f ≤ most_word * l.wpb) (s : Small q) where
+  put_small : Small (put_row l q f w).place
+  unfolding put_row
+  put_small = go (put_spot l q (length f) w) refl
     where
-      go : (x : Checked Row) → putSpot l q (length f) w ≡ x → Small (putTold l q f w x).place
+      go : (x : Checked Row) → put_spot l q (length f) w ≡ x → Small (put_told l q f w x).place
       go (refused n) e = s
       go (passed r) e = behind-small l r (length f) (put-finds l q (length f) w r e).0 few
 
   module _ (left : ℕ) where
     get-small : Small (get_row l q left f w).place
     unfolding get_row
-    get-small = go (getSpot l q left f (length w)) refl
+    get-small = go (get_spot l q left f (length w)) refl
       where
-        go : (x : Checked Row) → getSpot l q left f (length w) ≡ x → Small (getTold l q left f w x).place
+        go : (x : Checked Row) → get_spot l q left f (length w) ≡ x → Small (get_told l q left f w x).place
         go (refused n) e = s
         go (passed r) e = behind-small l r (length f) (get-lies l q left f (length w) r (At r) (sym e) refl) few
 
 -- GET leaves no more to be read than it was told
 get-fewer : (l : Layout) (q : Place) (left : ℕ) (f w : List ℕ) → (get_row l q left f w).left ≤ left
 unfolding get_row
-get-fewer l q left f w = go (getSpot l q left f (length w))
+get-fewer l q left f w = go (get_spot l q left f (length w))
   where
-    go : (x : Checked Row) → (getTold l q left f w x).left ≤ left
+    go : (x : Checked Row) → (get_told l q left f w x).left ≤ left
     go (refused n) = omega arith
     go (passed r) = omega arith
 
@@ -89,12 +89,12 @@ module _ (ws : List ℕ) (t : Bool) where
   asked-six file e h = let n = asked-whole file e h in omega arith
 
   -- words that are no row
-  pub put-none : (f w : List ℕ) (r : ℕ) → t ≡ is_row ws (length f) → not t ≡ true → r ≡ wrongSize → returned r ws f w ≡ putCalled ws f w
-  unfolding putCalled
+  pub put-none : (f w : List ℕ) (r : ℕ) → t ≡ is_row ws (length f) → not t ≡ true → r ≡ wrong_size → returned r ws f w ≡ put_called ws f w
+  unfolding put_called
   put-none f w r e h p = (λ j. returned (p j) ws f w) ∙ rw (asked-no (length f) e h)
 
-  pub get_none : (f w : List ℕ) (r : ℕ) → t ≡ is_row ws (length f) → not t ≡ true → r ≡ wrongSize → returned r ws f w ≡ getCalled ws f w
-  unfolding getCalled
+  pub get_none : (f w : List ℕ) (r : ℕ) → t ≡ is_row ws (length f) → not t ≡ true → r ≡ wrong_size → returned r ws f w ≡ get_called ws f w
+  unfolding get_called
   get_none f w r e h p = (λ j. returned (p j) ws f w) ∙ rw (asked-no (length f) e h)
 
   -- the row's place is small, and the file has few enough blocks
@@ -102,46 +102,46 @@ module _ (ws : List ℕ) (t : Bool) where
   unfolding place_of
   row_small word = let b = word 4 in let a = word 5 in record { block = omega arith; at = omega arith }
 
-  row-few : (f : List ℕ) → t ≡ is_row ws (length f) → not t ≡ false → length f ≤ mostWord * (layout_of ws).wpb
+  row-few : (f : List ℕ) → t ≡ is_row ws (length f) → not t ≡ false → length f ≤ most_word * (layout_of ws).wpb
   unfolding layout_of
   row-few f e h = (row-facts ws (length f) (asked-yes (length f) e h)).blocks-most
 
   module _ (l : Layout) (q : Place) where
     -- PUT's answer can be told
-    pub put-tellable : (a : PutAnswer) (f g w : List ℕ) → putGave a g ≡ putRow l q f w → l ≡ layout_of ws → q ≡ place_of ws
+    pub put-tellable : (a : PutAnswer) (f g w : List ℕ) → put_gave a g ≡ put_row l q f w → l ≡ layout_of ws → q ≡ place_of ws
         → t ≡ is_row ws (length f) → not t ≡ false → ((i : ℕ) → Fits w32 (get_or ws i 0)) → Small a.place
     put-tellable a f g w e el eq et h word =
-        let p : a.place ≡ (putRow (layout_of ws) (place_of ws) f w).place = (λ j. (e j).place) ∙ (λ j. (putRow (el j) (eq j) f w).place) in
+        let p : a.place ≡ (put_row (layout_of ws) (place_of ws) f w).place = (λ j. (e j).place) ∙ (λ j. (put_row (el j) (eq j) f w).place) in
         subst Small (sym p) (put_small (layout_of ws) (place_of ws) f w (row-few f et h) (row_small word))
 
     -- and is told
-    pub put-called : (a : PutAnswer) (f g w us : List ℕ) (r : ℕ) → putGave a g ≡ putRow l q f w → l ≡ layout_of ws → q ≡ place_of ws
-        → us ≡ at_place ws a.place → r ≡ a.number → t ≡ is_row ws (length f) → not t ≡ false → returned r us g w ≡ putCalled ws f w
-    unfolding putCalled
+    pub put-called : (a : PutAnswer) (f g w us : List ℕ) (r : ℕ) → put_gave a g ≡ put_row l q f w → l ≡ layout_of ws → q ≡ place_of ws
+        → us ≡ at_place ws a.place → r ≡ a.number → t ≡ is_row ws (length f) → not t ≡ false → returned r us g w ≡ put_called ws f w
+    unfolding put_called
     put-called a f g w us r e el eq eu er et h =
-        let c : returned r us g w ≡ toldPut ws w (putGave a g) = λ j. returned (er j) (eu j) g w in
-        c ∙ ap (toldPut ws w) (e ∙ (λ j. putRow (el j) (eq j) f w)) ∙ rw (asked-yes (length f) et h)
+        let c : returned r us g w ≡ told_put ws w (put_gave a g) = λ j. returned (er j) (eu j) g w in
+        c ∙ ap (told_put ws w) (e ∙ (λ j. put_row (el j) (eq j) f w)) ∙ rw (asked-yes (length f) et h)
 
     -- the same of GET
-    pub get-tellable : (a : GetAnswer) (left : ℕ) (f w v : List ℕ) → getGave a v ≡ get_row l q left f w → l ≡ layout_of ws → q ≡ place_of ws
+    pub get-tellable : (a : GetAnswer) (left : ℕ) (f w v : List ℕ) → get_gave a v ≡ get_row l q left f w → l ≡ layout_of ws → q ≡ place_of ws
         → t ≡ is_row ws (length f) → not t ≡ false → ((i : ℕ) → Fits w32 (get_or ws i 0)) → Small a.place
     get-tellable a left f w v e el eq et h word =
         let p : a.place ≡ (get_row (layout_of ws) (place_of ws) left f w).place =
         (λ j. (e j).place) ∙ (λ j. (get_row (el j) (eq j) left f w).place) in
         subst Small (sym p) (get-small (layout_of ws) (place_of ws) f w (row-few f et h) (row_small word) left)
 
-    pub get_left : (a : GetAnswer) (left : ℕ) (f w v : List ℕ) → getGave a v ≡ get_row l q left f w → left ≡ get_or ws 6 0
-        → ((i : ℕ) → Fits w32 (get_or ws i 0)) → a.left ≤ mostWord
+    pub get_left : (a : GetAnswer) (left : ℕ) (f w v : List ℕ) → get_gave a v ≡ get_row l q left f w → left ≡ get_or ws 6 0
+        → ((i : ℕ) → Fits w32 (get_or ws i 0)) → a.left ≤ most_word
     get_left a left f w v e ef word =
         let p : a.left ≡ (get_row l q left f w).left = λ j. (e j).left in
         let m = get-fewer l q left f w in
         let k = word 6 in
         omega arith
 
-    pub get-called : (a : GetAnswer) (left : ℕ) (f w v us : List ℕ) (r : ℕ) → getGave a v ≡ get_row l q left f w → l ≡ layout_of ws
+    pub get-called : (a : GetAnswer) (left : ℕ) (f w v us : List ℕ) (r : ℕ) → get_gave a v ≡ get_row l q left f w → l ≡ layout_of ws
         → q ≡ place_of ws → left ≡ get_or ws 6 0 → us ≡ set (at_place ws a.place) 6 a.left → r ≡ a.number
-        → t ≡ is_row ws (length f) → not t ≡ false → returned r us f v ≡ getCalled ws f w
-    unfolding getCalled
+        → t ≡ is_row ws (length f) → not t ≡ false → returned r us f v ≡ get_called ws f w
+    unfolding get_called
     get-called a left f w v us r e el eq ef eu er et h =
-        let c : returned r us f v ≡ toldGet ws f (getGave a v) = λ j. returned (er j) (eu j) f v in
-        c ∙ ap (toldGet ws f) (e ∙ (λ j. get_row (el j) (eq j) (ef j) f w)) ∙ rw (asked-yes (length f) et h)
+        let c : returned r us f v ≡ told_get ws f (get_gave a v) = λ j. returned (er j) (eu j) f v in
+        c ∙ ap (told_get ws f) (e ∙ (λ j. get_row (el j) (eq j) (ef j) f w)) ∙ rw (asked-yes (length f) et h)

@@ -14,20 +14,20 @@ use Rattle.sequential.specs.declared.Kind.{Kind}
 use Rattle.sequential.specs.declared.Kind.TheVariants.{Fixed, Variable}
 use Rattle.sequential.specs.declared.Layout.{Layout}
 use Rattle.sequential.specs.declared.Place.{Place}
-use Rattle.rowcalls.specs.Words.{is_row, kind_of, layout_of, place_of, at_place, mostWord}
+use Rattle.rowcalls.specs.Words.{is_row, kind_of, layout_of, place_of, at_place, most_word}
 
 -- what the test of a row's words tells
 pub record Row (ws : List ℕ) (file : ℕ) : Type 0 where
   pub whole : length ws ≡ 7
   pub kind-most : get_or ws 2 0 ≤ 1
-  pub blocks-most : file ≤ mostWord * get_or ws 0 0
+  pub blocks-most : file ≤ most_word * get_or ws 0 0
 
 module _ (ws : List ℕ) where
   pub row-facts : (file : ℕ) → is_row ws file ≡ true → Row ws file
   unfolding is_row
   row-facts file h =
       let (a, h₁) = and_both (eqb (length ws) 7) _ h in
-      let (b, c) = and_both (leb (get_or ws 2 0) 1) (leb file (mostWord * get_or ws 0 0)) h₁ in
+      let (b, c) = and_both (leb (get_or ws 2 0) 1) (leb file (most_word * get_or ws 0 0)) h₁ in
       record { whole = eqb-true _ _ a; kind-most = leb-true _ _ b; blocks-most = leb-true _ _ c }
 
   -- the tests one by one

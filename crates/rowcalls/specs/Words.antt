@@ -7,12 +7,12 @@ use Rattle.sequential.specs.declared.Layout.{Layout}
 use Rattle.sequential.specs.declared.Place.{Place}
 
 -- the most that a 32-bit word can be
-abbrev pub mostWord : ℕ
-mostWord = 4294967295
+abbrev pub most_word : ℕ
+most_word = 4294967295
 
 -- exactly seven words, and a kind; for a file whose every block has a number that one word can say
 unfoldable pub is_row : List ℕ → ℕ → Bool
-is_row ws file = eqb (length ws) 7 && (leb (get_or ws 2 0) 1 && leb file (mostWord * get_or ws 0 0))
+is_row ws file = eqb (length ws) 7 && (leb (get_or ws 2 0) 1 && leb file (most_word * get_or ws 0 0))
 
 -- "0 fixed, 1 variable"; WPR is of fixed records alone [R4, R5]
 unfoldable pub kind_of : List ℕ → Kind
@@ -32,5 +32,5 @@ at_place ws q = set (set ws 4 q.block) 5 q.at
 
 -- a place that two words can say
 pub record Small (q : Place) : Type 0 where
-  pub block : q.block ≤ mostWord
-  pub at : q.at ≤ mostWord
+  pub block : q.block ≤ most_word
+  pub at : q.at ≤ most_word

@@ -3,7 +3,7 @@
 mod row;
 
 ghost use Rattle.std.specs.Prelude.{◌≡◌};
-ghost use Rattle.rowcalls.specs.Calls.{returned, putCalled, getCalled};
+ghost use Rattle.rowcalls.specs.Calls.{returned, put_called, get_called};
 ghost use Rattle.words.specs.Slices.{was, became};
 
 use numbers::WRONG_SIZE;
@@ -17,7 +17,7 @@ fn wide(x: u32) -> u64
 
 // PUT.
 pub fn put(row: &mut [u32], file: &mut [u32], work: &[u32]) -> u64
-    ensures { returned result (became row) (became file) (was work) ≡ putCalled (was row) (was file) (was work) }
+    ensures { returned result (became row) (became file) (was work) ≡ put_called (was row) (was file) (was work) }
 {
     if !is_row(row, file.len()) {
         return wide(WRONG_SIZE);
@@ -29,7 +29,7 @@ pub fn put(row: &mut [u32], file: &mut [u32], work: &[u32]) -> u64
 
 // GET.
 pub fn get(row: &mut [u32], file: &[u32], work: &mut [u32]) -> u64
-    ensures { returned result (became row) (was file) (became work) ≡ getCalled (was row) (was file) (was work) }
+    ensures { returned result (became row) (was file) (became work) ≡ get_called (was row) (was file) (was work) }
 {
     if !is_row(row, file.len()) {
         return wide(WRONG_SIZE);

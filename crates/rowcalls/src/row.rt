@@ -1,6 +1,6 @@
 // The row of seven words: what it says, and how it is written back.
 ghost use Rattle.std.specs.Prelude.{◌≡◌, ◌≤◌, length, get_or, set};
-ghost use Rattle.rowcalls.specs.Words.{is_row, kind_of, layout_of, place_of, at_place, mostWord, Small};
+ghost use Rattle.rowcalls.specs.Words.{is_row, kind_of, layout_of, place_of, at_place, most_word, Small};
 ghost use Rattle.words.specs.Slices.{was, became};
 
 use sequential::{Kind, Layout, Place};
@@ -65,7 +65,7 @@ pub fn put_place(row: &mut [u32], q: Place)
 
 // Writes a place and how many are left into the row.
 pub fn put_rest(row: &mut [u32], q: Place, left: usize)
-    requires { (length row.old ≡ 7) × Small q × (left ≤ mostWord) }
+    requires { (length row.old ≡ 7) × Small q × (left ≤ most_word) }
     ensures { became row ≡ set (at_place (was row) q) 6 left }
 {
     row[4] = q.block as u32;

@@ -1,33 +1,33 @@
 -- One name that opens every definition that document 01 is rendered by: a proof by computation says `unfolding computing`.
 use Prim.Native.Nat.{ℕ}
-use Rattle.words.specs.Words.{part, put, allAre, noneIs, allWords}
-use Rattle.words.specs.Keys.{isOnes, keyLt, keyLe, sameKey, order, val}
-use Rattle.table.specs.Tables.{count, row, key_at, blockIn, firstWhere, fits, opened, closed, inserted, removed, replaced, laid}
-use Rattle.table.specs.Splits.{oneMore, lowText, highText, lowBound, renamed, entered}
+use Rattle.words.specs.Words.{part, put, all_are, none_is, all_words}
+use Rattle.words.specs.Keys.{is_ones, key_lt, key_le, same_key, order, val}
+use Rattle.table.specs.Tables.{count, row, key_at, block_in, first_where, fits, opened, closed, inserted, removed, replaced, laid}
+use Rattle.table.specs.Splits.{one_more, low_text, high_text, low_bound, renamed, entered}
 use Rattle.table.specs.Rows.{cat, encode, table}
-use Rattle.drum.specs.Params.{D, I, FD, FI, masterSize, fileSize, start, every, goodParams, sized, tag_of, masterShape, index_shape, detailShape}
-use Rattle.drum.specs.Blocks.{block_at, putBlock, written, writes, linkPlace, freeText, link_in, isFree, text_of}
-use Rattle.layout.specs.Create.{endRecord, created}
-use Rattle.layout.specs.Inspect.{keyHeld, above, ascends, endOk, recordsOk, rowsIn, marked, through, detailHeld, indexHeld, chainHeld, restOk, masterOk, walked, layoutMarks}
-use Rattle.layout.specs.Tree.{lastIn, boundOf, leafBlocks, blocksIn, head_of, times, mark_of, marksFrom, freshLeaf, freshSection, freshTree}
-use Rattle.layout.specs.Holds.{All, indexEntries, masterEntries, masterText, ChainIn, ascending, LeavesOk, WellFormed}
-use Rattle.rules.specs.State.{holding, positioned, atRest, outcome, settle}
-use Rattle.rules.specs.Checks.{sizesOk, workOk, isOpen, keyOk}
-use Rattle.rules.specs.Paths.{entry_of, pathAt, pathUnder, pathBy}
-use Rattle.rules.specs.Lookup.{onBuffer, inBuffer, lookOutside, look, flushMoves, bringing, reached, stopping, storing, landing}
-use Rattle.rules.specs.Free.{noneLeft, granted, takeOne, takeTwo, storedNumber, withFree}
-use Rattle.rules.specs.Open.{create, openChecks, openLayout, openDone, openFile}
-use Rattle.rules.specs.Close.{closeChecks, closeDone, close, view}
-use Rattle.rules.specs.Seek.{giving, seekDone, seekSteps, seek, updatDone, updatSteps, updat}
-use Rattle.rules.specs.Adv.{nextInBuffer, nextPath, advBeyond, advAt, advOutside, advStep, advGiving, advReads, advDone, advSteps, adv}
-use Rattle.rules.specs.Nsert.{roomDeed, splitDeed, bothDeed, insertAt, insertAfter, insertDeed}
-use Rattle.rules.specs.NsertDone.{detailLow, detailHigh, detailEntry, indexEntered, indexLow, indexHigh, indexEntry, splitMoves, bothSplitMoves, splitFile, bothSplitFile, insertDone, nsertSteps, nsert}
-use Rattle.rules.specs.Dlete.{emptyDeed, empty_at, deleteAfter, deleteDeed, entryGone, emptyMoves, emptyAll, bothAll, emptyFile, bothFile, emptying, deleteDone, dleteSteps, dlete}
-use Rattle.rules.specs.Xtend.{lastOutside, lastWay, last_of, lastRoom, notAboveBefore, justBefore, notBehind, apart, newApart, insertBefore, lookDeed, aloneDeed, startDeed, sectionDeed, newAt, newDeed, extendAt, extendDeed}
-use Rattle.rules.specs.XtendDone.{reading, oldText, endText, onesEntry, bounded, extended, newMoves, sectionMoves, newFile, sectionFile, listed, extendDone, xtendSteps, xtend}
+use Rattle.drum.specs.Params.{D, I, FD, FI, master_size, file_size, start, every, good_params, sized, tag_of, master_shape, index_shape, detail_shape}
+use Rattle.drum.specs.Blocks.{block_at, put_block, written, writes, link_place, free_text, link_in, is_free, text_of}
+use Rattle.layout.specs.Create.{end_record, created}
+use Rattle.layout.specs.Inspect.{key_held, above, ascends, end_ok, records_ok, rows_in, marked, through, detail_held, index_held, chain_held, rest_ok, master_ok, walked, layout_marks}
+use Rattle.layout.specs.Tree.{last_in, bound_of, leaf_blocks, blocks_in, head_of, times, mark_of, marks_from, fresh_leaf, fresh_section, fresh_tree}
+use Rattle.layout.specs.Holds.{All, index_entries, master_entries, master_text, ChainIn, ascending, LeavesOk, WellFormed}
+use Rattle.rules.specs.State.{holding, positioned, at_rest, outcome, settle}
+use Rattle.rules.specs.Checks.{sizes_ok, work_ok, is_open, key_ok}
+use Rattle.rules.specs.Paths.{entry_of, path_at, path_under, path_by}
+use Rattle.rules.specs.Lookup.{on_buffer, in_buffer, look_outside, look, flush_moves, bringing, reached, stopping, storing, landing}
+use Rattle.rules.specs.Free.{none_left, granted, take_one, take_two, stored_number, with_free}
+use Rattle.rules.specs.Open.{create, open_checks, open_layout, open_done, open_file}
+use Rattle.rules.specs.Close.{close_checks, close_done, close, view}
+use Rattle.rules.specs.Seek.{giving, seek_done, seek_steps, seek, updat_done, updat_steps, updat}
+use Rattle.rules.specs.Adv.{next_in_buffer, next_path, adv_beyond, adv_at, adv_outside, adv_step, adv_giving, adv_reads, adv_done, adv_steps, adv}
+use Rattle.rules.specs.Nsert.{room_deed, split_deed, both_deed, insert_at, insert_after, insert_deed}
+use Rattle.rules.specs.NsertDone.{detail_low, detail_high, detail_entry, index_entered, index_low, index_high, index_entry, split_moves, both_split_moves, split_file, both_split_file, insert_done, nsert_steps, nsert}
+use Rattle.rules.specs.Dlete.{empty_deed, empty_at, delete_after, delete_deed, entry_gone, empty_moves, empty_all, both_all, empty_file, both_file, emptying, delete_done, dlete_steps, dlete}
+use Rattle.rules.specs.Xtend.{last_outside, last_way, last_of, last_room, not_above_before, just_before, not_behind, apart, new_apart, insert_before, look_deed, alone_deed, start_deed, section_deed, new_at, new_deed, extend_at, extend_deed}
+use Rattle.rules.specs.XtendDone.{reading, old_text, end_text, ones_entry, bounded, extended, new_moves, section_moves, new_file, section_file, listed, extend_done, xtend_steps, xtend}
 use Rattle.rules.specs.Requests.{lending, given, answer, left, tally}
-use Rattle.rules.specs.Run.{begun, createdOutcome, keyFrom, recordFrom, perform, shows, line_of, printed, ended}
+use Rattle.rules.specs.Run.{begun, created_outcome, key_from, record_from, perform, shows, line_of, printed, ended}
 
 unfoldable pub computing : ℕ
-unfolding part put allAre noneIs allWords isOnes keyLt keyLe sameKey order val count row key_at blockIn firstWhere fits opened closed inserted removed replaced laid oneMore lowText highText lowBound renamed entered cat encode table D I FD FI masterSize fileSize start every goodParams sized tag_of masterShape index_shape detailShape block_at putBlock written writes linkPlace freeText link_in isFree text_of endRecord created keyHeld above ascends endOk recordsOk rowsIn marked through detailHeld indexHeld chainHeld restOk masterOk walked layoutMarks lastIn boundOf leafBlocks blocksIn head_of times mark_of marksFrom freshLeaf freshSection freshTree All indexEntries masterEntries masterText ChainIn ascending LeavesOk WellFormed holding positioned atRest outcome settle sizesOk workOk isOpen keyOk entry_of pathAt pathUnder pathBy onBuffer inBuffer lookOutside look flushMoves bringing reached stopping storing landing noneLeft granted takeOne takeTwo storedNumber withFree create openChecks openLayout openDone openFile closeChecks closeDone close view giving seekDone seekSteps seek updatDone updatSteps updat nextInBuffer nextPath advBeyond advAt advOutside advStep advGiving advReads advDone advSteps adv roomDeed splitDeed bothDeed insertAt insertAfter insertDeed detailLow detailHigh detailEntry indexEntered indexLow indexHigh indexEntry splitMoves bothSplitMoves splitFile bothSplitFile insertDone nsertSteps nsert emptyDeed empty_at deleteAfter deleteDeed entryGone emptyMoves emptyAll bothAll emptyFile bothFile emptying deleteDone dleteSteps dlete lastOutside lastWay last_of lastRoom notAboveBefore justBefore notBehind apart newApart insertBefore lookDeed aloneDeed startDeed sectionDeed newAt newDeed extendAt extendDeed reading oldText endText onesEntry bounded extended newMoves sectionMoves newFile sectionFile listed extendDone xtendSteps xtend lending given answer left tally begun createdOutcome keyFrom recordFrom perform shows line_of printed ended
+unfolding part put all_are none_is all_words is_ones key_lt key_le same_key order val count row key_at block_in first_where fits opened closed inserted removed replaced laid one_more low_text high_text low_bound renamed entered cat encode table D I FD FI master_size file_size start every good_params sized tag_of master_shape index_shape detail_shape block_at put_block written writes link_place free_text link_in is_free text_of end_record created key_held above ascends end_ok records_ok rows_in marked through detail_held index_held chain_held rest_ok master_ok walked layout_marks last_in bound_of leaf_blocks blocks_in head_of times mark_of marks_from fresh_leaf fresh_section fresh_tree All index_entries master_entries master_text ChainIn ascending LeavesOk WellFormed holding positioned at_rest outcome settle sizes_ok work_ok is_open key_ok entry_of path_at path_under path_by on_buffer in_buffer look_outside look flush_moves bringing reached stopping storing landing none_left granted take_one take_two stored_number with_free create open_checks open_layout open_done open_file close_checks close_done close view giving seek_done seek_steps seek updat_done updat_steps updat next_in_buffer next_path adv_beyond adv_at adv_outside adv_step adv_giving adv_reads adv_done adv_steps adv room_deed split_deed both_deed insert_at insert_after insert_deed detail_low detail_high detail_entry index_entered index_low index_high index_entry split_moves both_split_moves split_file both_split_file insert_done nsert_steps nsert empty_deed empty_at delete_after delete_deed entry_gone empty_moves empty_all both_all empty_file both_file emptying delete_done dlete_steps dlete last_outside last_way last_of last_room not_above_before just_before not_behind apart new_apart insert_before look_deed alone_deed start_deed section_deed new_at new_deed extend_at extend_deed reading old_text end_text ones_entry bounded extended new_moves section_moves new_file section_file listed extend_done xtend_steps xtend lending given answer left tally begun created_outcome key_from record_from perform shows line_of printed ended
 computing = 0

@@ -1,10 +1,10 @@
 -- Document 01, "Lookup": what it comes to, and what it moves.
 use Rattle.std.specs.Prelude.{ℕ, Bool, true, false, cond, not, ◌&&◌, ◌||◌, List, [], ◌∷◌, ◌++◌, leb, ltb, eqb}
-use Rattle.numbers.specs.Numbers.{badFile}
+use Rattle.numbers.specs.Numbers.{bad_file}
 use Rattle.numbers.specs.Checked.{Checked, passed, refused, ◌>>=◌, ◌>>◌, require, within, between}
-use Rattle.table.specs.Tables.{count, rowWith}
+use Rattle.table.specs.Tables.{count, row_with}
 use Rattle.drum.specs.declared.Description.{Description}
-use Rattle.drum.specs.Params.{D, detailShape}
+use Rattle.drum.specs.Params.{D, detail_shape}
 use Rattle.drum.specs.Blocks.{Transfer, Read, Write, written, block_at, Texts, text_of}
 use Rattle.rules.specs.declared.Path.{Path}
 use Rattle.rules.specs.declared.Way.{Way}
@@ -12,48 +12,48 @@ use Rattle.rules.specs.declared.Way.TheVariants.{Here, By}
 use Rattle.rules.specs.declared.Look.{Look}
 use Rattle.rules.specs.declared.Look.TheVariants.{Found, Missing}
 use Rattle.rules.specs.State.{Effect}
-use Rattle.rules.specs.Paths.{pathTo}
+use Rattle.rules.specs.Paths.{path_to}
 
 -- "While current is 0 no block is buffered, and every test of the buffer's keys below fails, whatever its words": else the test, made on a
 -- block whose number and count are checked [S3, B2]
-unfoldable pub onBuffer : Texts → Bool → Checked Bool
-onBuffer v test =
+unfoldable pub on_buffer : Texts → Bool → Checked Bool
+on_buffer v test =
     cond (eqb v.current 0) (passed false) (do
       within 1 v.desc.n v.current
-      within 1 (D v.desc) (count (detailShape v.desc) v.buffer)
+      within 1 (D v.desc) (count (detail_shape v.desc) v.buffer)
       passed test)
 
 -- the block that a flagged buffer is written to has a good number [B2]
-abbrev pub flushOk : Texts → Bool → Bool
-flushOk v flag = not flag || between 1 v.desc.n v.current
+abbrev pub flush_ok : Texts → Bool → Bool
+flush_ok v flag = not flag || between 1 v.desc.n v.current
 
 -- "Key in the buffered block: 0." [C1]
-unfoldable pub inBuffer : Texts → List ℕ → Checked Bool
-inBuffer v key = onBuffer v (ltb (rowWith (detailShape v.desc) key v.buffer) (count (detailShape v.desc) v.buffer))
+unfoldable pub in_buffer : Texts → List ℕ → Checked Bool
+in_buffer v key = on_buffer v (ltb (row_with (detail_shape v.desc) key v.buffer) (count (detail_shape v.desc) v.buffer))
 
 -- where the key is in the block at the end of the way w [C2]
-abbrev pub lookAt : Texts → List ℕ → Path → Look
-lookAt v key w =
+abbrev pub look_at : Texts → List ℕ → Path → Look
+look_at v key w =
     let t = text_of v w.detail in
-    let i = rowWith (detailShape v.desc) key t in
-    cond (ltb i (count (detailShape v.desc) t)) (Found (By w) i) (Missing w)
+    let i = row_with (detail_shape v.desc) key t in
+    cond (ltb i (count (detail_shape v.desc) t)) (Found (By w) i) (Missing w)
 
 -- "Else write the buffer if flagged (1) ..; read the index block .. (1); read the detail block .. (1)." [C2]
-unfoldable pub lookOutside : Texts → Bool → List ℕ → Checked Look
-lookOutside v flag key = do
-  w ← pathTo v key
-  require (flushOk v flag) badFile
-  passed (lookAt v key w)
+unfoldable pub look_outside : Texts → Bool → List ℕ → Checked Look
+look_outside v flag key = do
+  w ← path_to v key
+  require (flush_ok v flag) bad_file
+  passed (look_at v key w)
 
 -- the lookup: in the buffered block, or else outside [C1, C2]
 unfoldable pub look : Texts → Bool → List ℕ → Checked Look
 look v flag key = do
-  here ← inBuffer v key
-  cond here (passed (Found Here (rowWith (detailShape v.desc) key v.buffer))) (lookOutside v flag key)
+  here ← in_buffer v key
+  cond here (passed (Found Here (row_with (detail_shape v.desc) key v.buffer))) (look_outside v flag key)
 
 -- "write the buffer if flagged (1)" [T6]
-unfoldable pub flushMoves : Texts → Bool → List Transfer
-flushMoves v flag = cond flag (Write v.current v.buffer ∷ []) []
+unfoldable pub flush_moves : Texts → Bool → List Transfer
+flush_moves v flag = cond flag (Write v.current v.buffer ∷ []) []
 
 -- what some steps come to: the words of file and buffer, the current block and the flag, and the transfers made
 pub record Reached : Type 0 where
@@ -66,11 +66,11 @@ pub record Reached : Type 0 where
 -- "write the buffer if flagged (1) and clear the flag", then some blocks are read, b the last: its current text is in the buffer [T5, T6]
 unfoldable pub bringing : Texts → Bool → ℕ → List Transfer → Reached
 bringing v flag b reads = record {
-  file = written v.desc (flushMoves v flag ++ reads) v.file;
+  file = written v.desc (flush_moves v flag ++ reads) v.file;
   current = b;
   flag = false;
   buffer = text_of v b;
-  moves = flushMoves v flag ++ reads;
+  moves = flush_moves v flag ++ reads;
 }
 
 -- a block reached on its way: nothing moves, or "write the buffer if flagged ..; read the index block ..; read the detail block .." [C2, T3]
@@ -79,9 +79,9 @@ reached v flag Here = record { file = v.file; current = v.current; flag = flag; 
 reached v flag (By w) = bringing v flag w.detail (Read w.index ∷ Read w.detail ∷ [])
 
 -- the text of that block, as the buffer then holds it
-abbrev pub textAt : Texts → Way → List ℕ
-textAt v Here = v.buffer
-textAt v (By w) = text_of v w.detail
+abbrev pub text_at : Texts → Way → List ℕ
+text_at v Here = v.buffer
+text_at v (By w) = text_of v w.detail
 
 -- the call ends as the steps left things: "lookup done; workspace, position kept" [N6, N7, N8]
 unfoldable pub stopping : ℕ → List ℕ → Reached → Effect

@@ -2,7 +2,7 @@
 -- OPEN's marks, are lent anew.
 use Rattle.std.specs.Prelude.{ℕ, ◌+◌, List, [], ◌∷◌}
 use Rattle.rules.specs.State.{State, Outcome, lent}
-use Rattle.rules.specs.Open.{openFile}
+use Rattle.rules.specs.Open.{open_file}
 use Rattle.rules.specs.Close.{close}
 use Rattle.rules.specs.Seek.{seek, updat}
 use Rattle.rules.specs.Adv.{adv}
@@ -33,7 +33,7 @@ given st (extending work) = lending work st
 
 -- what it does
 unfoldable pub answer : State → Request → Outcome
-answer st (opening marks) = (openFile st marks).outcome
+answer st (opening marks) = (open_file st marks).outcome
 answer st closing = close st
 answer st (seeking work) = seek (lending work st)
 answer st (advancing work) = adv (lending work st)

@@ -41,16 +41,16 @@ abbrev pub texts : State → Texts
 texts st = seen st.session.desc st.session.current st.file st.buffer
 
 -- the key and the record in a workspace; the key that position is
-abbrev pub keyIn : Description → List ℕ → List ℕ
-keyIn p work = part 0 p.k work
+abbrev pub key_in : Description → List ℕ → List ℕ
+key_in p work = part 0 p.k work
 
 -- the record in a workspace [P3]
-abbrev pub recordIn : Description → List ℕ → List ℕ
-recordIn p work = part 0 p.wpr work
+abbrev pub record_in : Description → List ℕ → List ℕ
+record_in p work = part 0 p.wpr work
 
 -- the key that position is [S1]
-abbrev pub positionKey : Session → List ℕ
-positionKey s = part 0 s.desc.k s.position
+abbrev pub position_key : Session → List ℕ
+position_key s = part 0 s.desc.k s.position
 
 -- a session like s, with another current block and flag
 unfoldable pub holding : ℕ → Bool → Session → Session
@@ -63,8 +63,8 @@ positioned key s =
     record { desc = s.desc; opened = s.opened; current = s.current; flag = s.flag; placed = true; position = put s.position 0 key }
 
 -- "OPEN and CLOSE leave current 0, flag off, position none" [S2, C35]
-unfoldable pub atRest : Bool → Session → Session
-atRest opened s =
+unfoldable pub at_rest : Bool → Session → Session
+at_rest opened s =
     record { desc = s.desc; opened = opened; current = 0; flag = false; placed = false; position = zeros 63 }
 
 -- what the steps of a call come to: number, transfers, current block and flag, file, buffer and workspace, and whether position is set to
@@ -86,7 +86,7 @@ outcome s e =
     record {
       number = e.number;
       transfers = e.transfers;
-      after = lent (cond e.keyed (positioned (keyIn s.desc e.work) held) held) e.file e.buffer e.work;
+      after = lent (cond e.keyed (positioned (key_in s.desc e.work) held) held) e.file e.buffer e.work;
     }
 
 -- "all unchanged .. 0 transfers" [T7, N1]

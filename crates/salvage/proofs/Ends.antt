@@ -10,11 +10,11 @@ use mir.Val.{Fits}
 use borrow.Author.Tests.{not-true, not-false, eq-eqb, ne_eqb, leb-true, eqb-true}
 use lib.Dec.{leb, eqb}
 use lib.ListN.{length}
-use Rattle.numbers.specs.Numbers.{done, wrongSize}
+use Rattle.numbers.specs.Numbers.{done, wrong_size}
 use Rattle.words.specs.Words.{zeros}
 use Rattle.words.proofs.All.{and_both}
 use Rattle.drum.specs.declared.Description.{Description}
-use Rattle.drum.specs.Params.{D, fileSize, goodParams, sized}
+use Rattle.drum.specs.Params.{D, file_size, good_params, sized}
 use Rattle.drum.proofs.Good.{caps, Sized, sized-facts}
 use Rattle.layout.specs.Create.{created}
 use Rattle.rules.specs.State.{Session, Outcome, lent}
@@ -28,7 +28,7 @@ use Rattle.salvage.specs.declared.Going.{Going}
 use Rattle.salvage.specs.declared.Salvaged.{Salvaged}
 use Rattle.salvage.specs.Met.{met}
 use Rattle.salvage.specs.Salvage.{Walk, Salvaging, run, begun, ended, roomy, salvage}
-use Rattle.salvage.specs.Promise.{walking, answeredWith, Spare, Copied, Roomy}
+use Rattle.salvage.specs.Promise.{walking, answered_with, Spare, Copied, Roomy}
 use Rattle.salvage.proofs.Steps.{run-grown}
 use Rattle.salvage.proofs.Walks.{met-most}
 
@@ -37,7 +37,7 @@ use Rattle.salvage.proofs.Walks.{met-most}
 module _ (p : Description) (copy fresh buffer report : ℕ) (x : Bool) (is : x ≡ sized p fresh buffer) where
   pub sizes-wrong : not x ≡ true → false ≡ roomy p copy fresh buffer report
   unfolding roomy
-  sizes-wrong h = sym (ap (λ (c : Bool). c && (eqb copy (fileSize p) && leb (3 * (p.n * (1 + D p))) report)) (sym is ∙ not-true x h))
+  sizes-wrong h = sym (ap (λ (c : Bool). c && (eqb copy (file_size p) && leb (3 * (p.n * (1 + D p))) report)) (sym is ∙ not-true x h))
 
   module _ (h : not x ≡ false) where
     facts : Sized p fresh buffer
@@ -46,7 +46,7 @@ module _ (p : Description) (copy fresh buffer report : ℕ) (x : Bool) (is : x �
     pub copy-wrong : (copy ≡ fresh → ⊥) → false ≡ roomy p copy fresh buffer report
     unfolding roomy
     copy-wrong ne =
-        let e : eqb copy (fileSize p) ≡ false = ne_eqb copy (fileSize p) (λ q. ne (q ∙ sym facts.file-is)) in
+        let e : eqb copy (file_size p) ≡ false = ne_eqb copy (file_size p) (λ q. ne (q ∙ sym facts.file-is)) in
         sym λ j. (sym is ∙ not-false x h) j && (e j && leb (3 * (p.n * (1 + D p))) report)
 
     module _ (d : ℕ) (e : d ≡ D p) where
@@ -69,7 +69,7 @@ module _ (p : Description) (copy fresh buffer report : ℕ) (x : Bool) (is : x �
       pub report-tells : copy ≡ fresh → leb (3 * (p.n * (1 + d))) report ≡ roomy p copy fresh buffer report
       unfolding roomy
       report-tells q =
-          let s : eqb copy (fileSize p) ≡ true = eq-eqb copy (fileSize p) (q ∙ facts.file-is) in
+          let s : eqb copy (file_size p) ≡ true = eq-eqb copy (file_size p) (q ∙ facts.file-is) in
           sym λ j. (sym is ∙ not-false x h) j && (s j && leb (3 * (p.n * (1 + sym e j))) report)
 
 -- what the test tells
@@ -77,7 +77,7 @@ pub roomy-facts : (p : Description) (copy fresh buffer report : ℕ) → roomy p
 unfolding roomy
 roomy-facts p copy fresh buffer report h =
     let (a, b) = and_both (sized p fresh buffer) _ h in
-    let (c, d) = and_both (eqb copy (fileSize p)) _ b in
+    let (c, d) = and_both (eqb copy (file_size p)) _ b in
     let s = sized-facts p fresh buffer a in
     record { good = s.good; copy_is = eqb-true _ _ c; fresh-is = s.file-is; buffer-is = s.buffer-is; room = leb-true _ _ d }
 
@@ -111,7 +111,7 @@ module _ (g : Going) (f d : List ℕ) (a : Answer) (f' : List ℕ) (e : answered
       let n : a.transfers ≡ length (close (given g.session f d [])).transfers = ap (λ (c : Counted). c.transfers) e in
       omega (arith, n, few-transfers (given g.session f d []) closing)
 
-  pub close-ends : answeredWith (record { number = done; transfers = g.transfers + a.transfers; lines = g.lines }) f' d [] ≡ ended (walking g f d [])
+  pub close-ends : answered_with (record { number = done; transfers = g.transfers + a.transfers; lines = g.lines }) f' d [] ≡ ended (walking g f d [])
   unfolding ended
   close-ends = λ j. record {
     number = done;
@@ -151,7 +151,7 @@ pub first-copied : (p : Description) (copy : List ℕ) (fresh buffer report : �
     → Roomy p (length copy) fresh buffer report → Copied g copy
 first-copied p copy fresh buffer report g f e h =
     let d = desc-is p (length copy) fresh buffer report h g f e in
-    record { good = ap goodParams d ∙ h.good; copy_is = h.copy_is ∙ ap fileSize (sym d) }
+    record { good = ap good_params d ∙ h.good; copy_is = h.copy_is ∙ ap file_size (sym d) }
 
 -- the walk as it ends
 pub last-few : (g last : Going) (f d x f' d' x' ws : List ℕ) (n : ℕ) → walking last f' d' x' ≡ run (walking g f d x) (met g.session.desc ws)
@@ -163,8 +163,8 @@ last-few g last f d x f' d' x' ws n w s =
     let q : last.transfers ≡ (run (walking g f d x) (met g.session.desc ws)).transfers = ap (λ (z : Walk). z.transfers) w in
     omega (arith, met-most g.session.desc ws 1 g.session.desc.n)
 
-pub walk-done : (last : Going) (f d x f' : List ℕ) (s : Salvaged) (w : Walk) → answeredWith s f' d [] ≡ ended (walking last f d [])
-    → walking last f d x ≡ w → answeredWith s f' d x ≡ ended w
+pub walk-done : (last : Going) (f d x f' : List ℕ) (s : Salvaged) (w : Walk) → answered_with s f' d [] ≡ ended (walking last f d [])
+    → walking last f d x ≡ w → answered_with s f' d x ≡ ended w
 unfolding ended
 walk-done last f d x f' s w e q =
     (λ j. record { number = (e j).number; transfers = (e j).transfers; lines = (e j).lines; fresh = (e j).fresh; buffer = (e j).buffer; report = x }) ∙ ap ended q
@@ -183,10 +183,10 @@ module _ (p : Description) (copy fresh buffer report : List ℕ) (t : Bool) (is 
   by-room : Bool → Salvaging
   by-room c =
       cond c (ended (run (begun p buffer report) (met p copy)))
-      (record { number = wrongSize; transfers = 0; lines = 0; fresh = fresh; buffer = buffer; report = report })
+      (record { number = wrong_size; transfers = 0; lines = 0; fresh = fresh; buffer = buffer; report = report })
 
   pub call-refused : not t ≡ true
-      → answeredWith (record { number = wrongSize; transfers = 0; lines = 0 }) fresh buffer report ≡ salvage p copy fresh buffer report
+      → answered_with (record { number = wrong_size; transfers = 0; lines = 0 }) fresh buffer report ≡ salvage p copy fresh buffer report
   unfolding salvage by-room
   call-refused h = sym (ap by-room (sym is ∙ not-true t h))
 

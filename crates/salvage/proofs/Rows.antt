@@ -10,7 +10,7 @@ use mir.Val.{Fits}
 use borrow.Author.Tests.{not-true, not-false}
 use lib.ListN.{length, take, drop}
 use Rattle.words.specs.Words.{part}
-use Rattle.words.specs.Keys.{keyLt}
+use Rattle.words.specs.Keys.{key_lt}
 use Rattle.words.proofs.Parts.{take_part}
 use Rattle.drum.specs.declared.Description.{Description}
 use Rattle.layout.specs.Holds.{ascending, keys_of}
@@ -53,7 +53,7 @@ module _ (p : Description) (t : List ℕ) (at left : ℕ) where
 
   module _ (many : 1 < left) (short : p.k ≤ p.wpr) where
     opens : ascending (keys at left)
-        ≡ keyLt (part at p.k t) (part (at + p.wpr) p.k t) && ascending (keys (at + p.wpr) (left - 1))
+        ≡ key_lt (part at p.k t) (part (at + p.wpr) p.k t) && ascending (keys (at + p.wpr) (left - 1))
     unfolding rows_from ascending
     opens =
         let two : left ≡ suc (suc (left - 2)) = omega arith in
@@ -61,11 +61,11 @@ module _ (p : Description) (t : List ℕ) (at left : ℕ) where
         let low = take_part at p.k p.wpr t short in
         let high = take_part (at + p.wpr) p.k p.wpr t short in
         ap (λ (n : ℕ). ascending (keys at n)) two
-        ∙ (λ j. keyLt (low j) (high j) && ascending (keys (at + p.wpr) (suc (left - 2))))
-        ∙ ap (λ (n : ℕ). keyLt (part at p.k t) (part (at + p.wpr) p.k t) && ascending (keys (at + p.wpr) n)) one
+        ∙ (λ j. key_lt (low j) (high j) && ascending (keys (at + p.wpr) (suc (left - 2))))
+        ∙ ap (λ (n : ℕ). key_lt (part at p.k t) (part (at + p.wpr) p.k t) && ascending (keys (at + p.wpr) n)) one
 
     -- a pair of keys that ascends, or not: x is the code's test of it
-    module _ (x : Bool) (is : x ≡ keyLt (part at p.k t) (part (at + p.wpr) p.k t)) where
+    module _ (x : Bool) (is : x ≡ key_lt (part at p.k t) (part (at + p.wpr) p.k t)) where
       pub keys-go : not x ≡ false → ascending (keys at left) ≡ ascending (keys (at + p.wpr) (left - 1))
       keys-go h = opens ∙ ap (λ (b : Bool). b && ascending (keys (at + p.wpr) (left - 1))) (sym is ∙ not-false x h)
 

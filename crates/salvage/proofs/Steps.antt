@@ -9,11 +9,11 @@ use mir.Val.{Fits}
 use borrow.Author.Tests.{eq-eqb, ne_eqb}
 use lib.Dec.{eqb}
 use lib.ListN.{length}
-use Rattle.numbers.specs.Numbers.{accepted, notFound}
-use Rattle.words.specs.Words.{part, put, allAre}
-use Rattle.words.specs.Keys.{isOnes}
+use Rattle.numbers.specs.Numbers.{accepted, not_found}
+use Rattle.words.specs.Words.{part, put, all_are}
+use Rattle.words.specs.Keys.{is_ones}
 use Rattle.drum.specs.declared.Description.{Description}
-use Rattle.rules.specs.State.{Session, Outcome, keyIn, lent}
+use Rattle.rules.specs.State.{Session, Outcome, key_in, lent}
 use Rattle.rules.specs.NsertDone.{nsert}
 use Rattle.rules.specs.Requests.{inserting, lending, answer}
 use Rattle.searchfile.specs.declared.Answer.{Answer}
@@ -22,7 +22,7 @@ use Rattle.demands.proofs.Costs.{few-transfers}
 use Rattle.demands.proofs.Came.{same-parameters}
 use Rattle.salvage.specs.declared.Going.{Going}
 use Rattle.salvage.specs.Met.{Met, over, found}
-use Rattle.salvage.specs.Salvage.{Walk, lined, whyNot, after, tried, settled, step, run}
+use Rattle.salvage.specs.Salvage.{Walk, lined, why_not, after, tried, settled, step, run}
 use Rattle.salvage.specs.Promise.{walking, Told, tells, inserted, Spare}
 
 -- one line more, with the words that the code writes
@@ -32,18 +32,18 @@ unfolding lined
 line-is g f d x y b i r h e q = λ j. walking (e j) f d (q j)
 
 -- the reason of a record not carried is a word
-pub why-is : (n r : ℕ) → r ≡ whyNot n → r ≤ 262143
-why-is n r e = go (eqb n notFound) e
+pub why-is : (n r : ℕ) → r ≡ why_not n → r ≤ 262143
+why-is n r e = go (eqb n not_found) e
   where
     go : (c : Bool) → r ≡ cond c 5 6 → r ≤ 262143
     go true q = omega arith
     go false q = omega arith
 
-pub why-second : (n : ℕ) → n ≡ notFound → 5 ≡ whyNot n
-why-second n h = sym (ap (λ (c : Bool). cond c 5 6) (eq-eqb n notFound h))
+pub why-second : (n : ℕ) → n ≡ not_found → 5 ≡ why_not n
+why-second n h = sym (ap (λ (c : Bool). cond c 5 6) (eq-eqb n not_found h))
 
-pub why-room : (n : ℕ) → (n ≡ notFound → ⊥) → 6 ≡ whyNot n
-why-room n h = sym (ap (λ (c : Bool). cond c 5 6) (ne_eqb n notFound h))
+pub why-room : (n : ℕ) → (n ≡ not_found → ⊥) → 6 ≡ why_not n
+why-room n h = sym (ap (λ (c : Bool). cond c 5 6) (ne_eqb n not_found h))
 
 -- an NSERT: a is its answer, f' and d' what it leaves; it makes at most 16 transfers, so the sum fits
 module _ (g : Going) (f d r : List ℕ) (a : Answer) (f' d' : List ℕ) (e : answered a f' d' r ≡ counted (nsert (given g.session f d r))) where
@@ -72,15 +72,15 @@ module _ (g : Going) (f d r : List ℕ) (a : Answer) (f' d' : List ℕ) (e : ans
 module _ (g : Going) (n b i : ℕ) (x : List ℕ) (ok : Bool) (is : ok ≡ accepted n) where
   pub settle-none : ok ≡ true → walking g [] [] x ≡ settled n b i (walking g [] [] x)
   unfolding settled
-  settle-none h = sym (ap (λ (c : Bool). cond c (walking g [] [] x) (lined b i (whyNot n) (walking g [] [] x))) (sym is ∙ h))
+  settle-none h = sym (ap (λ (c : Bool). cond c (walking g [] [] x) (lined b i (why_not n) (walking g [] [] x))) (sym is ∙ h))
 
   pub settle-line : (y : List ℕ) (why : ℕ) (h : Going) → h ≡ record { session = g.session; lines = g.lines + 1; transfers = g.transfers }
-      → y ≡ put x (3 * g.lines) (b ∷ i ∷ why ∷ []) → why ≡ whyNot n → ok ≡ false → walking h [] [] y ≡ settled n b i (walking g [] [] x)
+      → y ≡ put x (3 * g.lines) (b ∷ i ∷ why ∷ []) → why ≡ why_not n → ok ≡ false → walking h [] [] y ≡ settled n b i (walking g [] [] x)
   unfolding settled
   settle-line y why h eh ey q z =
       line-is g [] [] x y b i why h eh ey
       ∙ ap (λ (m : ℕ). lined b i m (walking g [] [] x)) q
-      ∙ sym (ap (λ (c : Bool). cond c (walking g [] [] x) (lined b i (whyNot n) (walking g [] [] x))) (sym is ∙ z))
+      ∙ sym (ap (λ (c : Bool). cond c (walking g [] [] x) (lined b i (why_not n) (walking g [] [] x))) (sym is ∙ z))
 
 -- a walk on other words
 abbrev on : List ℕ → List ℕ → List ℕ → Walk → Walk
@@ -90,13 +90,13 @@ settled_on : (n b i : ℕ) (f d : List ℕ) (w : Walk) → on f d (settled n b i
 unfolding settled lined
 settled_on n b i f d w = go (accepted n)
   where
-    go : (c : Bool) → let v = cond c w (lined b i (whyNot n) w) in
-        on f d v.report v ≡ cond c (on f d w.report w) (lined b i (whyNot n) (on f d w.report w))
+    go : (c : Bool) → let v = cond c w (lined b i (why_not n) w) in
+        on f d v.report v ≡ cond c (on f d w.report w) (lined b i (why_not n) (on f d w.report w))
     go true = refl
     go false = refl
 
 -- the record with key ONES is left
-module _ (g : Going) (f d x : List ℕ) (b i : ℕ) (r : List ℕ) (t : Bool) (ones : t ≡ allAre 262143 (part 0 g.session.desc.k r)) where
+module _ (g : Going) (f d x : List ℕ) (b i : ℕ) (r : List ℕ) (t : Bool) (ones : t ≡ all_are 262143 (part 0 g.session.desc.k r)) where
   abbrev before : Walk
   before = walking g f d x
 
@@ -104,13 +104,13 @@ module _ (g : Going) (f d x : List ℕ) (b i : ℕ) (r : List ℕ) (t : Bool) (o
   by_ones c = cond c before (settled (tried r before).number b i (after (tried r before) before))
 
   pub one_left : t ≡ true → before ≡ step before (found b i r)
-  unfolding step isOnes by_ones
+  unfolding step is_ones by_ones
   one_left h = sym (ap by_ones (sym ones ∙ h))
 
   -- any other is put in
   pub one-done : (n : ℕ) (v h : Going) (f' d' y : List ℕ) → tells n (walking v f' d' []) ≡ inserted r (walking g f d [])
       → walking h [] [] y ≡ settled n b i (walking v [] [] x) → t ≡ false → walking h f' d' y ≡ step before (found b i r)
-  unfolding step isOnes by_ones after tried
+  unfolding step is_ones by_ones after tried
   one-done n v h f' d' y e s z =
       ap (λ (w : Walk). on f' d' w.report w) s
       ∙ settled_on n b i f' d' (walking v [] [] x)
@@ -149,12 +149,12 @@ after-grown r w =
 pub step-grown : (w : Walk) (m : Met) → Grown w (step w m) 1
 unfolding step settled after lined
 step-grown w (over b r) = record { lines = omega arith; transfers = omega arith; desc = refl }
-step-grown w (found b i r) = go (isOnes (keyIn w.session.desc r))
+step-grown w (found b i r) = go (is_ones (key_in w.session.desc r))
   where
     o : Outcome
     o = tried r w
 
-    by : (c : Bool) → Grown w (cond c (after o w) (lined b i (whyNot o.number) (after o w))) 1
+    by : (c : Bool) → Grown w (cond c (after o w) (lined b i (why_not o.number) (after o w))) 1
     by true = let g = after-grown r w in record { lines = omega arith; transfers = omega (arith, g.0); desc = g.1 }
     by false = let g = after-grown r w in record { lines = omega arith; transfers = omega (arith, g.0); desc = g.1 }
 

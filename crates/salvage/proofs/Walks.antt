@@ -13,12 +13,12 @@ use lib.ListN.{length, length-append, get_or, take, drop}
 use Rattle.words.specs.Words.{part, put}
 use Rattle.words.proofs.Parts.{length_part}
 use Rattle.drum.specs.declared.Description.{Description}
-use Rattle.drum.specs.Params.{D, fileSize, start, goodParams}
+use Rattle.drum.specs.Params.{D, file_size, start, good_params}
 use Rattle.drum.specs.Blocks.{block_at}
 use Rattle.drum.proofs.Good.{caps}
 use Rattle.drum.proofs.Blocks.{block_within}
 use Rattle.salvage.specs.declared.Going.{Going}
-use Rattle.salvage.specs.Met.{Met, over, found, countIn, rows_from, recordsIn, missed, places, metIn, metFrom, met}
+use Rattle.salvage.specs.Met.{Met, over, found, count_in, rows_from, records_in, missed, places, met_in, met_from, met}
 use Rattle.salvage.specs.Salvage.{Walk, lined, step, run}
 use Rattle.salvage.specs.Promise.{walking, Spare, Ready, Taken, Copied}
 use Rattle.salvage.proofs.Rows.{part-lent, rows-less, rows-length}
@@ -46,7 +46,7 @@ module _ (g : Going) (t : List ℕ) (b n : ℕ) (h : Taken g t b n) where
   pub block-small : b ≤ 262143
   block-small = h.ready.block
 
-  pub desc-good : goodParams g.session.desc ≡ true
+  pub desc-good : good_params g.session.desc ≡ true
   desc-good = h.ready.good
 
   module _ (count : ℕ) (is : count ≡ get_or t 0 0 - 8192) where
@@ -56,16 +56,16 @@ module _ (g : Going) (t : List ℕ) (b n : ℕ) (h : Taken g t b n) where
     pub rows-within : 1 + (count - 0) * g.session.desc.wpr ≤ length t
     rows-within =
         let c = caps _ h.ready.good in
-        let z : count - 0 ≡ countIn t = omega arith in
-        let m : countIn t * g.session.desc.wpr ≤ D g.session.desc * g.session.desc.wpr = mul-le-mul_right g.session.desc.wpr h.counted in
+        let z : count - 0 ≡ count_in t = omega arith in
+        let m : count_in t * g.session.desc.wpr ≤ D g.session.desc * g.session.desc.wpr = mul-le-mul_right g.session.desc.wpr h.counted in
         omega (arith, h.ready.text-is, ap (λ (k : ℕ). k * g.session.desc.wpr) z)
 
     pub records-spare : Spare g (count - 0) n
     records-spare = let s = h.ready.spare in let a = s.lines in let c = s.transfers in record { lines = omega (arith, h.counted); transfers = omega (arith, h.counted) }
 
-    pub records-first : (w : Walk) → run w (places b 1 (recordsIn g.session.desc t)) ≡ run w (places b (0 + 1) (rows_from g.session.desc.wpr 1 (count - 0) t))
+    pub records-first : (w : Walk) → run w (places b 1 (records_in g.session.desc t)) ≡ run w (places b (0 + 1) (rows_from g.session.desc.wpr 1 (count - 0) t))
     records-first w =
-        let z : countIn t ≡ count - 0 = omega arith in
+        let z : count_in t ≡ count - 0 = omega arith in
         ap (λ (k : ℕ). run w (places b 1 (rows_from g.session.desc.wpr 1 k t))) z
 
 -- the record at word `at`, the i + 1st of count
@@ -84,7 +84,7 @@ module _ (count i w at : ℕ) (t : List ℕ) (within : at + (count - i) * w ≤ 
   pub rows-after : at + w + (count - (i + 1)) * w ≤ length t
   rows-after = omega (arith, left_less)
 
-  pub key-lent : (g : Going) (p : Description) → g.session.desc ≡ p → w ≡ p.wpr → goodParams p ≡ true
+  pub key-lent : (g : Going) (p : Description) → g.session.desc ≡ p → w ≡ p.wpr → good_params p ≡ true
       → g.session.desc.k ≤ length (take (at + w - at) (drop at t))
   key-lent g p q e good =
       let k : g.session.desc.k ≡ p.k = ap (λ (z : Description). z.k) q in
@@ -134,10 +134,10 @@ module _ (g : Going) (copy : List ℕ) (b at : ℕ) (is : at ≡ start g.session
   abbrev p : Description
   p = g.session.desc
 
-  pub block_walked : (v w : Walk) → v ≡ run w (metIn p b (take (at + p.wpb - at) (drop at copy))) → v ≡ run w (metIn p b (block_at p copy b))
+  pub block_walked : (v w : Walk) → v ≡ run w (met_in p b (take (at + p.wpb - at) (drop at copy))) → v ≡ run w (met_in p b (block_at p copy b))
   unfolding block_at
   block_walked v w e =
-      e ∙ ap (λ (t : List ℕ). run w (metIn p b t)) (part-lent at p.wpb copy ∙ ap (λ (a : ℕ). part a p.wpb copy) is)
+      e ∙ ap (λ (t : List ℕ). run w (met_in p b t)) (part-lent at p.wpb copy ∙ ap (λ (a : ℕ). part a p.wpb copy) is)
 
   module _ (h : Copied g copy) (least : 1 ≤ b) (most : b ≤ g.session.desc.n) where
     lies : at + p.wpb ≤ length copy
@@ -166,11 +166,11 @@ module _ (g : Going) (copy : List ℕ) (b at : ℕ) (is : at ≡ start g.session
 -- what its text gives: m is the first test that it misses, as the code has it
 module _ (g : Going) (t : List ℕ) (b m : ℕ) (told : m ≡ missed g.session.desc t) where
   given_by : (w : Walk) (c : Bool) → Walk
-  given_by w c = run w (cond c (places b 1 (recordsIn g.session.desc t)) (over b (missed g.session.desc t) ∷ []))
+  given_by w c = run w (cond c (places b 1 (records_in g.session.desc t)) (over b (missed g.session.desc t) ∷ []))
 
   pub block-over : (f d x y : List ℕ) (r : Going) → r ≡ record { session = g.session; lines = g.lines + 1; transfers = g.transfers }
-      → y ≡ put x (3 * g.lines) (b ∷ 0 ∷ m ∷ []) → (m ≡ 0 → ⊥) → walking r f d y ≡ run (walking g f d x) (metIn g.session.desc b t)
-  unfolding run metIn step given_by
+      → y ≡ put x (3 * g.lines) (b ∷ 0 ∷ m ∷ []) → (m ≡ 0 → ⊥) → walking r f d y ≡ run (walking g f d x) (met_in g.session.desc b t)
+  unfolding run met_in step given_by
   block-over f d x y r er ey ne =
       line-is g f d x y b 0 m r er ey
       ∙ ap (λ (n : ℕ). lined b 0 n (walking g f d x)) told
@@ -182,11 +182,11 @@ module _ (g : Going) (t : List ℕ) (b m : ℕ) (told : m ≡ missed g.session.d
       record {
         ready = s;
         marked = (range-facts 8192 12287 (get_or t 0 0) w.marked).0;
-        counted = (range-facts 1 (D g.session.desc) (countIn t) w.counted).1;
+        counted = (range-facts 1 (D g.session.desc) (count_in t) w.counted).1;
       }
 
-  pub block_run : (v w : Walk) → v ≡ run w (places b 1 (recordsIn g.session.desc t)) → m ≡ 0 → v ≡ run w (metIn g.session.desc b t)
-  unfolding metIn given_by
+  pub block_run : (v w : Walk) → v ≡ run w (places b 1 (records_in g.session.desc t)) → m ≡ 0 → v ≡ run w (met_in g.session.desc b t)
+  unfolding met_in given_by
   block_run v w e z = e ∙ sym (ap (given_by w) (ap (λ (n : ℕ). eqb n 0) (sym told) ∙ eq-eqb m 0 z))
 
 -- of a text that can be looked at
@@ -197,34 +197,34 @@ module _ (g : Going) (t : List ℕ) (b n : ℕ) (h : Ready g t b n) where
   pub ready-block : b ≤ 262143
   ready-block = h.block
 
-pub met-few : (p : Description) (b : ℕ) (t : List ℕ) → length (metIn p b t) ≤ 1 + D p
-unfolding metIn
+pub met-few : (p : Description) (b : ℕ) (t : List ℕ) → length (met_in p b t) ≤ 1 + D p
+unfolding met_in
 met-few p b t = go (eqb (missed p t) 0) refl
   where
-    go : (c : Bool) → eqb (missed p t) 0 ≡ c → length (cond c (places b 1 (recordsIn p t)) (over b (missed p t) ∷ [])) ≤ 1 + D p
+    go : (c : Bool) → eqb (missed p t) 0 ≡ c → length (cond c (places b 1 (records_in p t)) (over b (missed p t) ∷ [])) ≤ 1 + D p
     go true e =
-        let l = range-facts 1 (D p) (countIn t) (whole p t (eqb-true _ _ e)).counted in
-        omega (arith, places-length b 1 (recordsIn p t), rows-length p.wpr 1 (countIn t) t)
+        let l = range-facts 1 (D p) (count_in t) (whole p t (eqb-true _ _ e)).counted in
+        omega (arith, places-length b 1 (records_in p t), rows-length p.wpr 1 (count_in t) t)
     go false e = omega arith
 
-pub met-most : (p : Description) (copy : List ℕ) (b n : ℕ) → length (metFrom p copy b n) ≤ n * (1 + D p)
-unfolding metFrom
+pub met-most : (p : Description) (copy : List ℕ) (b n : ℕ) → length (met_from p copy b n) ≤ n * (1 + D p)
+unfolding met_from
 met-most p copy b zero = omega arith
 met-most p copy b (suc n) =
     let e : suc n * (1 + D p) ≡ 1 + D p + n * (1 + D p) = omega arith in
-    omega (arith, length-append (metIn p b (block_at p copy b)) (metFrom p copy (b + 1) n), met-few p b (block_at p copy b), met-most p copy (b + 1) n)
+    omega (arith, length-append (met_in p b (block_at p copy b)) (met_from p copy (b + 1) n), met-few p b (block_at p copy b), met-most p copy (b + 1) n)
 
 -- ---- all blocks: b of n are done
 
 module _ (g : Going) (copy : List ℕ) (h : Copied g copy) where
-  pub blocks-first : (w : Walk) → run w (met g.session.desc copy) ≡ run w (metFrom g.session.desc copy (0 + 1) (g.session.desc.n - 0))
+  pub blocks-first : (w : Walk) → run w (met g.session.desc copy) ≡ run w (met_from g.session.desc copy (0 + 1) (g.session.desc.n - 0))
   blocks-first w =
       let z : g.session.desc.n ≡ g.session.desc.n - 0 = omega arith in
-      ap (λ (k : ℕ). run w (metFrom g.session.desc copy 1 k)) z
+      ap (λ (k : ℕ). run w (met_from g.session.desc copy 1 k)) z
 
   -- the same of the walk further on, whose parameters are the same
   pub copied_on : (k : Going) → k.session.desc ≡ g.session.desc → Copied k copy
-  copied_on k e = record { good = ap goodParams e ∙ h.good; copy_is = h.copy_is ∙ ap fileSize (sym e) }
+  copied_on k e = record { good = ap good_params e ∙ h.good; copy_is = h.copy_is ∙ ap file_size (sym e) }
 
 pub blocks-fit : (b n : ℕ) → b < n → Fits w64 n → Fits w64 (b + 1)
 blocks-fit b n l f = omega arith
@@ -250,9 +250,9 @@ module _ (p : Description) (g : Going) (e : g.session.desc ≡ p) (b n : ℕ) (m
   pub number-most : n ≡ p.n → b + 1 ≤ g.session.desc.n
   number-most q = let d : g.session.desc.n ≡ p.n = ap (λ (z : Description). z.n) e in omega arith
 
-  module _ (k : Going) (f d x f' d' x' copy : List ℕ) (q : walking k f' d' x' ≡ run (walking g f d x) (metIn g.session.desc (b + 1) (block_at g.session.desc copy (b + 1)))) where
+  module _ (k : Going) (f d x f' d' x' copy : List ℕ) (q : walking k f' d' x' ≡ run (walking g f d x) (met_in g.session.desc (b + 1) (block_at g.session.desc copy (b + 1)))) where
     abbrev here : Description → List Met
-    here z = metIn z (b + 1) (block_at z copy (b + 1))
+    here z = met_in z (b + 1) (block_at z copy (b + 1))
 
     pub spare-next : (r : ℕ) → Spare g ((n - b) * (1 + D p)) r → Spare k ((n - (b + 1)) * (1 + D p)) r
     spare-next r s =
@@ -263,19 +263,19 @@ module _ (p : Description) (g : Going) (e : g.session.desc ≡ p) (b n : ℕ) (m
     pub desc-next : k.session.desc ≡ p
     desc-next = desc-after g k f d x f' d' x' _ q ∙ e
 
-    pub block-turn : (whole : Walk) → whole ≡ run (walking g f d x) (metFrom p copy (b + 1) (n - b))
-        → whole ≡ run (walking k f' d' x') (metFrom p copy (b + 1 + 1) (n - (b + 1)))
-    unfolding metFrom
+    pub block-turn : (whole : Walk) → whole ≡ run (walking g f d x) (met_from p copy (b + 1) (n - b))
+        → whole ≡ run (walking k f' d' x') (met_from p copy (b + 1 + 1) (n - (b + 1)))
+    unfolding met_from
     block-turn whole w =
         let m : n - b ≡ suc (n - (b + 1)) = omega arith in
-        let rest = metFrom p copy (b + 1 + 1) (n - (b + 1)) in
-        w ∙ ap (λ (j : ℕ). run (walking g f d x) (metFrom p copy (b + 1) j)) m
+        let rest = met_from p copy (b + 1 + 1) (n - (b + 1)) in
+        w ∙ ap (λ (j : ℕ). run (walking g f d x) (met_from p copy (b + 1) j)) m
         ∙ run_more (here p) rest (walking g f d x)
         ∙ ap (λ (z : Description). run (run (walking g f d x) (here z)) rest) (sym e)
         ∙ ap (λ (v : Walk). run v rest) (sym q)
 
-pub blocks_end : (whole w : Walk) (p : Description) (copy : List ℕ) (b n : ℕ) → whole ≡ run w (metFrom p copy (b + 1) (n - b)) → n ≤ b → w ≡ whole
-unfolding run metFrom
+pub blocks_end : (whole w : Walk) (p : Description) (copy : List ℕ) (b n : ℕ) → whole ≡ run w (met_from p copy (b + 1) (n - b)) → n ≤ b → w ≡ whole
+unfolding run met_from
 blocks_end whole w p copy b n q l =
     let m : n - b ≡ 0 = omega arith in
-    sym (q ∙ ap (λ (k : ℕ). run w (metFrom p copy (b + 1) k)) m)
+    sym (q ∙ ap (λ (k : ℕ). run w (met_from p copy (b + 1) k)) m)

@@ -5,10 +5,10 @@ mod walk;
 
 ghost use Rattle.std.specs.Prelude.{◌≡◌, true, [], ◌+◌, ◌*◌, ◌≤◌, length};
 ghost use Rattle.words.specs.Slices.{was, became};
-ghost use Rattle.drum.specs.Params.{D, goodParams, fileSize};
+ghost use Rattle.drum.specs.Params.{D, good_params, file_size};
 ghost use Rattle.salvage.specs.Met.{met};
 ghost use Rattle.salvage.specs.Salvage.{run, begun, ended, roomy, salvage as salvaged};
-ghost use Rattle.salvage.specs.Promise.{walking, answeredWith, Spare, Copied, Roomy};
+ghost use Rattle.salvage.specs.Promise.{walking, answered_with, Spare, Copied, Roomy};
 
 use drum::Description;
 use numbers::{DONE, WRONG_SIZE};
@@ -33,7 +33,7 @@ pub struct Salvaged {
 
 // CREATE, and what goes on after an OPEN of what it wrote.
 fn begin(desc: Description, fresh: &mut [u32]) -> Going
-    requires { (goodParams desc ≡ true) × (length fresh.old ≡ fileSize desc) }
+    requires { (good_params desc ≡ true) × (length fresh.old ≡ file_size desc) }
     ensures { walking result (became fresh) [] [] ≡ begun desc [] [] }
 {
     layout::lay_out(desc, fresh);
@@ -63,7 +63,7 @@ fn is_roomy(p: Description, copy: usize, fresh: usize, buffer: usize, report: us
 // CLOSE, and what the call answers.
 fn finish(going: Going, fresh: &mut [u32], buffer: &[u32]) -> Salvaged
     requires { going.transfers ≤ 1099511627776 }
-    ensures { answeredWith result (became fresh) (was buffer) [] ≡ ended (walking going (was fresh) (was buffer) []) }
+    ensures { answered_with result (became fresh) (was buffer) [] ≡ ended (walking going (was fresh) (was buffer) []) }
 {
     let held = going.session;
     let answer = held.close(fresh, buffer);
@@ -84,7 +84,7 @@ fn carry_on(
 ) -> Salvaged
     requires { Copied first copy.now
         × Spare first (first.session.desc.n * (1 + D first.session.desc)) (length report.old) }
-    ensures { answeredWith result (became fresh) (became buffer) (became report)
+    ensures { answered_with result (became fresh) (became buffer) (became report)
         ≡ ended (run (walking first (was fresh) (was buffer) (was report)) (met first.session.desc (was copy))) }
 {
     let last = every_block(first, copy, fresh, buffer, report);
@@ -100,7 +100,7 @@ fn build(
     report: &mut [u32],
 ) -> Salvaged
     requires { Roomy desc (length copy.now) (length fresh.old) (length buffer.old) (length report.old) }
-    ensures { answeredWith result (became fresh) (became buffer) (became report)
+    ensures { answered_with result (became fresh) (became buffer) (became report)
         ≡ ended (run (begun desc (was buffer) (was report)) (met desc (was copy))) }
 {
     let first = begin(desc, fresh);
@@ -115,7 +115,7 @@ pub fn salvage(
     buffer: &mut [u32],
     report: &mut [u32],
 ) -> Salvaged
-    ensures { answeredWith result (became fresh) (became buffer) (became report)
+    ensures { answered_with result (became fresh) (became buffer) (became report)
         ≡ salvaged desc (was copy) (was fresh) (was buffer) (was report) }
 {
     if !is_roomy(desc, copy.len(), fresh.len(), buffer.len(), report.len()) {

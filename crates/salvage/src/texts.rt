@@ -1,9 +1,9 @@
 // What the text of a block says: the four tests, in their order.
 ghost use Rattle.std.specs.Prelude.{◌≡◌, true, ◌+◌, ◌*◌, ◌≤◌, ◌<◌, length, get_or};
-ghost use Rattle.drum.specs.Params.{goodParams, detailKind};
+ghost use Rattle.drum.specs.Params.{good_params, detail_kind};
 ghost use Rattle.layout.specs.Holds.{ascending, keys_of};
 ghost use Rattle.words.specs.Slices.{was};
-ghost use Rattle.salvage.specs.Met.{countIn, rows_from, missed as firstMissed};
+ghost use Rattle.salvage.specs.Met.{count_in, rows_from, missed as first_missed};
 
 use drum::Description;
 
@@ -17,8 +17,8 @@ const BAD_ORDER: usize = 4;
 
 // How many records a text marked detail says that it has.
 pub fn count_in(t: &[u32]) -> usize
-    requires { (0 < length t.now) × (detailKind ≤ get_or t.now 0 0) }
-    ensures { result ≡ countIn (was t) }
+    requires { (0 < length t.now) × (detail_kind ≤ get_or t.now 0 0) }
+    ensures { result ≡ count_in (was t) }
 {
     words::word_at(t, 0) - Description::DETAIL
 }
@@ -43,8 +43,8 @@ fn keys_ascend(p: Description, t: &[u32], n: usize) -> bool
 
 // The first test that a text misses, 0 where it misses none.
 pub fn missed(p: Description, t: &[u32]) -> usize
-    requires { (goodParams p ≡ true) × (length t.now ≡ p.wpb) }
-    ensures { result ≡ firstMissed p (was t) }
+    requires { (good_params p ≡ true) × (length t.now ≡ p.wpb) }
+    ensures { result ≡ first_missed p (was t) }
 {
     let word = words::word_at(t, 0);
     if word < Description::DETAIL {

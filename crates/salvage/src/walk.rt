@@ -4,8 +4,8 @@ ghost use Rattle.words.specs.Words.{put};
 ghost use Rattle.words.specs.Slices.{was, became};
 ghost use Rattle.drum.specs.Params.{D};
 ghost use Rattle.drum.specs.Blocks.{block_at};
-ghost use Rattle.salvage.specs.Met.{found, places, recordsIn, metIn, met};
-ghost use Rattle.salvage.specs.Salvage.{whyNot, settled, step, run};
+ghost use Rattle.salvage.specs.Met.{found, places, records_in, met_in, met};
+ghost use Rattle.salvage.specs.Salvage.{why_not, settled, step, run};
 ghost use Rattle.salvage.specs.Promise.{walking, tells, inserted, Spare, Ready, Taken, Copied};
 
 use super::{Going, texts};
@@ -58,7 +58,7 @@ fn add_line(going: Going, report: &mut [u32], at: Place, reason: usize) -> Going
 
 // Why a record was not carried, by NSERT's number.
 fn why_not(number: u32) -> usize
-    ensures { result ≡ whyNot number }
+    ensures { result ≡ why_not number }
 {
     if number == NOT_FOUND {
         return SECOND_COPY;
@@ -135,7 +135,7 @@ fn take_records(
 ) -> Going
     requires { Taken going text.now b (length report.old) }
     ensures { walking result (became file) (became buffer) (became report)
-        ≡ run (walking going (was file) (was buffer) (was report)) (places b 1 (recordsIn going.session.desc (was text))) }
+        ≡ run (walking going (was file) (was buffer) (was report)) (places b 1 (records_in going.session.desc (was text))) }
 {
     let wpr = going.session.desc.wpr;
     let count = texts::count_in(text);
@@ -163,7 +163,7 @@ fn one_block(
 ) -> Going
     requires { Ready going text.now b (length report.old) }
     ensures { walking result (became file) (became buffer) (became report)
-        ≡ run (walking going (was file) (was buffer) (was report)) (metIn going.session.desc b (was text)) }
+        ≡ run (walking going (was file) (was buffer) (was report)) (met_in going.session.desc b (was text)) }
 {
     let reason = texts::missed(going.session.desc, text);
     if reason != 0 {
@@ -187,7 +187,7 @@ fn block_of(
         × (b ≤ going.session.desc.n)
         × Spare going (1 + D going.session.desc) (length report.old) }
     ensures { walking result (became file) (became buffer) (became report)
-        ≡ run (walking going (was file) (was buffer) (was report)) (metIn going.session.desc b (block_at going.session.desc (was copy) b)) }
+        ≡ run (walking going (was file) (was buffer) (was report)) (met_in going.session.desc b (block_at going.session.desc (was copy) b)) }
 {
     let p = going.session.desc;
     let start = p.start(b);

@@ -10,7 +10,7 @@ use lib.Dec.{eqb}
 use Rattle.drum.specs.declared.Description.{Description}
 use Rattle.drum.specs.Blocks.{block_at}
 use Rattle.layout.specs.Holds.{All}
-use Rattle.salvage.specs.Met.{Met, over, found, recordsIn, missed, places, metIn, metFrom}
+use Rattle.salvage.specs.Met.{Met, over, found, records_in, missed, places, met_in, met_from}
 use Rattle.salvaged.proofs.Rows.{all_both, all-at}
 
 abbrev pub block_of : Met → ℕ
@@ -89,15 +89,15 @@ places-asc b i [] = tt
 places-asc b i (r ∷ rs) =
     (all_map _ (Later b i) (λ m h. inr (sym h.0, omega (arith, h.1))) (places b (i + 1) rs) (places-in b (i + 1) rs), places-asc b (i + 1) rs)
 
-block-asc : (p : Description) (b : ℕ) (t : List ℕ) → Asc (metIn p b t) × All (Within b) (metIn p b t)
-unfolding All Asc metIn
+block-asc : (p : Description) (b : ℕ) (t : List ℕ) → Asc (met_in p b t) × All (Within b) (met_in p b t)
+unfolding All Asc met_in
 block-asc p b t = go (eqb (missed p t) 0)
   where
-    go : (c : Bool) → let ms = cond c (places b 1 (recordsIn p t)) (over b (missed p t) ∷ []) in Asc ms × All (Within b) ms
-    go true = (places-asc b 1 (recordsIn p t), all_map _ (Within b) (λ m h. h.0) (places b 1 (recordsIn p t)) (places-in b 1 (recordsIn p t)))
+    go : (c : Bool) → let ms = cond c (places b 1 (records_in p t)) (over b (missed p t) ∷ []) in Asc ms × All (Within b) ms
+    go true = (places-asc b 1 (records_in p t), all_map _ (Within b) (λ m h. h.0) (places b 1 (records_in p t)) (places-in b 1 (records_in p t)))
     go false = ((tt, tt), (refl, tt))
 
-pub in_block : (p : Description) (b : ℕ) (t : List ℕ) → All (Within b) (metIn p b t)
+pub in_block : (p : Description) (b : ℕ) (t : List ℕ) → All (Within b) (met_in p b t)
 in_block p b t = (block-asc p b t).1
 
 asc-join : (b : ℕ) (xs ys : List Met) → Asc xs → Asc ys → All (Within b) xs → All (From (b + 1)) ys → Asc (xs ++ ys)
@@ -108,17 +108,17 @@ asc-join b (x ∷ xs) ys a c w f = (
   asc-join b xs ys a.1 c w.1 f,
 )
 
-pub blocks_from : (p : Description) (copy : List ℕ) (n b : ℕ) → All (From b) (metFrom p copy b n)
-unfolding All metFrom
+pub blocks_from : (p : Description) (copy : List ℕ) (n b : ℕ) → All (From b) (met_from p copy b n)
+unfolding All met_from
 blocks_from p copy zero b = tt
 blocks_from p copy (suc n) b =
-    all_both (From b) (metIn p b (block_at p copy b)) (metFrom p copy (b + 1) n)
-    (all_map (Within b) (From b) (λ m e. omega arith) (metIn p b (block_at p copy b)) (in_block p b (block_at p copy b)))
-    (all_map (From (b + 1)) (From b) (λ m h. omega arith) (metFrom p copy (b + 1) n) (blocks_from p copy n (b + 1)))
+    all_both (From b) (met_in p b (block_at p copy b)) (met_from p copy (b + 1) n)
+    (all_map (Within b) (From b) (λ m e. omega arith) (met_in p b (block_at p copy b)) (in_block p b (block_at p copy b)))
+    (all_map (From (b + 1)) (From b) (λ m h. omega arith) (met_from p copy (b + 1) n) (blocks_from p copy n (b + 1)))
 
-pub walk-asc : (p : Description) (copy : List ℕ) (n b : ℕ) → Asc (metFrom p copy b n)
-unfolding Asc metFrom
+pub walk-asc : (p : Description) (copy : List ℕ) (n b : ℕ) → Asc (met_from p copy b n)
+unfolding Asc met_from
 walk-asc p copy zero b = tt
 walk-asc p copy (suc n) b =
-    asc-join b (metIn p b (block_at p copy b)) (metFrom p copy (b + 1) n) (block-asc p b (block_at p copy b)).0 (walk-asc p copy n (b + 1))
+    asc-join b (met_in p b (block_at p copy b)) (met_from p copy (b + 1) n) (block-asc p b (block_at p copy b)).0 (walk-asc p copy n (b + 1))
     (in_block p b (block_at p copy b)) (blocks_from p copy n (b + 1))

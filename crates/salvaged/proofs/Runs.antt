@@ -6,32 +6,32 @@ use Prim.Native.Nat.{ℕ, ◌+◌}
 use native.Mathlib.Omega.{arith}
 use borrow.Author.Tests.{eq-eqb}
 use lib.ListN.{length, length-replicate}
-use Rattle.numbers.specs.Numbers.{done, wrongSize, accepted}
+use Rattle.numbers.specs.Numbers.{done, wrong_size, accepted}
 use Rattle.numbers.specs.Checked.{passed}
 use Rattle.words.specs.Words.{zeros}
-use Rattle.words.specs.Keys.{isOnes}
+use Rattle.words.specs.Keys.{is_ones}
 use Rattle.words.proofs.All.{both-and}
 use Rattle.drum.specs.declared.Description.{Description}
-use Rattle.drum.specs.Params.{goodParams, fileSize}
-use Rattle.layout.specs.Create.{created, endRecord}
-use Rattle.layout.specs.Tree.{Tree, contents, freshTree, freshSection, freshLeaf, marksOf}
+use Rattle.drum.specs.Params.{good_params, file_size}
+use Rattle.layout.specs.Create.{created, end_record}
+use Rattle.layout.specs.Tree.{Tree, contents, fresh_tree, fresh_section, fresh_leaf, marks_of}
 use Rattle.layout.specs.Holds.{Holds}
 use Rattle.layout.proofs.Made.{created-length, created-marks}
 use Rattle.layout.proofs.Unique.{one-tree}
-use Rattle.rules.specs.State.{Session, State, Outcome, desc, keyIn, lent, atRest}
-use Rattle.rules.specs.Open.{Created, Opened, create, openLayout, openFile}
+use Rattle.rules.specs.State.{Session, State, Outcome, desc, key_in, lent, at_rest}
+use Rattle.rules.specs.Open.{Created, Opened, create, open_layout, open_file}
 use Rattle.rules.specs.NsertDone.{nsert}
 use Rattle.rules.specs.Requests.{Request, inserting, lending, answer, left, tally}
 use Rattle.demands.specs.Promises.{AfterOpen}
-use Rattle.demands.specs.History.{Event, stored, eventOf, events}
+use Rattle.demands.specs.History.{Event, stored, event_of, events}
 use Rattle.demands.specs.Contents.{changed, Contains}
-use Rattle.demands.specs.Formula.{AfterCreate, allTransfers}
+use Rattle.demands.specs.Formula.{AfterCreate, all_transfers}
 use Rattle.demands.proofs.Opens.{open-tests}
 use Rattle.demands.proofs.Made.{made-opens}
 use Rattle.demands.proofs.Whole.{run-contents}
 use Rattle.demands.proofs.Came.{Stays, settled-stays}
 use Rattle.salvage.specs.Met.{Met, over, found}
-use Rattle.salvage.specs.Salvage.{Walk, lined, whyNot, after, tried, settled, step, run, begun}
+use Rattle.salvage.specs.Salvage.{Walk, lined, why_not, after, tried, settled, step, run, begun}
 use Rattle.salvage.proofs.Steps.{step-grown}
 use Rattle.salvaged.specs.Spots.{Spot, spots, rows_of, inserts, started, carried_of}
 
@@ -66,7 +66,7 @@ carried-more (x ∷ xs) ys st = go (accepted (answer st (inserting x.row)).numbe
     go false e = e
 
 events-carried : (xs : List Spot) (st : State) → events st (inserts xs) ≡ map stored (rows_of (carried_of st xs))
-unfolding events eventOf carried_of
+unfolding events event_of carried_of
 events-carried [] st = refl
 events-carried (x ∷ xs) st = go (accepted (answer st (inserting x.row)).number) (events-carried xs (answer st (inserting x.row)).after)
   where
@@ -78,7 +78,7 @@ events-carried (x ∷ xs) st = go (accepted (answer st (inserting x.row)).number
 
 -- ---- from CREATE and OPEN
 
-module _ (p : Description) (buffer : List ℕ) (good : goodParams p ≡ true) (long : length buffer ≡ p.wpb) where
+module _ (p : Description) (buffer : List ℕ) (good : good_params p ≡ true) (long : length buffer ≡ p.wpb) where
   abbrev closed : Session
   closed = record { desc = p; opened = false; current = 0; flag = false; placed = false; position = zeros 63 }
 
@@ -92,8 +92,8 @@ module _ (p : Description) (buffer : List ℕ) (good : goodParams p ≡ true) (l
   marks = zeros p.n
 
   opening : ((create p (created p)).number ≡ done)
-      × ((openFile made marks).outcome.number ≡ done)
-      × Holds p file (freshTree p)
+      × ((open_file made marks).outcome.number ≡ done)
+      × Holds p file (fresh_tree p)
   opening =
       let o = made-opens closed (created p) buffer [] marks good (created-length p good) long (length-replicate {A = ℕ} p.n 0) refl in
       (o.0, o.1, o.3)
@@ -101,17 +101,17 @@ module _ (p : Description) (buffer : List ℕ) (good : goodParams p ≡ true) (l
   file-is : file ≡ created p
   unfolding create
   file-is =
-      ap (λ (c : Bool). (cond {A = Created} c (record { number = done; file = created p }) (record { number = wrongSize; file = created p })).file)
-      (both-and (goodParams p) _ good (eq-eqb (length (created p)) (fileSize p) (created-length p good)))
+      ap (λ (c : Bool). (cond {A = Created} c (record { number = done; file = created p }) (record { number = wrong_size; file = created p })).file)
+      (both-and (good_params p) _ good (eq-eqb (length (created p)) (file_size p) (created-length p good)))
 
   -- what OPEN leaves
-  opened-is : (openFile made marks).outcome.after ≡ started p buffer
-  unfolding openLayout atRest started begun
+  opened-is : (open_file made marks).outcome.after ≡ started p buffer
+  unfolding open_layout at_rest started begun
   opened-is =
       ap (λ (o : Opened). o.outcome.after)
-      (ap (λ (f : List ℕ). openFile (lent closed f buffer []) marks) file-is
+      (ap (λ (f : List ℕ). open_file (lent closed f buffer []) marks) file-is
       ∙ open-tests (lent closed (created p) buffer []) marks good (created-length p good) long (length-replicate {A = ℕ} p.n 0) refl
-      ∙ ap (openLayout (lent closed (created p) buffer [])) (created-marks p good))
+      ∙ ap (open_layout (lent closed (created p) buffer [])) (created-marks p good))
 
   pub from-open : (P : State → Type 0) → AfterOpen P → (qs : List Request) → P (left (started p buffer) qs)
   from-open P h qs = subst (λ (st : State). P (left st qs)) opened-is (h made marks opening.1 qs)
@@ -121,11 +121,11 @@ module _ (p : Description) (buffer : List ℕ) (good : goodParams p ≡ true) (l
 
   -- the records after any NSERTs
   pub contains : (xs : List Spot)
-      → Contains (left (started p buffer) (inserts xs)) (changed p (map stored (rows_of (carried_of (started p buffer) xs))) (endRecord p ∷ []))
-  unfolding freshTree freshSection freshLeaf
+      → Contains (left (started p buffer) (inserts xs)) (changed p (map stored (rows_of (carried_of (started p buffer) xs))) (end_record p ∷ []))
+  unfolding fresh_tree fresh_section fresh_leaf
   contains xs =
       let (t, there, runs) = run-contents made marks opening.1 in
-      let same : contents t ≡ endRecord p ∷ [] = ap contents (one-tree p file t (freshTree p) good there opening.2) in
+      let same : contents t ≡ end_record p ∷ [] = ap contents (one-tree p file t (fresh_tree p) good there opening.2) in
       let now : Contains (left (started p buffer) (inserts xs)) (changed p (events (started p buffer) (inserts xs)) (contents t))
       = subst (λ (st : State). Contains (left st (inserts xs)) (changed p (events st (inserts xs)) (contents t))) opened-is (runs (inserts xs)) in
       subst (Contains (left (started p buffer) (inserts xs))) (λ j. changed p (events-carried xs (started p buffer) j) (same j)) now
@@ -144,10 +144,10 @@ left-lent (x ∷ xs) st = refl
 -- what a walk leaves and costs is what its NSERTs leave and cost
 pub record Ran (p : Description) (w v : Walk) (ms : List Met) : Type 0 where
   pub state : state_of v ≡ lending [] (left (state_of w) (inserts (spots p ms)))
-  pub transfers : v.transfers ≡ w.transfers + allTransfers (state_of w) (inserts (spots p ms))
+  pub transfers : v.transfers ≡ w.transfers + all_transfers (state_of w) (inserts (spots p ms))
 
-cost-lent : (xs : List Spot) (st : State) → allTransfers (lending [] st) (inserts xs) ≡ allTransfers st (inserts xs)
-unfolding allTransfers tally lending answer
+cost-lent : (xs : List Spot) (st : State) → all_transfers (lending [] st) (inserts xs) ≡ all_transfers st (inserts xs)
+unfolding all_transfers tally lending answer
 cost-lent [] st = refl
 cost-lent (x ∷ xs) st = refl
 
@@ -156,7 +156,7 @@ settled-state : (n b i : ℕ) (v : Walk) → (state_of (settled n b i v) ≡ sta
 unfolding settled lined
 settled-state n b i v = go (accepted n)
   where
-    go : (c : Bool) → let u = cond c v (lined b i (whyNot n) v) in (state_of u ≡ state_of v) × (u.transfers ≡ v.transfers)
+    go : (c : Bool) → let u = cond c v (lined b i (why_not n) v) in (state_of u ≡ state_of v) × (u.transfers ≡ v.transfers)
     go true = (refl, refl)
     go false = (refl, refl)
 
@@ -164,15 +164,15 @@ module _ (w : Walk) (b i : ℕ) (r : List ℕ) where
   by_ones : Bool → Walk
   by_ones c = cond c w (settled (tried r w).number b i (after (tried r w) w))
 
-  pub found_left : isOnes (keyIn w.session.desc r) ≡ true → step w (found b i r) ≡ w
+  pub found_left : is_ones (key_in w.session.desc r) ≡ true → step w (found b i r) ≡ w
   unfolding step by_ones
   found_left h = ap by_ones h
 
-  pub found-tried : isOnes (keyIn w.session.desc r) ≡ false → step w (found b i r) ≡ settled (tried r w).number b i (after (tried r w) w)
+  pub found-tried : is_ones (key_in w.session.desc r) ≡ false → step w (found b i r) ≡ settled (tried r w).number b i (after (tried r w) w)
   unfolding step by_ones
   found-tried h = ap by_ones h
 
-  tried-state : isOnes (keyIn w.session.desc r) ≡ false
+  tried-state : is_ones (key_in w.session.desc r) ≡ false
       → (state_of (step w (found b i r)) ≡ lending [] (answer (state_of w) (inserting r)).after)
       × ((step w (found b i r)).transfers ≡ w.transfers + length (answer (state_of w) (inserting r)).transfers)
   unfolding after tried answer lending
@@ -184,27 +184,27 @@ module _ (w : Walk) (b i : ℕ) (r : List ℕ) where
 abbrev some : Description → ℕ → ℕ → List ℕ → List Met → Bool → List Spot
 some p b i r ms c = cond c (spots p ms) (record { block = b; place = i; row = r } ∷ spots p ms)
 
-found-ran : (p : Description) (b i : ℕ) (r : List ℕ) (ms : List Met) (w : Walk) → w.session.desc ≡ p → (c : Bool) → isOnes (keyIn p r) ≡ c
+found-ran : (p : Description) (b i : ℕ) (r : List ℕ) (ms : List Met) (w : Walk) → w.session.desc ≡ p → (c : Bool) → is_ones (key_in p r) ≡ c
     → Ran p (step w (found b i r)) (run (step w (found b i r)) ms) ms → Ran p w (run (step w (found b i r)) ms) (found b i r ∷ ms)
-unfolding spots left allTransfers tally
+unfolding spots left all_transfers tally
 found-ran p b i r ms w e true h k =
-    let is = found_left w b i r (ap (λ (q : Description). isOnes (keyIn q r)) e ∙ h) in
+    let is = found_left w b i r (ap (λ (q : Description). is_ones (key_in q r)) e ∙ h) in
     let ys = ap (some p b i r ms) (sym h) in
     record {
       state = k.state ∙ λ j. lending [] (left (state_of (is j)) (inserts (ys j)));
-      transfers = k.transfers ∙ λ j. (is j).transfers + allTransfers (state_of (is j)) (inserts (ys j));
+      transfers = k.transfers ∙ λ j. (is j).transfers + all_transfers (state_of (is j)) (inserts (ys j));
     }
 found-ran p b i r ms w e false h k =
-    let is = tried-state w b i r (ap (λ (q : Description). isOnes (keyIn q r)) e ∙ h) in
+    let is = tried-state w b i r (ap (λ (q : Description). is_ones (key_in q r)) e ∙ h) in
     let ys = ap (some p b i r ms) (sym h) in
     let u = (answer (state_of w) (inserting r)).after in
-    let cost : (step w (found b i r)).transfers + allTransfers (state_of (step w (found b i r))) (inserts (spots p ms))
-    ≡ w.transfers + (length (answer (state_of w) (inserting r)).transfers + allTransfers u (inserts (spots p ms)))
-    = omega (arith, is.1, ap (λ (x : State). allTransfers x (inserts (spots p ms))) is.0 ∙ cost-lent (spots p ms) u) in
+    let cost : (step w (found b i r)).transfers + all_transfers (state_of (step w (found b i r))) (inserts (spots p ms))
+    ≡ w.transfers + (length (answer (state_of w) (inserting r)).transfers + all_transfers u (inserts (spots p ms)))
+    = omega (arith, is.1, ap (λ (x : State). all_transfers x (inserts (spots p ms))) is.0 ∙ cost-lent (spots p ms) u) in
     record {
       state = k.state ∙ ap (λ (x : State). lending [] (left x (inserts (spots p ms)))) is.0 ∙ left-lent (spots p ms) u
           ∙ ap (λ (zs : List Spot). lending [] (left (state_of w) (inserts zs))) ys;
-      transfers = k.transfers ∙ cost ∙ ap (λ (zs : List Spot). w.transfers + allTransfers (state_of w) (inserts zs)) ys;
+      transfers = k.transfers ∙ cost ∙ ap (λ (zs : List Spot). w.transfers + all_transfers (state_of w) (inserts zs)) ys;
     }
 
 lined-desc : (b m : ℕ) (w : Walk) → (lined b 0 m w).session.desc ≡ w.session.desc
@@ -217,7 +217,7 @@ over-ran p b m ms w k = record { state = k.state; transfers = k.transfers }
 
 pub ran : (p : Description) (ms : List Met) (w : Walk) → w.session.desc ≡ p → Ran p w (run w ms) ms
 unfolding run step
-ran p [] w e = unfold spots left lending allTransfers tally in record { state = refl; transfers = omega arith }
+ran p [] w e = unfold spots left lending all_transfers tally in record { state = refl; transfers = omega arith }
 ran p (over b m ∷ ms) w e = over-ran p b m ms w (ran p ms (lined b 0 m w) (lined-desc b m w ∙ e))
 ran p (found b i r ∷ ms) w e =
-    found-ran p b i r ms w e (isOnes (keyIn p r)) refl (ran p ms (step w (found b i r)) ((step-grown w (found b i r)).desc ∙ e))
+    found-ran p b i r ms w e (is_ones (key_in p r)) refl (ran p ms (step w (found b i r)) ((step-grown w (found b i r)).desc ∙ e))

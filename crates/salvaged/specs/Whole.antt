@@ -3,7 +3,7 @@ use Rattle.std.specs.Prelude.{ℕ, ◌≡◌, ◌⊎◌, List}
 use Rattle.drum.specs.declared.Description.{Description}
 use Rattle.layout.specs.Tree.{Tree, contents}
 use Rattle.layout.specs.Holds.{All, Holds}
-use Rattle.salvage.specs.Met.{notMarked}
+use Rattle.salvage.specs.Met.{not_marked}
 use Rattle.salvage.specs.Salvage.{salvage}
 use Rattle.salvaged.specs.Spots.{Lent}
 use Rattle.salvaged.specs.Carried.{OfCall, OpensWith}
@@ -14,7 +14,7 @@ use Rattle.salvaged.specs.Reported.{Line, lines_of}
 abbrev pub NoFaults : Type 0
 NoFaults =
     (p : Description) (copy buffer : List ℕ) (t : Tree) → Lent p copy buffer → p.form ≡ 2 → Holds p copy t
-    → All (λ (l : Line). (l.reason ≡ notMarked) ⊎ (l.reason ≡ 6)) (lines_of p copy buffer)
+    → All (λ (l : Line). (l.reason ≡ not_marked) ⊎ (l.reason ≡ 6)) (lines_of p copy buffer)
 
 -- and where no record lacked room either, the fresh file opens with the records of the copy: all of them, and no other [Z4, Z8]
 abbrev pub GoodFileWhole : Type 0

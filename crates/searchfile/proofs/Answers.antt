@@ -13,7 +13,7 @@ use Rattle.searchfile.specs.declared.Answer.{Answer}
 use Rattle.searchfile.specs.Promise.{held, given, counted, answered, next}
 use Rattle.face.specs.Checks.{refusing}
 use Rattle.face.proofs.Refusing.{refusing-some, refusing-none}
-use Rattle.face.proofs.Chains.{Chain, seenOf, told-seen, refused-by}
+use Rattle.face.proofs.Chains.{Chain, seen_of, told-seen, refused-by}
 
 -- the answer of a call that is refused
 pub call-refused : {call : State → Outcome} {checks : State → Checked Bool} {steps : State → Checked Effect} → Chain call checks steps
@@ -34,6 +34,6 @@ call-told {call} {checks} {steps} chain s f b w f₁ b₁ w₁ n d r e a h z =
     let st = given s f b w in
     let c : checks st ≡ passed true = sym h ∙ refusing-none n z in
     (λ j. record { number = a.0 j; transfers = a.1 j; after = lent (a.2 j) f₁ b₁ w₁ })
-    ∙ ap (seenOf (held s)) e
+    ∙ ap (seen_of (held s)) e
     ∙ told-seen st (steps st)
     ∙ sym (ap counted (chain.is st ∙ ap (λ (x : Checked Bool). settle st (x >> steps st)) c))

@@ -5,13 +5,13 @@ use mathlib.Core.Bool.{Bool, true, false, not, ◌||◌}
 use mathlib.Core.List.{List, []}
 use borrow.Author.Tests.{not-true, not-false}
 use lib.ListN.{length}
-use Rattle.numbers.specs.Numbers.{done, wrongSize, isClosed, badFile}
+use Rattle.numbers.specs.Numbers.{done, wrong_size, is_closed, bad_file}
 use Rattle.numbers.specs.Checked.{between}
 use Rattle.drum.specs.declared.Description.{Description}
 use Rattle.drum.specs.Params.{sized}
 use Rattle.drum.specs.Blocks.{seen, written}
-use Rattle.rules.specs.State.{lent, atRest, unchanged}
-use Rattle.rules.specs.Lookup.{flushOk, flushMoves}
+use Rattle.rules.specs.State.{lent, at_rest, unchanged}
+use Rattle.rules.specs.Lookup.{flush_ok, flush_moves}
 use Rattle.rules.specs.Close.{close}
 use Rattle.rules.proofs.Fits.{flush-fits}
 use Rattle.face.proofs.Closing.{sizes-no, opened-no, flush-no, all_yes}
@@ -25,25 +25,25 @@ module _ (s : code.Session) (f b : List ℕ) (r : Answer) (t : Bool) where
       → answered r f b [] ≡ counted (close (given s f b []))
   unchanged-by n e h = (λ j. answered (e j) f b []) ∙ sym (ap counted h)
 
-  pub close-sizes : r ≡ record { number = wrongSize; transfers = 0; session = s } → t ≡ sized s.desc (length f) (length b) → not t ≡ true
+  pub close-sizes : r ≡ record { number = wrong_size; transfers = 0; session = s } → t ≡ sized s.desc (length f) (length b) → not t ≡ true
       → answered r f b [] ≡ counted (close (given s f b []))
-  close-sizes e i h = unchanged-by wrongSize e (sizes-no (given s f b []) (sym i ∙ not-true t h))
+  close-sizes e i h = unchanged-by wrong_size e (sizes-no (given s f b []) (sym i ∙ not-true t h))
 
-  pub close-shut : r ≡ record { number = isClosed; transfers = 0; session = s } → t ≡ sized s.desc (length f) (length b) → not t ≡ false
+  pub close-shut : r ≡ record { number = is_closed; transfers = 0; session = s } → t ≡ sized s.desc (length f) (length b) → not t ≡ false
       → not s.opened ≡ true → answered r f b [] ≡ counted (close (given s f b []))
-  close-shut e i h o = unchanged-by isClosed e (opened-no (given s f b []) (sym i ∙ not-false t h) (not-true s.opened o))
+  close-shut e i h o = unchanged-by is_closed e (opened-no (given s f b []) (sym i ∙ not-false t h) (not-true s.opened o))
 
-  pub close-bad : (u : Bool) → r ≡ record { number = badFile; transfers = 0; session = s } → t ≡ sized s.desc (length f) (length b) → not t ≡ false
-      → not s.opened ≡ false → u ≡ flushOk (seen s.desc s.current [] []) s.flag → not u ≡ true
+  pub close-bad : (u : Bool) → r ≡ record { number = bad_file; transfers = 0; session = s } → t ≡ sized s.desc (length f) (length b) → not t ≡ false
+      → not s.opened ≡ false → u ≡ flush_ok (seen s.desc s.current [] []) s.flag → not u ≡ true
       → answered r f b [] ≡ counted (close (given s f b []))
   close-bad u e i h o k m =
-      unchanged-by badFile e (flush-no (given s f b []) (sym i ∙ not-false t h) (not-false s.opened o) (sym k ∙ not-true u m))
+      unchanged-by bad_file e (flush-no (given s f b []) (sym i ∙ not-false t h) (not-false s.opened o) (sym k ∙ not-true u m))
 
 -- written if flagged, and at rest
-pub close-done : (s rest : code.Session) (f b g : List ℕ) (n : ℕ) (t u : Bool) → held rest ≡ atRest false (held s)
-    → (n ≡ length (flushMoves (seen s.desc s.current f b) s.flag)) × (g ≡ written s.desc (flushMoves (seen s.desc s.current f b) s.flag) f)
+pub close-done : (s rest : code.Session) (f b g : List ℕ) (n : ℕ) (t u : Bool) → held rest ≡ at_rest false (held s)
+    → (n ≡ length (flush_moves (seen s.desc s.current f b) s.flag)) × (g ≡ written s.desc (flush_moves (seen s.desc s.current f b) s.flag) f)
     → t ≡ sized s.desc (length f) (length b) → not t ≡ false → not s.opened ≡ false
-    → u ≡ flushOk (seen s.desc s.current [] []) s.flag → not u ≡ false
+    → u ≡ flush_ok (seen s.desc s.current [] []) s.flag → not u ≡ false
     → answered (record { number = done; transfers = n; session = rest }) g b [] ≡ counted (close (given s f b []))
 close-done s rest f b g n t u e a i h o k m =
     (λ j. record { number = done; transfers = a.0 j; after = lent (e j) (a.1 j) b [] })

@@ -2,16 +2,16 @@
 use Prim.Native.Nat.{ℕ}
 use mathlib.Core.Path.{◌≡◌, sym, ◌∙◌}
 use mathlib.Core.List.{List, []}
-use Rattle.rules.specs.Turning.{turnLeft, turning, describing, turnFile}
+use Rattle.rules.specs.Turning.{turn_left, turning, describing, turn_file}
 use Rattle.turn.specs.declared.Turned.{Turned}
 use Rattle.searchfile.specs.declared.Session as code
 use Rattle.searchfile.specs.Promise.{given}
-use Rattle.searchfile.specs.Turning.{CountedTurn, countedTurn, answeredTurn, OneTurned}
+use Rattle.searchfile.specs.Turning.{CountedTurn, counted_turn, answered_turn, OneTurned}
 use Rattle.searchfile.proofs.OneResult.{one_answer}
 
 -- number and parameters are the turning function's; the rest of the session is that which came in
-pub turn-told : (s : code.Session) (t : Turned) (f marks g m : List ℕ) → turnLeft t.number t.desc g m ≡ turning s.desc s.opened f marks
-    → answeredTurn
+pub turn-told : (s : code.Session) (t : Turned) (f marks g m : List ℕ) → turn_left t.number t.desc g m ≡ turning s.desc s.opened f marks
+    → answered_turn
     (record {
       number = t.number;
       transfers = 0;
@@ -19,8 +19,8 @@ pub turn-told : (s : code.Session) (t : Turned) (f marks g m : List ℕ) → tur
           record { desc = t.desc; opened = s.opened; current = s.current; flag = s.flag; placed = s.placed; position = s.position };
     })
     g m
-    ≡ countedTurn (turnFile (given s f [] []) marks)
-unfolding turnFile describing
+    ≡ counted_turn (turn_file (given s f [] []) marks)
+unfolding turn_file describing
 turn-told s t f marks g m e = λ j. record {
   outcome = record {
     number = (e j).number;
@@ -44,6 +44,6 @@ turn-told s t f marks g m e = λ j. record {
 
 pub one-turned : OneTurned
 one-turned o r s f g m n a b =
-    let e : answeredTurn r f m ≡ answeredTurn s g n = a ∙ sym b in
+    let e : answered_turn r f m ≡ answered_turn s g n = a ∙ sym b in
     let z = one_answer o.outcome r s f g [] [] [] [] (λ i. (a i).outcome) (λ i. (b i).outcome) in
     (z.0, z.1, λ i. (e i).marks)

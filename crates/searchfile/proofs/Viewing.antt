@@ -9,14 +9,14 @@ use lib.ListN.{length}
 use Rattle.numbers.specs.Checked.{between}
 use Rattle.numbers.proofs.Passed.{both}
 use Rattle.drum.specs.declared.Description.{Description}
-use Rattle.drum.specs.Params.{goodParams, sized}
+use Rattle.drum.specs.Params.{good_params, sized}
 use Rattle.drum.specs.Blocks.{Fitting, seen, text_of}
 use Rattle.drum.proofs.Good.{sized-facts}
 use Rattle.rules.specs.State.{Session, lent}
 use Rattle.rules.specs.Close.{view}
 use Rattle.searchfile.specs.declared.Session as code
 use Rattle.searchfile.specs.Promise.{held}
-use Rattle.searchfile.specs.Parts.{Borrowed, Part, part_of, partText, textPart, shown, viewAt, viewPart}
+use Rattle.searchfile.specs.Parts.{Borrowed, Part, part_of, part_text, text_part, shown, view_at, view_part}
 
 -- ---- whether a block is shown: t is the test of the sizes
 
@@ -45,7 +45,7 @@ module _ (s : code.Session) (f d : List ℕ) (b : ℕ) (t : Bool) (e : t ≡ sho
   unfolding shown
   parts = both (sized s.desc (length f) (length d)) (between 1 s.desc.n b) (both s.opened _ (sym e ∙ not-false t h)).1
 
-  pub shown-good : goodParams s.desc ≡ true
+  pub shown-good : good_params s.desc ≡ true
   shown-good = (sized-facts _ _ _ parts.0).good
 
   pub shown-fitting : Fitting s.desc f d
@@ -63,20 +63,20 @@ module _ (s : code.Session) (file buffer : Borrowed) (b : ℕ) where
   -- by the test whether the block is shown
   tested : Bool → Part
   tested t = record {
-    address = cond t (partText s.desc s.current file buffer b) file.ref_ptr;
+    address = cond t (part_text s.desc s.current file buffer b) file.ref_ptr;
     words = cond t (text_of (seen s.desc s.current file.now buffer.now) b) [];
   }
 
-  by-test : (t : Bool) → t ≡ shown (held s) (length file.now) (length buffer.now) b → tested t ≡ viewPart (held s) file buffer b
-  unfolding tested shown viewAt view
+  by-test : (t : Bool) → t ≡ shown (held s) (length file.now) (length buffer.now) b → tested t ≡ view_part (held s) file buffer b
+  unfolding tested shown view_at view
   by-test t e = ap tested e
 
   pub view-none : (r : Borrowed) (t : Bool) → t ≡ shown (held s) (length file.now) (length buffer.now) b → not t ≡ true → r.ref_ptr ≡ file.ref_ptr → r.now ≡ []
-      → part_of r ≡ viewPart (held s) file buffer b
+      → part_of r ≡ view_part (held s) file buffer b
   unfolding tested
   view-none r t e h a i = (λ j. record { address = a j; words = i j }) ∙ ap tested (sym (not-true t h)) ∙ by-test t e
 
-  pub view-shown : (r : Borrowed) (t : Bool) → part_of r ≡ textPart s.desc s.current file buffer b
-      → t ≡ shown (held s) (length file.now) (length buffer.now) b → not t ≡ false → part_of r ≡ viewPart (held s) file buffer b
+  pub view-shown : (r : Borrowed) (t : Bool) → part_of r ≡ text_part s.desc s.current file buffer b
+      → t ≡ shown (held s) (length file.now) (length buffer.now) b → not t ≡ false → part_of r ≡ view_part (held s) file buffer b
   unfolding tested
   view-shown r t is e h = is ∙ ap tested (sym (not-false t h)) ∙ by-test t e

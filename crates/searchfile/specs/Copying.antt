@@ -11,15 +11,15 @@ pub record CountedCopy : Type 0 where
   pub marks : List ℕ
 
 -- the outcome so seen [T3]
-abbrev pub countedCopy : Copying → CountedCopy
-countedCopy o = record { outcome = counted o.outcome; second = o.second; marks = o.marks }
+abbrev pub counted_copy : Copying → CountedCopy
+counted_copy o = record { outcome = counted o.outcome; second = o.second; marks = o.marks }
 
 -- what the method gives back, with the words it leaves in file, second file and marks
-abbrev pub answeredCopy : Answer → List ℕ → List ℕ → List ℕ → CountedCopy
-answeredCopy r f second m = record { outcome = answered r f [] []; second = second; marks = m }
+abbrev pub answered_copy : Answer → List ℕ → List ℕ → List ℕ → CountedCopy
+answered_copy r f second m = record { outcome = answered r f [] []; second = second; marks = m }
 
 -- "Two results allowed by one promise are proved equal": the answer with its session, and every word lent
 abbrev pub OneCopied : Type 0
 OneCopied =
-    (o : Copying) (r s : Answer) (f g x y m n : List ℕ) → answeredCopy r f x m ≡ countedCopy o → answeredCopy s g y n ≡ countedCopy o
+    (o : Copying) (r s : Answer) (f g x y m n : List ℕ) → answered_copy r f x m ≡ counted_copy o → answered_copy s g y n ≡ counted_copy o
     → (r ≡ s) × (f ≡ g) × (x ≡ y) × (m ≡ n)

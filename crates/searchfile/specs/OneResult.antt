@@ -3,8 +3,8 @@ use Rattle.std.specs.Prelude.{ℕ, ◌≡◌, List}
 use Rattle.rules.specs.State.{Session, Outcome}
 use Rattle.rules.specs.Open.{Opened}
 use Rattle.searchfile.specs.declared.Answer.{Answer}
-use Rattle.searchfile.specs.Promise.{counted, countedOpen, answered, answeredOpen}
-use Rattle.searchfile.specs.Parts.{Borrowed, part_of, viewPart}
+use Rattle.searchfile.specs.Promise.{counted, counted_open, answered, answered_open}
+use Rattle.searchfile.specs.Parts.{Borrowed, part_of, view_part}
 
 -- CREATE, SEEK, ADV, NSERT, DLETE, UPDAT, XTEND, CLOSE: the answer with its session, and every word lent
 abbrev pub OneAnswer : Type 0
@@ -15,11 +15,11 @@ OneAnswer =
 -- OPEN: and its marks
 abbrev pub OneOpen : Type 0
 OneOpen =
-    (o : Opened) (r s : Answer) (f g b d m n : List ℕ) → answeredOpen r f b m ≡ countedOpen o → answeredOpen s g d n ≡ countedOpen o
+    (o : Opened) (r s : Answer) (f g b d m n : List ℕ) → answered_open r f b m ≡ counted_open o → answered_open s g d n ≡ counted_open o
     → (r ≡ s) × (f ≡ g) × (b ≡ d) × (m ≡ n)
 
 -- VIEW: where the part lies that is lent back, and its words
 abbrev pub OneView : Type 0
 OneView =
-    (s : Session) (file buffer : Borrowed) (b : ℕ) (one other : Borrowed) → part_of one ≡ viewPart s file buffer b → part_of other ≡ viewPart s file buffer b
+    (s : Session) (file buffer : Borrowed) (b : ℕ) (one other : Borrowed) → part_of one ≡ view_part s file buffer b → part_of other ≡ view_part s file buffer b
     → (one.ref_ptr ≡ other.ref_ptr) × (one.now ≡ other.now)

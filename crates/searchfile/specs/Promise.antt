@@ -2,8 +2,8 @@
 use Rattle.std.specs.Prelude.{ℕ, List, []}
 use Rattle.rules.specs.State.{Session, State, Outcome, desc, lent}
 use Rattle.rules.specs.Open.{create}
-use Rattle.rules.specs.Run.{createdOutcome}
-pub use Rattle.face.specs.Counted.{Counted, counted, CountedOpen, countedOpen, next}
+use Rattle.rules.specs.Run.{created_outcome}
+pub use Rattle.face.specs.Counted.{Counted, counted, CountedOpen, counted_open, next}
 use Rattle.searchfile.specs.declared.Session as code
 use Rattle.searchfile.specs.declared.Answer.{Answer}
 
@@ -27,9 +27,9 @@ abbrev pub answered : Answer → List ℕ → List ℕ → List ℕ → Counted
 answered r f b w = record { number = r.number; transfers = r.transfers; after = given r.session f b w }
 
 -- what OPEN gives back, with the marks it leaves
-abbrev pub answeredOpen : Answer → List ℕ → List ℕ → List ℕ → CountedOpen
-answeredOpen r f b m = record { outcome = answered r f b []; marks = m }
+abbrev pub answered_open : Answer → List ℕ → List ℕ → List ℕ → CountedOpen
+answered_open r f b m = record { outcome = answered r f b []; marks = m }
 
 -- CREATE with the session's parameters: it "has no session", which stays as it is, and costs no transfer [S8, T2]
 unfoldable pub creating : State → Outcome
-creating st = createdOutcome st (create (desc st) st.file)
+creating st = created_outcome st (create (desc st) st.file)

@@ -10,15 +10,15 @@ pub record CountedTurn : Type 0 where
   pub marks : List ℕ
 
 -- the outcome so seen [T3]
-abbrev pub countedTurn : TurnedFile → CountedTurn
-countedTurn o = record { outcome = counted o.outcome; marks = o.marks }
+abbrev pub counted_turn : TurnedFile → CountedTurn
+counted_turn o = record { outcome = counted o.outcome; marks = o.marks }
 
 -- what the method gives back, with the words it leaves in file and marks
-abbrev pub answeredTurn : Answer → List ℕ → List ℕ → CountedTurn
-answeredTurn r f m = record { outcome = answered r f [] []; marks = m }
+abbrev pub answered_turn : Answer → List ℕ → List ℕ → CountedTurn
+answered_turn r f m = record { outcome = answered r f [] []; marks = m }
 
 -- "Two results allowed by one promise are proved equal": the answer with its session, and every word lent
 abbrev pub OneTurned : Type 0
 OneTurned =
-    (o : TurnedFile) (r s : Answer) (f g m n : List ℕ) → answeredTurn r f m ≡ countedTurn o → answeredTurn s g n ≡ countedTurn o
+    (o : TurnedFile) (r s : Answer) (f g m n : List ℕ) → answered_turn r f m ≡ counted_turn o → answered_turn s g n ≡ counted_turn o
     → (r ≡ s) × (f ≡ g) × (m ≡ n)

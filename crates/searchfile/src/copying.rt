@@ -1,8 +1,8 @@
 // The copying call of a session: its file into a second one with another CONTROL.
 ghost use Rattle.std.specs.Prelude.{◌≡◌, []};
-ghost use Rattle.rules.specs.Copy.{copyFile};
+ghost use Rattle.rules.specs.Copy.{copy_file};
 ghost use Rattle.searchfile.specs.Promise.{given};
-ghost use Rattle.searchfile.specs.Copying.{countedCopy, answeredCopy};
+ghost use Rattle.searchfile.specs.Copying.{counted_copy, answered_copy};
 ghost use Rattle.words.specs.Slices.{was, became};
 
 use super::{Answer, Session};
@@ -16,8 +16,8 @@ impl Session {
         control: usize,
         marks: &mut [u8],
     ) -> Answer
-        ensures { answeredCopy result (was file) (became second) (became marks)
-            ≡ countedCopy (copyFile (given self (was file) [] []) (was second) control (was marks)) }
+        ensures { answered_copy result (was file) (became second) (became marks)
+            ≡ counted_copy (copy_file (given self (was file) [] []) (was second) control (was marks)) }
     {
         let p = self.desc;
         let number = copy::copy_file(p, self.opened, control, file, second, marks);

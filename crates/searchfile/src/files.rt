@@ -1,9 +1,9 @@
 // The calls on a whole file, and VIEW: no workspace is lent.
 ghost use Rattle.std.specs.Prelude.{◌≡◌, []};
-ghost use Rattle.rules.specs.Open.{openFile};
+ghost use Rattle.rules.specs.Open.{open_file};
 ghost use Rattle.rules.specs.Close.{close as closed};
-ghost use Rattle.searchfile.specs.Promise.{held, given, counted, answered, creating, countedOpen, answeredOpen};
-ghost use Rattle.searchfile.specs.Parts.{part_of, shown, viewPart};
+ghost use Rattle.searchfile.specs.Promise.{held, given, counted, answered, creating, counted_open, answered_open};
+ghost use Rattle.searchfile.specs.Parts.{part_of, shown, view_part};
 ghost use Rattle.words.specs.Slices.{was, became};
 
 use super::{Answer, Session};
@@ -32,8 +32,8 @@ impl Session {
 
     // OPEN: the file is inspected, and every block marked: 1 reached from the master, 2 chained, 0 never used.
     pub fn open_file(self, file: &[u32], buffer: &[u32], marks: &mut [u8]) -> Answer
-        ensures { answeredOpen result (was file) (was buffer) (became marks)
-            ≡ countedOpen (openFile (given self (was file) (was buffer) []) (was marks)) }
+        ensures { answered_open result (was file) (was buffer) (became marks)
+            ≡ counted_open (open_file (given self (was file) (was buffer) []) (was marks)) }
     {
         let p = self.desc;
         if !p.is_sized(file.len(), buffer.len()) {
@@ -105,7 +105,7 @@ impl Session {
 
     // VIEW: the current text of block b, a part of the buffer or of the file, or else an empty part.
     pub fn view<'a>(self, file: &'a [u32], buffer: &'a [u32], b: usize) -> &'a [u32]
-        ensures { part_of result ≡ viewPart (held self) file.entry buffer.entry b }
+        ensures { part_of result ≡ view_part (held self) file.entry buffer.entry b }
     {
         if !self.shows(file.len(), buffer.len(), b) {
             return &file[..0];

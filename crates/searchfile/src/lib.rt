@@ -7,7 +7,7 @@ mod turning;
 
 ghost use Rattle.std.specs.Prelude.{◌≡◌, false, ◌≤◌, length, replicate};
 ghost use Rattle.words.specs.Words.{part, put};
-ghost use Rattle.rules.specs.State.{atRest};
+ghost use Rattle.rules.specs.State.{at_rest};
 ghost use Rattle.searchfile.specs.Promise.{held, next};
 ghost use Rattle.words.specs.Slices.{was, became};
 
@@ -72,7 +72,7 @@ impl Session {
 
     // "current 0, flag off, position none".
     fn at_rest(self, opened: bool) -> Self
-        ensures { held result ≡ atRest opened (held self) }
+        ensures { held result ≡ at_rest opened (held self) }
     {
         let mut rest = self;
         rest.opened = opened;

@@ -2,9 +2,9 @@
 ghost use Rattle.std.specs.Prelude.{◌≡◌, length};
 ghost use Rattle.drum.specs.Blocks.{Fitting};
 ghost use Rattle.rules.specs.Fits.{LookFits};
-ghost use Rattle.rules.specs.Seek.{seekDone, seekSteps, updatDone, updatSteps};
+ghost use Rattle.rules.specs.Seek.{seek_done, seek_steps, updat_done, updat_steps};
 ghost use Rattle.rules.specs.Told.{Follows, FollowsAt};
-ghost use Rattle.acts.specs.Reach.{seenBy};
+ghost use Rattle.acts.specs.Reach.{seen_by};
 
 use drum::Description;
 use numbers::{BAD_FILE, DONE, NOT_FOUND};
@@ -14,8 +14,8 @@ use rules::{Done, Held, Look, Way};
 fn act_seek(l: Look, at: Held, file: &mut [u32], buffer: &mut [u32], work: &mut [u32]) -> Done
     requires { Fitting at.desc file.old buffer.old
         × (length work.old ≡ at.desc.wpr)
-        × LookFits (seenBy at file.old buffer.old) at.flag l }
-    ensures { FollowsAt result (λ v flag work. seekDone v flag work l) at file buffer work }
+        × LookFits (seen_by at file.old buffer.old) at.flag l }
+    ensures { FollowsAt result (λ v flag work. seek_done v flag work l) at file buffer work }
 {
     match l {
         Look::Bad => Done::refused(BAD_FILE, at.current, at.flag),
@@ -44,7 +44,7 @@ pub fn seek(
     work: &mut [u32],
 ) -> Done
     requires { Fitting p file.old buffer.old × (length work.old ≡ p.wpr) }
-    ensures { Follows result seekSteps p current flag file buffer work }
+    ensures { Follows result seek_steps p current flag file buffer work }
 {
     let l = lookup::look(p, current, flag, file, buffer, work);
     let at = Held {
@@ -59,8 +59,8 @@ pub fn seek(
 fn act_updat(l: Look, at: Held, file: &mut [u32], buffer: &mut [u32], work: &[u32]) -> Done
     requires { Fitting at.desc file.old buffer.old
         × (length work.now ≡ at.desc.wpr)
-        × LookFits (seenBy at file.old buffer.old) at.flag l }
-    ensures { FollowsAt result (λ v flag work. updatDone v flag work l) at file buffer work }
+        × LookFits (seen_by at file.old buffer.old) at.flag l }
+    ensures { FollowsAt result (λ v flag work. updat_done v flag work l) at file buffer work }
 {
     match l {
         Look::Bad => Done::refused(BAD_FILE, at.current, at.flag),
@@ -90,7 +90,7 @@ pub fn updat(
     work: &[u32],
 ) -> Done
     requires { Fitting p file.old buffer.old × (length work.now ≡ p.wpr) }
-    ensures { Follows result updatSteps p current flag file buffer work }
+    ensures { Follows result updat_steps p current flag file buffer work }
 {
     let l = lookup::look(p, current, flag, file, buffer, work);
     let at = Held {

@@ -10,7 +10,7 @@ use Rattle.words.proofs.All.{and_both}
 use Rattle.sequential.specs.declared.Layout.{Layout}
 use Rattle.sequential.specs.declared.Place.{Place}
 use Rattle.sequential.specs.declared.Row.{Row}
-use Rattle.sequential.specs.Rows.{area, goodLayout, whole, blocks, word_of}
+use Rattle.sequential.specs.Rows.{area, good_layout, whole, blocks, word_of}
 use Rattle.sequential.specs.Lent.{Fine, InBlock, InArea, Inside, Reading, LiesIn}
 
 -- the ranges of a layout
@@ -22,8 +22,8 @@ pub record Good (l : Layout) : Type 0 where
   pub leaders-lt : l.leaders < l.wpb
   pub area-is : area l ≡ l.wpb - l.leaders
 
-pub good-facts : (l : Layout) → goodLayout l ≡ true → Good l
-unfolding goodLayout area
+pub good-facts : (l : Layout) → good_layout l ≡ true → Good l
+unfolding good_layout area
 good-facts l h =
     let (a, h₁) = and_both _ _ h in
     let (b, h₂) = and_both _ _ h₁ in
@@ -38,21 +38,21 @@ good-facts l h =
       area-is = refl;
     }
 
-pub good-no : (l : Layout) → (Good l → ⊥) → goodLayout l ≡ false
-good-no l f = go (goodLayout l) refl
+pub good-no : (l : Layout) → (Good l → ⊥) → good_layout l ≡ false
+good-no l f = go (good_layout l) refl
   where
-    go : (b : Bool) → goodLayout l ≡ b → goodLayout l ≡ false
+    go : (b : Bool) → good_layout l ≡ b → good_layout l ≡ false
     go true e = absurd (f (good-facts l e))
     go false e = e
 
 -- where the other ranges are kept, the leader words decide
 pub good-last : (l : Layout) (b : Bool) → l.wpb % 2 ≡ 0 → 6 ≤ l.wpb → l.wpb ≤ 4096 → l.leaders ≤ 63 → b ≡ ltb l.leaders l.wpb
-    → b ≡ goodLayout l
-unfolding goodLayout
+    → b ≡ good_layout l
+unfolding good_layout
 good-last l b e s m n h = simp (eq-eqb _ _ e, le-leb _ _ s, le-leb _ _ m, le-leb _ _ n) h
 
 -- whole blocks of a good layout
-pub whole-good : (l : Layout) (file : ℕ) → whole l file ≡ true → goodLayout l ≡ true
+pub whole-good : (l : Layout) (file : ℕ) → whole l file ≡ true → good_layout l ≡ true
 unfolding whole
 whole-good l file h = (and_both _ _ h).0
 

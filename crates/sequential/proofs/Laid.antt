@@ -7,7 +7,7 @@ use native.Mathlib.Omega.{arith}
 use lib.Dec.{leb, ltb, eqb}
 use lib.ListN.{length, replicate}
 use borrow.Author.Tests.{leb-true, ltb-true, eqb-false, not-true}
-use Rattle.numbers.specs.Numbers.{done, wrongSize, wrongLength, noRoom, atEnd}
+use Rattle.numbers.specs.Numbers.{done, wrong_size, wrong_length, no_room, at_end}
 use Rattle.numbers.specs.Checked.{Checked, passed, require, ◌>>◌}
 use Rattle.numbers.proofs.Passed.{clash as refused-not}
 use Rattle.words.specs.Words.{part, put}
@@ -21,10 +21,10 @@ use Rattle.sequential.specs.declared.Place.{Place}
 use Rattle.sequential.specs.declared.Row.{Row}
 use Rattle.sequential.specs.declared.Spot.{Spot}
 use Rattle.sequential.specs.declared.Spot.TheVariants.{No, At}
-use Rattle.sequential.specs.Rows.{area, sized, blocks, size, right, room, word_of, next, behind, putPlace, closedOf, closed}
-use Rattle.sequential.specs.Rows.{rowWords, laid, getPlace, workOf}
-use Rattle.sequential.specs.Calls.{putSpot, rowFrom, getSpot, putRow, putTold, get_row, getTold, fixedRight}
-use Rattle.sequential.specs.Lent.{asSpot, LiesIn}
+use Rattle.sequential.specs.Rows.{area, sized, blocks, size, right, room, word_of, next, behind, put_place, closed_of, closed}
+use Rattle.sequential.specs.Rows.{row_words, laid, get_place, work_of}
+use Rattle.sequential.specs.Calls.{put_spot, row_from, get_spot, put_row, put_told, get_row, get_told, fixed_right}
+use Rattle.sequential.specs.Lent.{as_spot, LiesIn}
 use Rattle.sequential.proofs.Good.{lies-end, lies-few, inside-word}
 use Rattle.sequential.proofs.Spots.{sized-whole, sized-work}
 
@@ -57,8 +57,8 @@ module _ (l : Layout) where
   unfolding room
   room_fits at n h = leb-true (at + n) (area l) h
 
-  pub place-room : (q : Place) (n : ℕ) → right l n ≡ true → (putPlace l q n).at + n ≤ area l
-  unfolding putPlace next
+  pub place-room : (q : Place) (n : ℕ) → right l n ≡ true → (put_place l q n).at + n ≤ area l
+  unfolding put_place next
   place-room q n h = go (room l q.at n) refl
     where
       go : (b : Bool) → room l q.at n ≡ b → (cond b q (record { block = q.block + 1; at = 0 })).at + n ≤ area l
@@ -79,7 +79,7 @@ module _ (l : Layout) where
   unfolding closed
   closed-room r h = go l.kind h
     where
-      go : (k : Kind) → closedOf k (ltb (r.place.at + r.words) (area l)) ≡ true → r.place.at + r.words < area l
+      go : (k : Kind) → closed_of k (ltb (r.place.at + r.words) (area l)) ≡ true → r.place.at + r.words < area l
       go (Fixed n) h = absurd (clash (sym h))
       go Variable h = ltb-true _ _ h
 
@@ -99,12 +99,12 @@ module _ (l : Layout) where
   module _ (r : Row) (f g w : List ℕ) (start : ℕ) (s : start ≡ word_of l r.place) (e : g ≡ put f start (part 0 r.words w))
       (b : Bool) (c : b ≡ closed l r) where
     pub laid-open : b ≡ false → g ≡ laid l r w f
-    unfolding laid rowWords
+    unfolding laid row_words
     laid-open h = e ∙ rw (sym c ∙ h) (rw s (ap (put f (word_of l r.place)) (sym (append-nil (part 0 r.words w)))))
 
     pub laid-closed : (z : List ℕ) → z ≡ put g (start + r.words) (replicate 1 0) → b ≡ true → LiesIn l r (length f) → r.words ≤ length w
         → z ≡ laid l r w f
-    unfolding laid rowWords
+    unfolding laid row_words
     laid-closed z ez h lies wl =
         let n : length (part 0 r.words w) ≡ r.words = length_part 0 r.words w (omega arith) in
         let y = lies-end l r (length f) lies in
@@ -129,89 +129,89 @@ module _ (l : Layout) where
       where
         go : (k : Kind) → l.kind ≡ k → size l.kind 0 w ≤ length w
         go (Fixed n) ek =
-            let s : length w ≡ n = sized-work l file (length w) sz ∙ ap (λ (k : Kind). workOf k (area l)) ek in
+            let s : length w ≡ n = sized-work l file (length w) sz ∙ ap (λ (k : Kind). work_of k (area l)) ek in
             rw ek (omega arith)
         go Variable ek =
-            let s : length w ≡ area l = sized-work l file (length w) sz ∙ ap (λ (k : Kind). workOf k (area l)) ek in
+            let s : length w ≡ area l = sized-work l file (length w) sz ∙ ap (λ (k : Kind). work_of k (area l)) ek in
             let m = right-most (size l.kind 0 w) rt in
             omega arith
 
-    pub put-tests : (r : Row) → putSpot l q file w ≡ passed r
+    pub put-tests : (r : Row) → put_spot l q file w ≡ passed r
         → (sized l file (length w) ≡ true) × (right l (size l.kind 0 w) ≡ true) × (ltb q.block (blocks l file) ≡ true)
-        × (ltb (putPlace l q (size l.kind 0 w)).block (blocks l file) ≡ true)
-        × (record { place = putPlace l q (size l.kind 0 w); words = size l.kind 0 w } ≡ r)
-    unfolding putSpot
+        × (ltb (put_place l q (size l.kind 0 w)).block (blocks l file) ≡ true)
+        × (record { place = put_place l q (size l.kind 0 w); words = size l.kind 0 w } ≡ r)
+    unfolding put_spot
     put-tests r e =
         let (sz, rt, qb, bl, er) =
         four (sized l file (length w)) (right l (size l.kind 0 w)) (ltb q.block (blocks l file))
-        (ltb (putPlace l q (size l.kind 0 w)).block (blocks l file)) wrongSize wrongLength noRoom noRoom
-        (passed (record { place = putPlace l q (size l.kind 0 w); words = size l.kind 0 w })) r e in
-        (sz, rt, qb, bl, let z : record { place = putPlace l q (size l.kind 0 w); words = size l.kind 0 w } ≡ r = cc in z)
+        (ltb (put_place l q (size l.kind 0 w)).block (blocks l file)) wrong_size wrong_length no_room no_room
+        (passed (record { place = put_place l q (size l.kind 0 w); words = size l.kind 0 w })) r e in
+        (sz, rt, qb, bl, let z : record { place = put_place l q (size l.kind 0 w); words = size l.kind 0 w } ≡ r = cc in z)
 
-    pub put-finds : (r : Row) → putSpot l q file w ≡ passed r → LiesIn l r file × (r.words ≤ length w)
+    pub put-finds : (r : Row) → put_spot l q file w ≡ passed r → LiesIn l r file × (r.words ≤ length w)
     put-finds r e =
         let (sz, rt, qb, bl, er) = put-tests r e in
         subst (λ (x : Row). LiesIn l x file × (x.words ≤ length w)) er (
           record {
             sized = sized-whole l file (length w) sz;
-            block = ltb-true (putPlace l q (size l.kind 0 w)).block (blocks l file) bl;
+            block = ltb-true (put_place l q (size l.kind 0 w)).block (blocks l file) bl;
             least = right-least (size l.kind 0 w) rt;
             most = place-room q (size l.kind 0 w) rt;
           },
           words-in rt sz,
         )
 
-    module _ (r : Row) (s : Spot) (e : asSpot s ≡ putSpot l q file w) (h : s ≡ At r) where
+    module _ (r : Row) (s : Spot) (e : as_spot s ≡ put_spot l q file w) (h : s ≡ At r) where
       pub put-lies : LiesIn l r file
-      put-lies = (put-finds r (sym e ∙ ap asSpot h)).0
+      put-lies = (put-finds r (sym e ∙ ap as_spot h)).0
 
       pub put-words : r.words ≤ length w
-      put-words = (put-finds r (sym e ∙ ap asSpot h)).1
+      put-words = (put-finds r (sym e ∙ ap as_spot h)).1
 
       pub put-few : r.place.at + r.words ≤ 4096
       put-few = lies-few l r file put-lies
 
   -- and so does what GET's plan finds
   module _ (q : Place) (left : ℕ) (f : List ℕ) (work : ℕ) where
-    pub row-tests : (z : Place) (r : Row) → rowFrom l z f ≡ passed r
+    pub row-tests : (z : Place) (r : Row) → row_from l z f ≡ passed r
         → (ltb z.block (blocks l (length f)) ≡ true) × (1 ≤ size l.kind (word_of l z) f)
         × (room l z.at (size l.kind (word_of l z) f) ≡ true) × (record { place = z; words = size l.kind (word_of l z) f } ≡ r)
-    unfolding rowFrom
+    unfolding row_from
     row-tests z r e =
         let m = size l.kind (word_of l z) f in
-        let (bl, rt, er) = two (ltb z.block (blocks l (length f))) (leb 1 m && room l z.at m) atEnd wrongLength (record { place = z; words = m }) r e in
+        let (bl, rt, er) = two (ltb z.block (blocks l (length f))) (leb 1 m && room l z.at m) at_end wrong_length (record { place = z; words = m }) r e in
         let (low, rm) = and_both (leb 1 m) (room l z.at m) rt in
         (bl, leb-true 1 m low, rm, er)
 
-    pub get_tests : (r : Row) → getSpot l q left f work ≡ passed r
-        → (sized l (length f) work ≡ true) × (fixedRight l ≡ true) × (not (eqb left 0) ≡ true)
-        × (ltb q.block (blocks l (length f)) ≡ true) × (rowFrom l (getPlace l q f) f ≡ passed r)
-    unfolding getSpot
+    pub get_tests : (r : Row) → get_spot l q left f work ≡ passed r
+        → (sized l (length f) work ≡ true) × (fixed_right l ≡ true) × (not (eqb left 0) ≡ true)
+        × (ltb q.block (blocks l (length f)) ≡ true) × (row_from l (get_place l q f) f ≡ passed r)
+    unfolding get_spot
     get_tests r e =
-        four (sized l (length f) work) (fixedRight l) (not (eqb left 0)) (ltb q.block (blocks l (length f)))
-        wrongSize wrongLength atEnd atEnd (rowFrom l (getPlace l q f) f) r e
+        four (sized l (length f) work) (fixed_right l) (not (eqb left 0)) (ltb q.block (blocks l (length f)))
+        wrong_size wrong_length at_end at_end (row_from l (get_place l q f) f) r e
 
-    get-finds : (r : Row) → getSpot l q left f work ≡ passed r → LiesIn l r (length f)
+    get-finds : (r : Row) → get_spot l q left f work ≡ passed r → LiesIn l r (length f)
     get-finds r e =
         let (sz, fr, lf, qb, e₁) = get_tests r e in
-        let (bl, low, rm, er) = row-tests (getPlace l q f) r e₁ in
+        let (bl, low, rm, er) = row-tests (get_place l q f) r e₁ in
         subst (λ (x : Row). LiesIn l x (length f)) er
         (record {
           sized = sized-whole l (length f) work sz;
-          block = ltb-true (getPlace l q f).block (blocks l (length f)) bl;
+          block = ltb-true (get_place l q f).block (blocks l (length f)) bl;
           least = low;
-          most = room_fits (getPlace l q f).at (size l.kind (word_of l (getPlace l q f)) f) rm;
+          most = room_fits (get_place l q f).at (size l.kind (word_of l (get_place l q f)) f) rm;
         })
 
-    get-some : (r : Row) → getSpot l q left f work ≡ passed r → 1 ≤ left
+    get-some : (r : Row) → get_spot l q left f work ≡ passed r → 1 ≤ left
     get-some r e =
         let (sz, fr, lf, qb, e₁) = get_tests r e in
         let z = eqb-false left 0 (not-true (eqb left 0) lf) in
         omega arith
 
-    module _ (r : Row) (s : Spot) (e : asSpot s ≡ getSpot l q left f work) (h : s ≡ At r) where
+    module _ (r : Row) (s : Spot) (e : as_spot s ≡ get_spot l q left f work) (h : s ≡ At r) where
       pub get-lies : LiesIn l r (length f)
-      get-lies = get-finds r (sym e ∙ ap asSpot h)
+      get-lies = get-finds r (sym e ∙ ap as_spot h)
 
       pub get-few : r.place.at + r.words ≤ 4096
       get-few = lies-few l r (length f) get-lies
@@ -220,49 +220,49 @@ module _ (l : Layout) where
       get-end start es = lay-end r (length f) start es get-lies
 
       pub get_left : 1 ≤ left
-      get_left = get-some r (sym e ∙ ap asSpot h)
+      get_left = get-some r (sym e ∙ ap as_spot h)
 
   -- PUT and GET, once it is decided
-  module _ (q : Place) (f w : List ℕ) (s : Spot) (e : asSpot s ≡ putSpot l q (length f) w) where
-    pub put_refused : (m : ℕ) → s ≡ No m → record { number = m; place = q; file = f } ≡ putRow l q f w
-    unfolding putRow
-    put_refused m h = ap (putTold l q f w) (ap asSpot (sym h) ∙ e)
+  module _ (q : Place) (f w : List ℕ) (s : Spot) (e : as_spot s ≡ put_spot l q (length f) w) where
+    pub put_refused : (m : ℕ) → s ≡ No m → record { number = m; place = q; file = f } ≡ put_row l q f w
+    unfolding put_row
+    put_refused m h = ap (put_told l q f w) (ap as_spot (sym h) ∙ e)
 
     pub put-done : (r : Row) (g : List ℕ) (z : Place) → s ≡ At r → g ≡ laid l r w f → z ≡ behind r
-        → record { number = done; place = z; file = g } ≡ putRow l q f w
-    unfolding putRow
+        → record { number = done; place = z; file = g } ≡ put_row l q f w
+    unfolding put_row
     put-done r g z h eg ez =
-        let d : record { number = done; place = z; file = g } ≡ putTold l q f w (passed r) = λ j. record { number = done; place = ez j; file = eg j } in
-        d ∙ ap (putTold l q f w) (ap asSpot (sym h) ∙ e)
+        let d : record { number = done; place = z; file = g } ≡ put_told l q f w (passed r) = λ j. record { number = done; place = ez j; file = eg j } in
+        d ∙ ap (put_told l q f w) (ap as_spot (sym h) ∙ e)
 
-  module _ (q : Place) (left : ℕ) (f w : List ℕ) (s : Spot) (e : asSpot s ≡ getSpot l q left f (length w)) where
+  module _ (q : Place) (left : ℕ) (f w : List ℕ) (s : Spot) (e : as_spot s ≡ get_spot l q left f (length w)) where
     pub get_refused : (m : ℕ) → s ≡ No m → record { number = m; place = q; left = left; work = w } ≡ get_row l q left f w
     unfolding get_row
-    get_refused m h = ap (getTold l q left f w) (ap asSpot (sym h) ∙ e)
+    get_refused m h = ap (get_told l q left f w) (ap as_spot (sym h) ∙ e)
 
     pub get-done : (r : Row) (start : ℕ) (v : List ℕ) (z : Place) → s ≡ At r → start ≡ word_of l r.place
         → v ≡ put w 0 (part start r.words f) → z ≡ behind r
         → record { number = done; place = z; left = left - 1; work = v } ≡ get_row l q left f w
     unfolding get_row
     get-done r start v z h es ev ez =
-        let d : record { number = done; place = z; left = left - 1; work = v } ≡ getTold l q left f w (passed r) =
+        let d : record { number = done; place = z; left = left - 1; work = v } ≡ get_told l q left f w (passed r) =
         λ j. record { number = done; place = ez j; left = left - 1; work = (ev ∙ ap (λ (i : ℕ). put w 0 (part i r.words f)) es) j } in
-        d ∙ ap (getTold l q left f w) (ap asSpot (sym h) ∙ e)
+        d ∙ ap (get_told l q left f w) (ap as_spot (sym h) ∙ e)
 
     -- the workspace has room for it
     fits : (r : Row) → s ≡ At r → r.words ≤ length w
     fits r h =
-        let (sz, fr, lf, qb, e₁) = get_tests q left f (length w) r (sym e ∙ ap asSpot h) in
-        let (bl, low, rm, er) = row-tests q left f (length w) (getPlace l q f) r e₁ in
-        subst (λ (x : Row). x.words ≤ length w) er (go l.kind refl sz (room_fits (getPlace l q f).at (size l.kind (word_of l (getPlace l q f)) f) rm))
+        let (sz, fr, lf, qb, e₁) = get_tests q left f (length w) r (sym e ∙ ap as_spot h) in
+        let (bl, low, rm, er) = row-tests q left f (length w) (get_place l q f) r e₁ in
+        subst (λ (x : Row). x.words ≤ length w) er (go l.kind refl sz (room_fits (get_place l q f).at (size l.kind (word_of l (get_place l q f)) f) rm))
       where
         go : (k : Kind) → l.kind ≡ k → sized l (length f) (length w) ≡ true
-            → (getPlace l q f).at + size l.kind (word_of l (getPlace l q f)) f ≤ area l → size l.kind (word_of l (getPlace l q f)) f ≤ length w
+            → (get_place l q f).at + size l.kind (word_of l (get_place l q f)) f ≤ area l → size l.kind (word_of l (get_place l q f)) f ≤ length w
         go (Fixed n) ek sz rm =
-            let x : length w ≡ n = sized-work l (length f) (length w) sz ∙ ap (λ (k : Kind). workOf k (area l)) ek in
+            let x : length w ≡ n = sized-work l (length f) (length w) sz ∙ ap (λ (k : Kind). work_of k (area l)) ek in
             rw ek (omega arith)
         go Variable ek sz rm =
-            let x : length w ≡ area l = sized-work l (length f) (length w) sz ∙ ap (λ (k : Kind). workOf k (area l)) ek in
+            let x : length w ≡ area l = sized-work l (length f) (length w) sz ∙ ap (λ (k : Kind). work_of k (area l)) ek in
             omega arith
 
     pub get-fits : (r : Row) → s ≡ At r → 0 + r.words ≤ length w

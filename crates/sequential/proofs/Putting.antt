@@ -12,14 +12,14 @@ use lib.ListN.{length, get_or, length-append}
 use borrow.Author.Tests.{le-leb, ltb-true, lt-ltb, eq-eqb, ltb-false}
 use Rattle.numbers.specs.Checked.{passed}
 use Rattle.words.specs.Words.{part, put}
-use Rattle.words.proofs.Parts.{length_part, length-put, part-part, part-put-before, part-put-in, part-append-low, part-all, get_d_part, getD-put-in}
+use Rattle.words.proofs.Parts.{length_part, length-put, part-part, part-put-before, part-put-in, part-append-low, part-all, get_d_part, get_or-put-in}
 use Rattle.sequential.specs.declared.Kind.{Kind}
 use Rattle.sequential.specs.declared.Kind.TheVariants.{Fixed, Variable}
 use Rattle.sequential.specs.declared.Layout.{Layout}
 use Rattle.sequential.specs.declared.Place.{Place}
 use Rattle.sequential.specs.declared.Row.{Row}
-use Rattle.sequential.specs.Rows.{area, sized, blocks, size, right, room, word_of, next, behind, putPlace, closedOf, closed, rowWords, laid}
-use Rattle.sequential.specs.Calls.{putSpot}
+use Rattle.sequential.specs.Rows.{area, sized, blocks, size, right, room, word_of, next, behind, put_place, closed_of, closed, row_words, laid}
+use Rattle.sequential.specs.Calls.{put_spot}
 use Rattle.sequential.specs.Lent.{LiesIn}
 use Rattle.sequential.specs.Laws.{first}
 use Rattle.sequential.proofs.Good.{Good, good-facts, whole-good, lies-end}
@@ -50,11 +50,11 @@ module _ (l : Layout) where
     pub sized-is : sized l (length f) (length w) ≡ true
     pub right_is : right l r.words ≡ true
     pub words-is : r.words ≡ size l.kind 0 w
-    pub place_is : r.place ≡ putPlace l q r.words
+    pub place_is : r.place ≡ put_place l q r.words
     pub block-is : ltb q.block (blocks l (length f)) ≡ true
     pub words-in : r.words ≤ length w
 
-  pub put-facts : (q : Place) (f w : List ℕ) (r : Row) → putSpot l q (length f) w ≡ passed r → Put q f w r
+  pub put-facts : (q : Place) (f w : List ℕ) (r : Row) → put_spot l q (length f) w ≡ passed r → Put q f w r
   put-facts q f w r e =
       let (sz, rt, qb, bl, er) = put-tests l q (length f) w r e in
       let (li, wi) = put-finds l q (length f) w r e in
@@ -63,7 +63,7 @@ module _ (l : Layout) where
         sized-is = sz;
         right_is = subst (λ (x : Row). right l x.words ≡ true) er rt;
         words-is = sym (ap (λ (x : Row). x.words) er);
-        place_is = subst (λ (x : Row). x.place ≡ putPlace l q x.words) er refl;
+        place_is = subst (λ (x : Row). x.place ≡ put_place l q x.words) er refl;
         block-is = qb;
         words-in = wi;
       }
@@ -95,15 +95,15 @@ module _ (l : Layout) where
     fine = good-facts l (whole-good l (length f) p.lies.sized)
 
     -- what is written lies in the file
-    pub row-length : length (rowWords l r w) ≡ r.words + cond (closed l r) 1 0
-    unfolding rowWords
+    pub row-length : length (row_words l r w) ≡ r.words + cond (closed l r) 1 0
+    unfolding row_words
     row-length = length-append (part 0 r.words w) (cond (closed l r) (0 ∷ []) []) ∙ go (closed l r)
       where
         go : (b : Bool) → length (part 0 r.words w) + length {A = ℕ} (cond b (0 ∷ []) []) ≡ r.words + cond b 1 0
         go true = rw (length_part 0 r.words w (let z = p.words-in in omega arith))
         go false = rw (length_part 0 r.words w (let z = p.words-in in omega arith))
 
-    pub row-end : word_of l r.place + length (rowWords l r w) ≤ length f
+    pub row-end : word_of l r.place + length (row_words l r w) ≤ length f
     row-end = subst (λ (n : ℕ). word_of l r.place + n ≤ length f) (sym row-length) (go (closed l r) refl)
       where
         go : (b : Bool) → closed l r ≡ b → word_of l r.place + (r.words + cond b 1 0) ≤ length f
@@ -112,10 +112,10 @@ module _ (l : Layout) where
 
     pub laid-length : length (laid l r w f) ≡ length f
     unfolding laid
-    laid-length = length-put f (word_of l r.place) (rowWords l r w) row-end
+    laid-length = length-put f (word_of l r.place) (row_words l r w) row-end
 
-    low : part 0 r.words (rowWords l r w) ≡ part 0 r.words w
-    unfolding rowWords
+    low : part 0 r.words (row_words l r w) ≡ part 0 r.words w
+    unfolding row_words
     low =
         let n : length (part 0 r.words w) ≡ r.words = length_part 0 r.words w (let z = p.words-in in omega arith) in
         part-append-low 0 r.words (part 0 r.words w) (cond (closed l r) (0 ∷ []) []) (omega arith) ∙ part-all r.words (part 0 r.words w) n
@@ -125,19 +125,19 @@ module _ (l : Layout) where
     unfolding laid
     laid-row =
         let a = word_of l r.place in
-        let h : 0 + r.words ≤ length (rowWords l r w) = (let z = row-length in omega arith) in
-        let x : part (a + 0) r.words (put f a (rowWords l r w)) ≡ part 0 r.words (rowWords l r w) =
-        part-put-in f a (rowWords l r w) 0 r.words h row-end in
-        subst (λ (i : ℕ). part i r.words (put f a (rowWords l r w)) ≡ part 0 r.words w) (add-zero a) (x ∙ low)
+        let h : 0 + r.words ≤ length (row_words l r w) = (let z = row-length in omega arith) in
+        let x : part (a + 0) r.words (put f a (row_words l r w)) ≡ part 0 r.words (row_words l r w) =
+        part-put-in f a (row_words l r w) 0 r.words h row-end in
+        subst (λ (i : ℕ). part i r.words (put f a (row_words l r w)) ≡ part 0 r.words w) (add-zero a) (x ∙ low)
 
     -- no word before it has changed
     pub laid-before : (k : ℕ) → k ≤ word_of l r.place → Agree k (laid l r w f) f
     unfolding laid
-    laid-before k h = part-put-before f (word_of l r.place) (rowWords l r w) 0 k (omega arith) row-end
+    laid-before k h = part-put-before f (word_of l r.place) (row_words l r w) 0 k (omega arith) row-end
 
     -- a zero word stands behind a variable record that does not fill its block
-    row_last : closed l r ≡ true → get_or (rowWords l r w) r.words 0 ≡ 0
-    unfolding rowWords
+    row_last : closed l r ≡ true → get_or (row_words l r w) r.words 0 ≡ 0
+    unfolding row_words
     row_last c =
         let n : length (part 0 r.words w) ≡ r.words = length_part 0 r.words w (let z = p.words-in in omega arith) in
         rw c (subst (λ (i : ℕ). get_or (part 0 r.words w ++ (0 ∷ [])) i 0 ≡ 0) n (get_or-append_seam (part 0 r.words w) 0 [] 0))
@@ -146,12 +146,12 @@ module _ (l : Layout) where
     unfolding laid closed
     laid-zero k h =
         let a = word_of l r.place in
-        let c : closed l r ≡ true = ap (λ (z : Kind). closedOf z (ltb (r.place.at + r.words) (area l))) k ∙ lt-ltb _ _ h in
-        let m : length (rowWords l r w) ≡ r.words + 1 = row-length ∙ ap (λ (b : Bool). r.words + cond b 1 0) c in
-        let x : get_or (put f a (rowWords l r w)) (a + r.words) 0 ≡ get_or (rowWords l r w) (a + r.words - a) 0 =
-        getD-put-in f a (rowWords l r w) (a + r.words) (omega arith) (omega arith) row-end in
+        let c : closed l r ≡ true = ap (λ (z : Kind). closed_of z (ltb (r.place.at + r.words) (area l))) k ∙ lt-ltb _ _ h in
+        let m : length (row_words l r w) ≡ r.words + 1 = row-length ∙ ap (λ (b : Bool). r.words + cond b 1 0) c in
+        let x : get_or (put f a (row_words l r w)) (a + r.words) 0 ≡ get_or (row_words l r w) (a + r.words - a) 0 =
+        get_or-put-in f a (row_words l r w) (a + r.words) (omega arith) (omega arith) row-end in
         let d : a + r.words - a ≡ r.words = omega arith in
-        subst (λ (i : ℕ). get_or (put f a (rowWords l r w)) i 0 ≡ 0) (sym (behind-word r)) (x ∙ ap (λ (i : ℕ). get_or (rowWords l r w) i 0) d ∙ row_last c)
+        subst (λ (i : ℕ). get_or (put f a (row_words l r w)) i 0 ≡ 0) (sym (behind-word r)) (x ∙ ap (λ (i : ℕ). get_or (row_words l r w) i 0) d ∙ row_last c)
 
   pub fits-room : (at n : ℕ) → at + n ≤ area l → room l at n ≡ true
   unfolding room
@@ -193,7 +193,7 @@ module _ (l : Layout) where
 
     -- it goes to a later word, or stays
     pub place-later : Ready q f → word_of l q ≤ word_of l r.place
-    unfolding putPlace
+    unfolding put_place
     place-later h = subst (λ (z : Place). word_of l q ≤ word_of l z) (sym p.place_is) (go (room l q.at r.words))
       where
         go : (b : Bool) → word_of l q ≤ word_of l (cond b q (next q))

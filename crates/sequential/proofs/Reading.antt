@@ -19,9 +19,9 @@ use Rattle.sequential.specs.declared.Kind.TheVariants.{Fixed, Variable}
 use Rattle.sequential.specs.declared.Layout.{Layout}
 use Rattle.sequential.specs.declared.Place.{Place}
 use Rattle.sequential.specs.declared.Row.{Row}
-use Rattle.sequential.specs.Rows.{area, workOf, sized, blocks, size, right, room, word_of, next, behind, putPlace, laid, stays_of, staysAt, getPlace}
-use Rattle.sequential.specs.Calls.{putSpot, rowFrom, rightOf, fixedRight, getSpot, get_row}
-use Rattle.sequential.specs.Laws.{first, File, puts, put_all, Reads, getAll, over, overAll, Workspaces, ReadBack, EndOfData}
+use Rattle.sequential.specs.Rows.{area, work_of, sized, blocks, size, right, room, word_of, next, behind, put_place, laid, stays_of, stays_at, get_place}
+use Rattle.sequential.specs.Calls.{put_spot, row_from, right_of, fixed_right, get_spot, get_row}
+use Rattle.sequential.specs.Laws.{first, File, puts, put_all, Reads, get_all, over, over_all, Workspaces, ReadBack, EndOfData}
 use Rattle.sequential.proofs.Good.{good-facts, whole-good}
 use Rattle.sequential.proofs.Spots.{sized-work}
 use Rattle.sequential.proofs.Laid.{right-most, room_fits}
@@ -56,7 +56,7 @@ module _ (l : Layout) where
       -- with room there, the record's first word stands there, and is not 0
       variable-here : l.kind ≡ Variable → room l q.at r.words ≡ true
           → (eqb q.at 0 || (ltb q.at (area l) && not (eqb (get_or g (word_of l q) 0) 0))) ≡ true
-      unfolding putPlace
+      unfolding put_place
       variable-here ek e =
           let m = room_fits l q.at r.words e in
           let low = p.lies.least in
@@ -68,7 +68,7 @@ module _ (l : Layout) where
       -- with none, a zero word or the end of the data area stands there
       variable-next : l.kind ≡ Variable → room l q.at r.words ≡ false
           → (eqb q.at 0 || (ltb q.at (area l) && not (eqb (get_or g (word_of l q) 0) 0))) ≡ false
-      unfolding putPlace room
+      unfolding put_place room
       variable-next ek e =
           let past : area l < q.at + r.words = leb-false (q.at + r.words) (area l) e in
           let most = right-most l r.words p.right_is in
@@ -95,8 +95,8 @@ module _ (l : Layout) where
               simp (nz, same_word, lt-ltb q.at (area l) at)
 
       -- GET's test at the place agrees with PUT's
-      stays-there : staysAt l q g ≡ room l q.at r.words
-      unfolding staysAt
+      stays-there : stays_at l q g ≡ room l q.at r.words
+      unfolding stays_at
       stays-there = go l.kind refl
         where
           to-kind : {k : Kind} → l.kind ≡ k → stays_of l.kind l q.at (get_or g (word_of l q) 0) ≡ stays_of k l q.at (get_or g (word_of l q) 0)
@@ -111,20 +111,20 @@ module _ (l : Layout) where
               test true e = variable-here ek e ∙ sym e
               test false e = variable-next ek e ∙ sym e
 
-      place-there : getPlace l q g ≡ r.place
-      unfolding getPlace putPlace
+      place-there : get_place l q g ≡ r.place
+      unfolding get_place put_place
       place-there = ap (λ (b : Bool). cond b q (next q)) stays-there ∙ sym p.place_is
 
-      right_there : fixedRight l ≡ true
+      right_there : fixed_right l ≡ true
       right_there = go l.kind refl
         where
-          go : (k : Kind) → l.kind ≡ k → rightOf l.kind l ≡ true
+          go : (k : Kind) → l.kind ≡ k → right_of l.kind l ≡ true
           go (Fixed m) ek =
-              ap (λ (k : Kind). rightOf k l) ek ∙ ap (right l) (ap (λ (k : Kind). size k 0 w) (sym ek) ∙ sym p.words-is) ∙ p.right_is
-          go Variable ek = ap (λ (k : Kind). rightOf k l) ek
+              ap (λ (k : Kind). right_of k l) ek ∙ ap (right l) (ap (λ (k : Kind). size k 0 w) (sym ek) ∙ sym p.words-is) ∙ p.right_is
+          go Variable ek = ap (λ (k : Kind). right_of k l) ek
 
-      row-from-there : rowFrom l r.place g ≡ passed r
-      unfolding rowFrom
+      row-from-there : row_from l r.place g ≡ passed r
+      unfolding row_from
       row-from-there =
           let b : ltb r.place.block (blocks l (length g)) ≡ true = ap (λ (n : ℕ). ltb r.place.block (blocks l n)) long ∙ lt-ltb _ _ p.lies.block in
           let s : (leb 1 (size l.kind (word_of l r.place) g) && room l r.place.at (size l.kind (word_of l r.place) g)) ≡ true =
@@ -135,13 +135,13 @@ module _ (l : Layout) where
           room-there m = fits-room l r.place.at r.words m
 
       -- so GET finds the record
-      pub get-there : (left work : ℕ) → work ≡ workOf l.kind (area l) → getSpot l q (left + 1) g work ≡ passed r
-      unfolding getSpot
+      pub get-there : (left work : ℕ) → work ≡ work_of l.kind (area l) → get_spot l q (left + 1) g work ≡ passed r
+      unfolding get_spot
       get-there left work ew =
           let s : sized l (length g) work ≡ true =
           ap (λ (n : ℕ). sized l n work) long ∙ ap (sized l (length f)) (ew ∙ sym (sized-work l (length f) (length w) p.sized-is)) ∙ p.sized-is in
           let b : ltb q.block (blocks l (length g)) ≡ true = ap (λ (n : ℕ). ltb q.block (blocks l n)) long ∙ p.block-is in
-          simp (s, right_there, ne_eqb (left + 1) 0 (λ z. absurd (omega arith)), b) (ap (λ (z : Place). rowFrom l z g) place-there ∙ row-from-there)
+          simp (s, right_there, ne_eqb (left + 1) 0 (λ z. absurd (omega arith)), b) (ap (λ (z : Place). row_from l z g) place-there ∙ row-from-there)
 
   -- PUTs that all answer 0: the file keeps its length and the words before its place
   pub record Grows (a x : File) : Type 0 where
@@ -155,7 +155,7 @@ module _ (l : Layout) where
   unfolding puts
   put-grows a x w h e =
       let (r, er, ex) =
-      bind-passed (putSpot l a.place (length a.words) w) (λ r. passed (record { words = laid l r w a.words; place = behind r })) x e in
+      bind-passed (put_spot l a.place (length a.words) w) (λ r. passed (record { words = laid l r w a.words; place = behind r })) x e in
       let p = put-facts l a.place a.words w r er in
       let ey : x ≡ record { words = laid l r w a.words; place = behind r } = cc in
       let lat = place-later l a.place a.words w r p h in
@@ -187,11 +187,11 @@ module _ (l : Layout) where
         ready = gb.ready;
       }
 
-  get-step : (q : Place) (left : ℕ) (g v : List ℕ) (vs : List (List ℕ)) (r : Row) (x : Reads) → getSpot l q (left + 1) g (length v) ≡ passed r
-      → getAll l (behind r) left g vs ≡ passed x
-      → getAll l q (left + 1) g (v ∷ vs)
+  get-step : (q : Place) (left : ℕ) (g v : List ℕ) (vs : List (List ℕ)) (r : Row) (x : Reads) → get_spot l q (left + 1) g (length v) ≡ passed r
+      → get_all l (behind r) left g vs ≡ passed x
+      → get_all l q (left + 1) g (v ∷ vs)
       ≡ passed (record { rows = put v 0 (part (word_of l r.place) r.words g) ∷ x.rows; place = x.place; left = x.left })
-  unfolding getAll
+  unfolding get_all
   get-step q left g v vs r x e h =
       let d : left + 1 - 1 ≡ left = omega arith in
       rw e (rw d (rw h refl))
@@ -203,8 +203,8 @@ module _ (l : Layout) where
 
   reads_all : (a x : File) (ws vs : List (List ℕ)) (more : ℕ) (g : List ℕ) → Ready l a.place a.words → put_all l a ws ≡ passed x
       → Agree (word_of l x.place) g x.words → length g ≡ length x.words → Workspaces l vs → length vs ≡ length ws
-      → getAll l a.place (length ws + more) g vs ≡ passed (record { rows = overAll l ws vs; place = x.place; left = more })
-  unfolding put_all getAll overAll
+      → get_all l a.place (length ws + more) g vs ≡ passed (record { rows = over_all l ws vs; place = x.place; left = more })
+  unfolding put_all get_all over_all
   reads_all a x [] [] more g h e s n k z =
       let ex : a ≡ x = cc in
       λ j. passed (record { rows = []; place = (ex j).place; left = zero-add more j })
@@ -220,12 +220,12 @@ module _ (l : Layout) where
       let got = get-there a.place a.words w r p g there long h (length ws + more) (length v) k.0 in
       let rest = reads_all b x ws vs more g ga.ready ex s n k.1 (omega arith) in
       let rest_at =
-      subst (λ (y : File). getAll l y.place (length ws + more) g vs ≡ passed (record { rows = overAll l ws vs; place = x.place; left = more })) ey rest in
+      subst (λ (y : File). get_all l y.place (length ws + more) g vs ≡ passed (record { rows = over_all l ws vs; place = x.place; left = more })) ey rest in
       let row = over-row w v g r p.words-is (row-there a.place a.words w r p g there long h) in
       let count : length ws + more + 1 ≡ length (w ∷ ws) + more = omega arith in
-      subst (λ (m : ℕ). getAll l a.place m g (v ∷ vs) ≡ passed (record { rows = overAll l (w ∷ ws) (v ∷ vs); place = x.place; left = more })) count
-      (get-step a.place (length ws + more) g v vs r (record { rows = overAll l ws vs; place = x.place; left = more }) got rest_at
-      ∙ (λ j. passed (record { rows = row j ∷ overAll l ws vs; place = x.place; left = more })))
+      subst (λ (m : ℕ). get_all l a.place m g (v ∷ vs) ≡ passed (record { rows = over_all l (w ∷ ws) (v ∷ vs); place = x.place; left = more })) count
+      (get-step a.place (length ws + more) g v vs r (record { rows = over_all l ws vs; place = x.place; left = more }) got rest_at
+      ∙ (λ j. passed (record { rows = row j ∷ over_all l ws vs; place = x.place; left = more })))
 
 pub read_back : ReadBack
 read_back l f ws later x y vs more e₁ e₂ k z =
@@ -234,5 +234,5 @@ read_back l f ws later x y vs more e₁ e₂ k z =
     reads_all l (record { words = f; place = first }) x ws vs more y.words (ready-first l f) e₁ b.same b.long k z
 
 pub end-of-data : EndOfData
-unfolding get_row getSpot
+unfolding get_row get_spot
 end-of-data l q f v s r = simp (s, r)

@@ -8,7 +8,7 @@ use native.Mathlib.Omega.{arith}
 use lib.Dec.{ltb, leb}
 use lib.ListN.{length}
 use borrow.Author.Tests.{ltb-true, ltb-false, lt-ltb, le-ltb, le-leb, lt-leb}
-use Rattle.numbers.specs.Numbers.{noRoom}
+use Rattle.numbers.specs.Numbers.{no_room}
 use Rattle.numbers.specs.Checked.{Checked, passed, refused}
 use Rattle.numbers.proofs.Passed.{bind-passed}
 use Rattle.sequential.specs.declared.Kind.{Kind}
@@ -16,15 +16,15 @@ use Rattle.sequential.specs.declared.Kind.TheVariants.{Fixed}
 use Rattle.sequential.specs.declared.Layout.{Layout}
 use Rattle.sequential.specs.declared.Place.{Place}
 use Rattle.sequential.specs.declared.Row.{Row}
-use Rattle.sequential.specs.Rows.{area, size, right, room, sized, next, behind, blocks, putPlace, laid}
-use Rattle.sequential.specs.Calls.{putSpot}
+use Rattle.sequential.specs.Rows.{area, size, right, room, sized, next, behind, blocks, put_place, laid}
+use Rattle.sequential.specs.Calls.{put_spot}
 use Rattle.sequential.specs.Laws.{first, File, puts, put_all, WholeOnes}
 use Rattle.sequential.proofs.Laid.{right-least, right-most}
 use Rattle.sequential.proofs.Putting.{Put, put-facts, laid-length}
 
 -- a record goes to its block or to the next
-put-later : (l : Layout) (q : Place) (n : ℕ) → q.block ≤ (putPlace l q n).block
-unfolding putPlace next
+put-later : (l : Layout) (q : Place) (n : ℕ) → q.block ≤ (put_place l q n).block
+unfolding put_place next
 put-later l q n = go (room l q.at n)
   where
     go : (b : Bool) → q.block ≤ (cond b q (record { block = q.block + 1; at = 0 })).block
@@ -59,8 +59,8 @@ module _ (l : Layout) (n : ℕ) (kind : l.kind ≡ Fixed n) (rt : right l n ≡ 
       (d, omega arith)
 
   -- the next record goes to its place
-  put-at : (q : Place) (j : ℕ) → Stands q j → putPlace l q n ≡ record { block = j / (area l / n); at = j % (area l / n) * n }
-  unfolding putPlace room next
+  put-at : (q : Place) (j : ℕ) → Stands q j → put_place l q n ≡ record { block = j / (area l / n); at = j % (area l / n) * n }
+  unfolding put_place room next
   put-at q j s = go (ltb s.rows (area l / n)) refl
     where
       go : (b : Bool) → ltb s.rows (area l / n) ≡ b
@@ -96,15 +96,15 @@ module _ (l : Layout) (n : ℕ) (kind : l.kind ≡ Fixed n) (rt : right l n ≡ 
   unfolding behind
   stands-put q j f w r s p =
       let n-is : r.words ≡ n = p.words-is ∙ ap (λ (k : Kind). size k 0 w) kind in
-      let to : r.place ≡ record { block = j / (area l / n); at = j % (area l / n) * n } = p.place_is ∙ ap (putPlace l q) n-is ∙ put-at q j s in
+      let to : r.place ≡ record { block = j / (area l / n); at = j % (area l / n) * n } = p.place_is ∙ ap (put_place l q) n-is ∙ put-at q j s in
       subst (λ (z : Place). Stands z (j + 1)) (λ i. record { block = (sym to i).block; at = (sym to i).at + sym n-is i }) (stands-next j)
 
   -- 070002 exactly where no block is left
   spot-at : (q : Place) (j file : ℕ) (w : List ℕ) → Stands q j → sized l file (length w) ≡ true
-      → putSpot l q file w
+      → put_spot l q file w
       ≡ cond (ltb j (blocks l file * (area l / n))) (passed (record { place = record { block = j / (area l / n); at = j % (area l / n) * n }; words = n }))
-      (refused noRoom)
-  unfolding putSpot
+      (refused no_room)
+  unfolding put_spot
   spot-at q j file w s sz = go (ltb j (blocks l file * (area l / n))) refl
     where
       is : size l.kind 0 w ≡ n
@@ -113,37 +113,37 @@ module _ (l : Layout) (n : ℕ) (kind : l.kind ≡ Fixed n) (rt : right l n ≡ 
       fit : right l (size l.kind 0 w) ≡ true
       fit = ap (right l) is ∙ rt
 
-      to : putPlace l q (size l.kind 0 w) ≡ record { block = j / (area l / n); at = j % (area l / n) * n }
-      to = ap (putPlace l q) is ∙ put-at q j s
+      to : put_place l q (size l.kind 0 w) ≡ record { block = j / (area l / n); at = j % (area l / n) * n }
+      to = ap (put_place l q) is ∙ put-at q j s
 
-      row : ◌≡◌ {A = Checked Row} (passed (record { place = putPlace l q (size l.kind 0 w); words = size l.kind 0 w }))
+      row : ◌≡◌ {A = Checked Row} (passed (record { place = put_place l q (size l.kind 0 w); words = size l.kind 0 w }))
           (passed (record { place = record { block = j / (area l / n); at = j % (area l / n) * n }; words = n }))
       row = λ i. passed (record { place = to i; words = is i })
 
       go : (b : Bool) → ltb j (blocks l file * (area l / n)) ≡ b
-          → putSpot l q file w
+          → put_spot l q file w
           ≡ cond (ltb j (blocks l file * (area l / n))) (passed (record { place = record { block = j / (area l / n); at = j % (area l / n) * n }; words = n }))
-          (refused noRoom)
+          (refused no_room)
       go true e =
           let x : j / (area l / n) < blocks l file = (div-lt_iff_lt-mul one).1 (ltb-true _ _ e) in
-          let y : (putPlace l q (size l.kind 0 w)).block < blocks l file = subst (λ (z : Place). z.block < blocks l file) (sym to) x in
-          let o : q.block ≤ (putPlace l q (size l.kind 0 w)).block = put-later l q (size l.kind 0 w) in
-          simp (sz, fit, lt-ltb q.block (blocks l file) (omega arith), lt-ltb (putPlace l q (size l.kind 0 w)).block (blocks l file) y, e) row
+          let y : (put_place l q (size l.kind 0 w)).block < blocks l file = subst (λ (z : Place). z.block < blocks l file) (sym to) x in
+          let o : q.block ≤ (put_place l q (size l.kind 0 w)).block = put-later l q (size l.kind 0 w) in
+          simp (sz, fit, lt-ltb q.block (blocks l file) (omega arith), lt-ltb (put_place l q (size l.kind 0 w)).block (blocks l file) y, e) row
       go false e =
           let x : blocks l file ≤ j / (area l / n) = past (ltb-false _ _ e) in
-          let y : blocks l file ≤ (putPlace l q (size l.kind 0 w)).block = subst (λ (z : Place). blocks l file ≤ z.block) (sym to) x in
-          let z = le-ltb (putPlace l q (size l.kind 0 w)).block (blocks l file) y in
+          let y : blocks l file ≤ (put_place l q (size l.kind 0 w)).block = subst (λ (z : Place). blocks l file ≤ z.block) (sym to) x in
+          let z = le-ltb (put_place l q (size l.kind 0 w)).block (blocks l file) y in
           first-test (ltb q.block (blocks l file)) refl e z
         where
           past : blocks l file * (area l / n) ≤ j → blocks l file ≤ j / (area l / n)
           past h = (le-div_iff_mul-le one).1 h
 
           first-test : (b : Bool) → ltb q.block (blocks l file) ≡ b → ltb j (blocks l file * (area l / n)) ≡ false
-              → ltb (putPlace l q (size l.kind 0 w)).block (blocks l file) ≡ false
-              → putSpot l q file w
+              → ltb (put_place l q (size l.kind 0 w)).block (blocks l file) ≡ false
+              → put_spot l q file w
               ≡ cond (ltb j (blocks l file * (area l / n)))
               (passed (record { place = record { block = j / (area l / n); at = j % (area l / n) * n }; words = n }))
-              (refused noRoom)
+              (refused no_room)
           first-test true b e z = simp (sz, fit, b, z, e)
           first-test false b e z = simp (sz, fit, b, e)
 
@@ -158,7 +158,7 @@ module _ (l : Layout) (n : ℕ) (kind : l.kind ≡ Fixed n) (rt : right l n ≡ 
   stands-all a x (w ∷ ws) j s e =
       let (b, eb, ex) = bind-passed (puts l a w) (λ y. put_all l y ws) x e in
       let (r, er, ey) =
-      bind-passed (putSpot l a.place (length a.words) w) (λ r. passed (record { words = laid l r w a.words; place = behind r })) b eb in
+      bind-passed (put_spot l a.place (length a.words) w) (λ r. passed (record { words = laid l r w a.words; place = behind r })) b eb in
       let p = put-facts l a.place a.words w r er in
       let eb₂ : record { words = laid l r w a.words; place = behind r } ≡ b = cc in
       let next = stands-put a.place j a.words w r s p in

@@ -6,17 +6,17 @@ use Rattle.sequential.specs.declared.Place.{Place}
 use Rattle.sequential.specs.declared.Row.{Row}
 use Rattle.sequential.specs.declared.Spot.{Spot}
 use Rattle.sequential.specs.declared.Spot.TheVariants.{No, At}
-use Rattle.sequential.specs.Rows.{area, goodLayout, whole, blocks}
-use Rattle.sequential.specs.Calls.{fixedRight}
+use Rattle.sequential.specs.Rows.{area, good_layout, whole, blocks}
+use Rattle.sequential.specs.Calls.{fixed_right}
 
 -- a decision as a step's answer
-abbrev pub asSpot : Spot → Checked Row
-asSpot (No n) = refused n
-asSpot (At r) = passed r
+abbrev pub as_spot : Spot → Checked Row
+as_spot (No n) = refused n
+as_spot (At r) = passed r
 
 -- a good layout
 pub record Fine (l : Layout) : Type 0 where
-  pub good : goodLayout l ≡ true
+  pub good : good_layout l ≡ true
 
 -- a place in a block of a file of so many words
 pub record InBlock (l : Layout) (q : Place) (file : ℕ) : Type 0 where
@@ -38,7 +38,7 @@ pub record Inside (l : Layout) (q : Place) (file : ℕ) : Type 0 where
 pub record Reading (l : Layout) (q : Place) (file : ℕ) : Type 0 where
   pub sized : whole l file ≡ true
   pub block : q.block < blocks l file
-  pub right : fixedRight l ≡ true
+  pub right : fixed_right l ≡ true
 
 -- a record that lies in the data area of a block of a file of so many words
 pub record LiesIn (l : Layout) (r : Row) (file : ℕ) : Type 0 where

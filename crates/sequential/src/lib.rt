@@ -6,7 +6,7 @@ ghost use Rattle.std.specs.Prelude.{◌≡◌, ◌+◌, ◌≤◌, length};
 ghost use Rattle.words.specs.Slices.{was, became};
 ghost use Rattle.sequential.specs.Rows.{closed, laid, behind};
 ghost use Rattle.sequential.specs.Lent.{Fine, LiesIn};
-ghost use Rattle.sequential.specs.Calls.{putGave, putRow, getGave, get_row};
+ghost use Rattle.sequential.specs.Calls.{put_gave, put_row, get_gave, get_row};
 
 use numbers::DONE;
 use plan::{plan_get, plan_put, word_of};
@@ -103,7 +103,7 @@ fn lay(l: Layout, row: Row, file: &mut [u32], work: &[u32])
 
 // PUT: the record in the workspace goes to the place, or to the next block where it has no room there.
 pub fn put(l: Layout, place: Place, file: &mut [u32], work: &[u32]) -> PutAnswer
-    ensures { putGave result (became file) ≡ putRow l place (was file) (was work) }
+    ensures { put_gave result (became file) ≡ put_row l place (was file) (was work) }
 {
     let spot = plan_put(l, place, file.len(), work);
     match spot {
@@ -120,7 +120,7 @@ pub fn put(l: Layout, place: Place, file: &mut [u32], work: &[u32]) -> PutAnswer
 
 // GET: the record at the place, or the first of the next block, goes to the workspace.
 pub fn get(l: Layout, place: Place, left: usize, file: &[u32], work: &mut [u32]) -> GetAnswer
-    ensures { getGave result (became work) ≡ get_row l place left (was file) (was work) }
+    ensures { get_gave result (became work) ≡ get_row l place left (was file) (was work) }
 {
     let spot = plan_get(l, place, left, file, work.len());
     match spot {

@@ -1,16 +1,16 @@
 // Where a record goes, or where the next one lies: decided, with every refusal in its order, before a word moves.
 ghost use Rattle.std.specs.Prelude.{◌≡◌, ◌<◌, length};
 ghost use Rattle.words.specs.Slices.{was};
-ghost use Rattle.sequential.specs.Rows.{goodLayout, sized, size, room, word_of, putPlace, staysAt, getPlace};
-ghost use Rattle.sequential.specs.Calls.{putSpot, getSpot, rowFrom, fixedRight};
-ghost use Rattle.sequential.specs.Lent.{Fine, InBlock, InArea, Inside, Reading, asSpot};
+ghost use Rattle.sequential.specs.Rows.{good_layout, sized, size, room, word_of, put_place, stays_at, get_place};
+ghost use Rattle.sequential.specs.Calls.{put_spot, get_spot, row_from, fixed_right};
+ghost use Rattle.sequential.specs.Lent.{Fine, InBlock, InArea, Inside, Reading, as_spot};
 
 use super::{Kind, Layout, Place, Row, Spot};
 use numbers::{AT_END, NO_ROOM, WRONG_LENGTH, WRONG_SIZE};
 
 // Whether the layout keeps its ranges.
 fn is_good(l: Layout) -> bool
-    ensures { result ≡ goodLayout l }
+    ensures { result ≡ good_layout l }
 {
     let wpb = l.wpb;
     if wpb % 2 != 0 {
@@ -80,7 +80,7 @@ fn has_room(l: Layout, at: usize, n: usize) -> bool
 // The place itself where a record of n words has room there, else the next block.
 fn put_place(l: Layout, place: Place, file: usize, n: usize) -> Place
     requires { InBlock l place file }
-    ensures { result ≡ putPlace l place n }
+    ensures { result ≡ put_place l place n }
 {
     if has_room(l, place.at, n) {
         return place;
@@ -93,7 +93,7 @@ fn put_place(l: Layout, place: Place, file: usize, n: usize) -> Place
 
 // Where PUT lays the record in the workspace.
 pub fn plan_put(l: Layout, place: Place, file: usize, work: &[u32]) -> Spot
-    ensures { asSpot result ≡ putSpot l place file (was work) }
+    ensures { as_spot result ≡ put_spot l place file (was work) }
 {
     if !is_sized(l, file, work.len()) {
         return Spot::No(WRONG_SIZE);
@@ -125,7 +125,7 @@ pub fn plan_put(l: Layout, place: Place, file: usize, work: &[u32]) -> Spot
 // block's end stands there.
 fn is_here(l: Layout, place: Place, file: &[u32]) -> bool
     requires { InBlock l place (length file.now) }
-    ensures { result ≡ staysAt l place (was file) }
+    ensures { result ≡ stays_at l place (was file) }
 {
     let kind = l.kind;
     let at = place.at;
@@ -147,7 +147,7 @@ fn is_here(l: Layout, place: Place, file: &[u32]) -> bool
 // The record that begins at a place of the data area, whose block may not be there.
 fn row_from(l: Layout, q: Place, file: &[u32]) -> Spot
     requires { InArea l q (length file.now) }
-    ensures { asSpot result ≡ rowFrom l q (was file) }
+    ensures { as_spot result ≡ row_from l q (was file) }
 {
     let kind = l.kind;
     let wpb = l.wpb;
@@ -168,7 +168,7 @@ fn row_from(l: Layout, q: Place, file: &[u32]) -> Spot
 // The next record from a place in a block that is there.
 fn next_row(l: Layout, place: Place, file: &[u32]) -> Spot
     requires { Reading l place (length file.now) }
-    ensures { asSpot result ≡ rowFrom l (getPlace l place (was file)) (was file) }
+    ensures { as_spot result ≡ row_from l (get_place l place (was file)) (was file) }
 {
     if is_here(l, place, file) {
         return row_from(l, place, file);
@@ -183,7 +183,7 @@ fn next_row(l: Layout, place: Place, file: &[u32]) -> Spot
 // Whether a fixed record is neither empty nor larger than the data area.
 fn is_right(l: Layout) -> bool
     requires { Fine l }
-    ensures { result ≡ fixedRight l }
+    ensures { result ≡ fixed_right l }
 {
     let kind = l.kind;
     match kind {
@@ -199,7 +199,7 @@ fn is_right(l: Layout) -> bool
 
 // Where the record lies that GET reads next.
 pub fn plan_get(l: Layout, place: Place, left: usize, file: &[u32], work: usize) -> Spot
-    ensures { asSpot result ≡ getSpot l place left (was file) work }
+    ensures { as_spot result ≡ get_spot l place left (was file) work }
 {
     if !is_sized(l, file.len(), work) {
         return Spot::No(WRONG_SIZE);

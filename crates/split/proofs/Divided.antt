@@ -10,14 +10,14 @@ use Rattle.words.specs.Words.{part}
 use Rattle.words.proofs.Parts.{length_part}
 use Rattle.table.specs.declared.Shape.{Shape}
 use Rattle.table.specs.Tables.{place}
-use Rattle.table.specs.Splits.{lowCount, renamed}
+use Rattle.table.specs.Splits.{low_count, renamed}
 use Rattle.table.proofs.Places.{row_lt}
 use Rattle.table.proofs.Lengths.{low-least, low-most}
 use Rattle.drum.specs.declared.Description.{Description}
-use Rattle.drum.specs.Blocks.{Fitting, block_at, putBlock}
+use Rattle.drum.specs.Blocks.{Fitting, block_at, put_block}
 use Rattle.drum.proofs.Good.{caps}
 use Rattle.split.specs.declared.Cut.{Cut}
-use Rattle.split.specs.Halves.{FullTable, staying, leaving, halved, lowEntry}
+use Rattle.split.specs.Halves.{FullTable, staying, leaving, halved, low_entry}
 use Rattle.split.specs.Cuts.{Shares, Divides, DividesIn}
 use Rattle.split.proofs.Halves.{full-most, halved-by, low-entry-by}
 
@@ -25,7 +25,7 @@ use Rattle.split.proofs.Halves.{full-most, halved-by, low-entry-by}
 pub rows-most : (x : Cut) (f b : List ℕ) → Divides x f b → x.rows ≤ 4096
 rows-most x f b h = full-most x.desc x.shape x.rows x.place h.fitting.good h.full
 
-pub shares-low : (x : Cut) (low : ℕ) (f b : List ℕ) → low ≡ lowCount x.rows → Divides x f b → Shares x low f b
+pub shares-low : (x : Cut) (low : ℕ) (f b : List ℕ) → low ≡ low_count x.rows → Divides x f b → Shares x low f b
 shares-low x low f b e h =
     let two = h.full.rows-least in
     record {
@@ -48,7 +48,7 @@ old-small x f b h =
 pub still-fits : (p : Description) (f g b t : List ℕ) → length g ≡ length f → length t ≡ length b → Fitting p f b → Fitting p g t
 still-fits p f g b t ef eb h = record { good = h.good; file-is = ef ∙ h.file-is; buffer-is = eb ∙ h.buffer-is }
 
-module _ (p : Description) (h : Shape) (n i low : ℕ) (f b : List ℕ) (full : FullTable p h n i) (fit : Fitting p f b) (e : low ≡ lowCount n) where
+module _ (p : Description) (h : Shape) (n i low : ℕ) (f b : List ℕ) (full : FullTable p h n i) (fit : Fitting p f b) (e : low ≡ low_count n) where
   -- the last row that stays lies in the block
   last_end : h.base + (low - 1) * h.stride + h.stride ≤ p.wpb
   last_end =
@@ -79,8 +79,8 @@ module _ (p : Description) (h : Shape) (n i low : ℕ) (f b : List ℕ) (full : 
 
   -- the halves, and the entry
   module _ (row b₁ : List ℕ) (eb : b₁ ≡ staying p.wpb h n low i (part 0 h.stride row) b) (k : h.stride ≤ length row) where
-    pub halved-told : (old new : ℕ) (f₁ f₂ : List ℕ) → f₂ ≡ putBlock p f₁ old b₁
-        → f₁ ≡ putBlock p f new (leaving p.wpb h n low i (part 0 h.stride row) b)
+    pub halved-told : (old new : ℕ) (f₁ f₂ : List ℕ) → f₂ ≡ put_block p f₁ old b₁
+        → f₁ ≡ put_block p f new (leaving p.wpb h n low i (part 0 h.stride row) b)
         → 1 ≤ old → old ≤ p.n → 1 ≤ new → new ≤ p.n → (old ≡ new → ⊥) → f₂ ≡ halved p h n i (part 0 h.stride row) b old new f
     halved-told old new f₁ f₂ e₂ e₁ a c d g ne =
         let r = part 0 h.stride row in
@@ -88,7 +88,7 @@ module _ (p : Description) (h : Shape) (n i low : ℕ) (f b : List ℕ) (full : 
         halved-by p h n i full b r fit.buffer-is hr low e b₁ eb f f₁ f₂ old new fit.file-is (a, c) (d, g) ne e₁ e₂
 
     pub entry-told : (old : ℕ) (s : List ℕ) → s ≡ part (h.base + (low - 1) * h.stride) h.width b₁ ++ (old ∷ [])
-        → s ≡ lowEntry p h n i (part 0 h.stride row) b old
+        → s ≡ low_entry p h n i (part 0 h.stride row) b old
     entry-told old s q =
         let r = part 0 h.stride row in
         let hr = length_part 0 h.stride row (omega arith) in
@@ -127,5 +127,5 @@ module _ (p : Description) (h : Shape) (n i b old : ℕ) (f t₁ t₂ r : List �
   pub halved-in : (new : ℕ) (g : List ℕ) → g ≡ halved p h n i r t₂ old new f → g ≡ halved p h n i r (renamed h i b (block_at p f old)) old new f
   halved-in new g q = q ∙ ap (λ (t : List ℕ). halved p h n i r t old new f) renamed-is
 
-  pub entry_in : (s : List ℕ) → s ≡ lowEntry p h n i r t₂ old → s ≡ lowEntry p h n i r (renamed h i b (block_at p f old)) old
-  entry_in s q = q ∙ ap (λ (t : List ℕ). lowEntry p h n i r t old) renamed-is
+  pub entry_in : (s : List ℕ) → s ≡ low_entry p h n i r t₂ old → s ≡ low_entry p h n i r (renamed h i b (block_at p f old)) old
+  entry_in s q = q ∙ ap (λ (t : List ℕ). low_entry p h n i r t old) renamed-is

@@ -13,7 +13,7 @@ use Rattle.table.proofs.Places.{row_lt}
 use Rattle.table.proofs.Lengths.{count-renamed, length-renamed, length-entered}
 use Rattle.drum.specs.declared.Description.{Description}
 use Rattle.drum.specs.Params.{I, index_shape}
-use Rattle.drum.specs.Blocks.{block_at, putBlock}
+use Rattle.drum.specs.Blocks.{block_at, put_block}
 use Rattle.drum.specs.Inside.{HasBlock, Takes}
 use Rattle.drum.proofs.Forms.{index-tag}
 use Rattle.drum.proofs.Good.{caps}
@@ -79,7 +79,7 @@ module _ (p : Description) (f : List ℕ) (x i : ℕ) (enters : EntersIn p f x i
     unfolding index_shape
     entry-long entry l = rw eh l
 
-    module _ (b : ℕ) (g : List ℕ) (e : g ≡ putBlock p f x (renamed h i b (block_at p f x))) where
+    module _ (b : ℕ) (g : List ℕ) (e : g ≡ put_block p f x (renamed h i b (block_at p f x))) where
       named-length : length (renamed h i b (block_at p f x)) ≡ p.wpb
       named-length = length-renamed h i (block_at p f x) b ∙ block-length
 
@@ -98,24 +98,24 @@ module _ (p : Description) (f : List ℕ) (x i : ℕ) (enters : EntersIn p f x i
             count_most = named-most h i b (block_at p f x) (block_at p g x) named-text shape-enters;
           }
 
-      entered_here : (s r : List ℕ) → length r ≡ h.stride → s ≡ putBlock p g x (inserted h i r (block_at p g x))
-          → s ≡ putBlock p f x (entered h i r b (block_at p f x))
+      entered_here : (s r : List ℕ) → length r ≡ h.stride → s ≡ put_block p g x (inserted h i r (block_at p g x))
+          → s ≡ put_block p f x (entered h i r b (block_at p f x))
       unfolding entered
       entered_here s r lr q =
           let below = shape-enters.below in
           let n = length-entered h i (block_at p f x) r b shape-enters.counted (omega arith) lr shape-enters.room ∙ block-length in
           changed-twice p f g s x _ _ enters.held named-length n e (inserted h i r) q refl
 
-      pub entered-in : (s entry : List ℕ) → s ≡ putBlock p g x (inserted h i (part 0 h.stride entry) (block_at p g x)) → p.k + 1 ≤ length entry
-          → s ≡ putBlock p f x (entered (index_shape p) i (part 0 (p.k + 1) entry) b (block_at p f x))
+      pub entered-in : (s entry : List ℕ) → s ≡ put_block p g x (inserted h i (part 0 h.stride entry) (block_at p g x)) → p.k + 1 ≤ length entry
+          → s ≡ put_block p f x (entered (index_shape p) i (part 0 (p.k + 1) entry) b (block_at p f x))
       unfolding index_shape
       entered-in s entry q l =
           let k = entry-long entry l in
           let n = length_part 0 h.stride entry (omega arith) in
           entered_here s (part 0 h.stride entry) n q
-          ∙ ap (λ (z : Shape). putBlock p f x (entered z i (part 0 z.stride entry) b (block_at p f x))) eh
+          ∙ ap (λ (z : Shape). put_block p f x (entered z i (part 0 z.stride entry) b (block_at p f x))) eh
 
 -- so it takes the other entry
-pub named-takes : (p : Description) (f g : List ℕ) (x i b : ℕ) (h : Shape) → g ≡ putBlock p f x (renamed h i b (block_at p f x)) → h ≡ index_shape p
+pub named-takes : (p : Description) (f g : List ℕ) (x i b : ℕ) (h : Shape) → g ≡ put_block p f x (renamed h i b (block_at p f x)) → h ≡ index_shape p
     → EntersIn p f x i → Takes h i (block_at p g x)
 named-takes p f g x i b h e eh enters = takes-named p f x i enters h eh b g e

@@ -11,14 +11,14 @@ use Rattle.words.proofs.Parts.{part-all, part-part}
 use Rattle.table.specs.Tables.{replaced, laid}
 use Rattle.table.proofs.Places.{row-le, row_lt, row_next}
 use Rattle.table.proofs.Lengths.{length-laid}
-use Rattle.drum.specs.Blocks.{block_at, putBlock}
+use Rattle.drum.specs.Blocks.{block_at, put_block}
 use Rattle.drum.specs.Inside.{HasBlock}
 use Rattle.drum.proofs.Blocks.{length-block, block-still}
 use Rattle.drum.proofs.Lent.{held, changed-twice}
 use Rattle.split.specs.declared.Cut.{Cut}
-use Rattle.split.specs.Cuts.{Shares, HasRow, all_rows, moreRow, lower, upper}
+use Rattle.split.specs.Cuts.{Shares, HasRow, all_rows, more_row, lower, upper}
 use Rattle.split.proofs.Laid.{laying, laying-none, length-laying, laying-below, laying-all, laying-row, laying-laid}
-use Rattle.split.proofs.Taken.{wide, all_words, words-before, behind-start, row-length, taken-itself, taken-behind}
+use Rattle.split.proofs.Taken.{wide, all_words_lem, words-before, behind-start, row-length, taken-itself, taken-behind}
 use Rattle.split.proofs.Halves.{full-most, rows-off}
 
 -- the words of the rows that stay, and of those that leave
@@ -29,15 +29,15 @@ abbrev pub leave : Cut → ℕ → List ℕ → List ℕ → List ℕ
 leave x low row t = drop (low * wide x) (all_rows x row t)
 
 -- the file with these words in the new block
-abbrev pub withNew : Cut → List ℕ → List ℕ → List ℕ
-withNew x f u = putBlock x.desc f x.new u
+abbrev pub with_new : Cut → List ℕ → List ℕ → List ℕ
+with_new x f u = put_block x.desc f x.new u
 
 -- the rows from row j on are where they go: those from row `low` on in the new block, the others in the buffer
 pub record Moved (x : Cut) (low : ℕ) (row f₀ t₀ : List ℕ) (j : ℕ) (f t : List ℕ) : Type 0 where
   pub most : j ≤ x.rows + 1
   pub shares : Shares x low f₀ t₀
   pub row-long : wide x ≤ length row
-  pub file-is : f ≡ withNew x f₀ (laying (block_at x.desc f₀ x.new) ((j - low) * wide x) (leave x low row t₀))
+  pub file-is : f ≡ with_new x f₀ (laying (block_at x.desc f₀ x.new) ((j - low) * wide x) (leave x low row t₀))
   pub text-is : t ≡ laying t₀ (j * wide x) (stay x low row t₀)
   pub file-kept : length f ≡ length f₀
   pub text-kept : length t ≡ length t₀
@@ -80,7 +80,7 @@ module _ (x : Cut) (low : ℕ) (f t : List ℕ) (sh : Shares x low f t) where
       let e = sh.fitting.buffer-is in
       let fit = sh.full.rows_fit in
       let h : HasRow x 0 t row = record { good = sh.fitting.good; full = sh.full; text-is = e; row-long = long; row-most = omega arith } in
-      let l = all_words x 0 t row h in
+      let l = all_words_lem x 0 t row h in
       let m = row-le low x.rows (wide x) sh.low-most in
       record {
         base-one = sh.full.base-one;
@@ -95,13 +95,13 @@ module _ (x : Cut) (low : ℕ) (f t : List ℕ) (sh : Shares x low f t) where
 
 -- row j of the words that leave, and of those that stay
 module _ (x : Cut) (low : ℕ) (row t : List ℕ) (j : ℕ) where
-  upper-row : low ≤ j → part ((j - low) * wide x) (wide x) (leave x low row t) ≡ moreRow x j row t
+  upper-row : low ≤ j → part ((j - low) * wide x) (wide x) (leave x low row t) ≡ more_row x j row t
   unfolding part
   upper-row l =
       let e : low * wide x + (j - low) * wide x ≡ j * wide x = omega (arith, rows-off j low (wide x) l, row-le low j (wide x) l) in
       ap (take (wide x)) (drop-drop ((j - low) * wide x) (low * wide x) (all_rows x row t) ∙ ap (λ (z : ℕ). drop z (all_rows x row t)) e)
 
-  lower-row : j < low → part (j * wide x) (wide x) (stay x low row t) ≡ moreRow x j row t
+  lower-row : j < low → part (j * wide x) (wide x) (stay x low row t) ≡ more_row x j row t
   unfolding part
   lower-row l =
       let z : 0 + j * wide x ≡ j * wide x = omega arith in
@@ -117,18 +117,18 @@ module _ (x : Cut) (low : ℕ) (row f₀ t₀ : List ℕ) (j : ℕ) (f t : List 
       let h = new-held x low f₀ t₀ m.shares in
       record { good = h.good; file-is = m.file-kept ∙ h.file-is; least = h.least; most = h.most }
 
-  next_row : (u : List ℕ) → length u ≡ x.desc.wpb → HasRow x (j - 1) u row
-  next_row u e =
+  next_row_lem : (u : List ℕ) → length u ≡ x.desc.wpb → HasRow x (j - 1) u row
+  next_row_lem u e =
       let k = m.most in
       record { good = m.shares.fitting.good; full = m.shares.full; text-is = e; row-long = m.row-long; row-most = omega arith }
 
   pub moved_row : HasRow x (j - 1) t row
-  moved_row = next_row t (m.text-kept ∙ z.text-words)
+  moved_row = next_row_lem t (m.text-kept ∙ z.text-words)
 
   first-row : HasRow x (j - 1) t₀ row
-  first-row = next_row t₀ z.text-words
+  first-row = next_row_lem t₀ z.text-words
 
-  pub moved-long : (src : List ℕ) → src ≡ moreRow x (j - 1) row t → wide x ≤ length src
+  pub moved-long : (src : List ℕ) → src ≡ more_row x (j - 1) row t → wide x ≤ length src
   moved-long src e = let l = ap length e ∙ row-length x (j - 1) t row moved_row in omega arith
 
   pub moved-place : low ≤ j - 1 → x.shape.base + (j - 1 - low) * wide x + wide x ≤ x.desc.wpb
@@ -142,10 +142,10 @@ module _ (x : Cut) (low : ℕ) (row f₀ t₀ : List ℕ) (j : ℕ) (f t : List 
 
   -- it goes to the new block
   pub moved-sent : (g src : List ℕ)
-      → g ≡ withNew x f
+      → g ≡ with_new x f
       (replaced (record { base = x.shape.base; stride = wide x; width = wide x; tag = x.shape.tag }) (j - 1 - low) (part 0 (wide x) src)
       (block_at x.desc f x.new))
-      → src ≡ moreRow x (j - 1) row t → low ≤ j - 1 → length g ≡ length f → Moved x low row f₀ t₀ (j - 1) g t
+      → src ≡ more_row x (j - 1) row t → low ≤ j - 1 → length g ≡ length f → Moved x low row f₀ t₀ (j - 1) g t
   unfolding replaced
   moved-sent g src eg es l kept =
       let s : ℕ = wide x in
@@ -162,7 +162,7 @@ module _ (x : Cut) (low : ℕ) (row f₀ t₀ : List ℕ) (j : ℕ) (f t : List 
       let o₅ = row-le (j - 1 - low) (j - low) s (omega arith) in
       let same : t ≡ t₀ = m.text-is ∙ laying-none t₀ (stay x low row t₀) (j * s) (omega arith) in
       let row_is : part 0 s src ≡ part ((j - 1 - low) * s) s up = part-all s src (ap length es ∙ row-length x (j - 1) t row moved_row) ∙ es
-      ∙ ap (moreRow x (j - 1) row) same ∙ sym (upper-row x low row t₀ (j - 1) l) in
+      ∙ ap (more_row x (j - 1) row) same ∙ sym (upper-row x low row t₀ (j - 1) l) in
       record {
         most = omega arith;
         shares = m.shares;
@@ -179,7 +179,7 @@ module _ (x : Cut) (low : ℕ) (row f₀ t₀ : List ℕ) (j : ℕ) (f t : List 
       }
 
   -- it stays: it is as it was, since no row below has been written over
-  still : x.place < j - 1 → j ≤ low → moreRow x (j - 1) row t ≡ moreRow x (j - 1) row t₀
+  still : x.place < j - 1 → j ≤ low → more_row x (j - 1) row t ≡ more_row x (j - 1) row t₀
   still l b =
       let s : ℕ = wide x in
       let a : ℕ = x.shape.base + (j - 1) * s - s in
@@ -190,14 +190,14 @@ module _ (x : Cut) (low : ℕ) (row f₀ t₀ : List ℕ) (j : ℕ) (f t : List 
       sym (taken-behind x (j - 1) t row moved_row l) ∙ ap (part a s) m.text-is
       ∙ laying-below t₀ (stay x low row t₀) (j * s) (omega arith) (omega arith) a s (omega arith) ∙ taken-behind x (j - 1) t₀ row first-row l
 
-  raised-row : x.place ≤ j - 1 → j ≤ low → moreRow x (j - 1) row t ≡ moreRow x (j - 1) row t₀
+  raised-row : x.place ≤ j - 1 → j ≤ low → more_row x (j - 1) row t ≡ more_row x (j - 1) row t₀
   raised-row a b = by (ℕ_discrete (j - 1) x.place)
     where
-      by : Dec (j - 1 ≡ x.place) → moreRow x (j - 1) row t ≡ moreRow x (j - 1) row t₀
+      by : Dec (j - 1 ≡ x.place) → more_row x (j - 1) row t ≡ more_row x (j - 1) row t₀
       by (yes e) = sym (taken-itself x (j - 1) t row moved_row a (omega arith)) ∙ taken-itself x (j - 1) t₀ row first-row a (omega arith)
       by (no ne) = still (omega arith) b
 
-  pub moved-raised : (u : List ℕ) → u ≡ replaced x.shape (j - 1) (moreRow x (j - 1) row t) t → x.place ≤ j - 1 → j - 1 < low → 1 ≤ j → length u ≡ length t
+  pub moved-raised : (u : List ℕ) → u ≡ replaced x.shape (j - 1) (more_row x (j - 1) row t) t → x.place ≤ j - 1 → j - 1 < low → 1 ≤ j → length u ≡ length t
       → Moved x low row f₀ t₀ (j - 1) f u
   unfolding replaced
   moved-raised u eu a l one kept =
@@ -206,14 +206,14 @@ module _ (x : Cut) (low : ℕ) (row f₀ t₀ : List ℕ) (j : ℕ) (f t : List 
       let k = m.most in
       let o = row-le j low s (omega arith) in
       let none : j - low ≡ j - 1 - low = omega arith in
-      let row_is : moreRow x (j - 1) row t ≡ part ((j - 1) * s) s (stay x low row t₀) = raised-row a (omega arith) ∙ sym (lower-row x low row t₀ (j - 1) l) in
+      let row_is : more_row x (j - 1) row t ≡ part ((j - 1) * s) s (stay x low row t₀) = raised-row a (omega arith) ∙ sym (lower-row x low row t₀ (j - 1) l) in
       record {
         most = omega arith;
         shares = m.shares;
         row-long = m.row-long;
-        file-is = m.file-is ∙ ap (λ (y : ℕ). withNew x f₀ (laying (block_at x.desc f₀ x.new) (y * s) (leave x low row t₀))) none;
-        text-is = eu ∙ ap (λ (y : List ℕ). put y (x.shape.base + (j - 1) * s) (moreRow x (j - 1) row t)) m.text-is
-            ∙ laying-row t₀ (stay x low row t₀) (moreRow x (j - 1) row t) x.shape.base s j (j - 1) q.base-one (omega arith) row_is
+        file-is = m.file-is ∙ ap (λ (y : ℕ). with_new x f₀ (laying (block_at x.desc f₀ x.new) (y * s) (leave x low row t₀))) none;
+        text-is = eu ∙ ap (λ (y : List ℕ). put y (x.shape.base + (j - 1) * s) (more_row x (j - 1) row t)) m.text-is
+            ∙ laying-row t₀ (stay x low row t₀) (more_row x (j - 1) row t) x.shape.base s j (j - 1) q.base-one (omega arith) row_is
             (omega arith) (omega arith);
         file-kept = m.file-kept;
         text-kept = kept ∙ m.text-kept;
@@ -236,9 +236,9 @@ module _ (x : Cut) (low : ℕ) (row f₀ t₀ : List ℕ) (j : ℕ) (f t : List 
       ∙ laying-all t₀ (stay x low row t₀) (j * s) (omega arith) (omega arith) below)
 
   -- and the text that leaves
-  pub moved-file : (f₁ : List ℕ) → f₀ ≡ withNew x f₁ (laid x.desc.wpb (x.shape.tag + (x.rows + 1 - low)) []) → length f₁ ≡ length f₀
+  pub moved-file : (f₁ : List ℕ) → f₀ ≡ with_new x f₁ (laid x.desc.wpb (x.shape.tag + (x.rows + 1 - low)) []) → length f₁ ≡ length f₀
       → j ≤ low
-      → f ≡ withNew x f₁ (upper x low (part 0 (wide x) row) t₀)
+      → f ≡ with_new x f₁ (upper x low (part 0 (wide x) row) t₀)
   moved-file f₁ e k l =
       let w : ℕ = x.desc.wpb in
       let c : ℕ = x.shape.tag + (x.rows + 1 - low) in
@@ -267,7 +267,7 @@ moved-start x low row f t g from long e =
       row-long = long;
       file-is =
           sym
-          (ap (withNew x g) (laying-none (block_at x.desc g x.new) (leave x low row t) ((x.rows + 1 - low) * s) (omega arith))
+          (ap (with_new x g) (laying-none (block_at x.desc g x.new) (leave x low row t) ((x.rows + 1 - low) * s) (omega arith))
           ∙ block-still x.desc g new.fitting.file-is x.new (from.new-least, from.new-most));
       text-is = sym (laying-none t (stay x low row t) ((x.rows + 1) * s) (omega arith));
       file-kept = omega arith;

@@ -3,13 +3,13 @@ use Rattle.std.specs.Prelude.{ℕ, ◌+◌, ◌*◌, ◌≤◌, ◌<◌, ◌≡�
 use Rattle.words.specs.Words.{part}
 use Rattle.table.specs.declared.Shape.{Shape}
 use Rattle.table.specs.Tables.{count, place}
-use Rattle.table.specs.Splits.{oneMore}
+use Rattle.table.specs.Splits.{one_more}
 use Rattle.drum.specs.declared.Description.{Description}
-use Rattle.drum.specs.Params.{I, goodParams, index_shape}
+use Rattle.drum.specs.Params.{I, good_params, index_shape}
 use Rattle.drum.specs.Blocks.{Fitting, block_at}
 use Rattle.drum.specs.Inside.{HasBlock}
 use Rattle.split.specs.declared.Cut.{Cut}
-use Rattle.split.specs.Halves.{FullTable, staying, leaving, halved, lowEntry}
+use Rattle.split.specs.Halves.{FullTable, staying, leaving, halved, low_entry}
 
 -- a table with room, whose entry i can become two [C13]
 pub record Enters (h : Shape) (i : ℕ) (t : List ℕ) : Type 0 where
@@ -27,7 +27,7 @@ pub record EntersIn (p : Description) (f : List ℕ) (x i : ℕ) : Type 0 where
 
 -- a full table in the buffer, a row more, and the number of one of all these rows
 pub record HasRow (x : Cut) (j : ℕ) (t row : List ℕ) : Type 0 where
-  pub good : goodParams x.desc ≡ true
+  pub good : good_params x.desc ≡ true
   pub full : FullTable x.desc x.shape x.rows x.place
   pub text-is : length t ≡ x.desc.wpb
   pub row-long : x.shape.stride ≤ length row
@@ -35,11 +35,11 @@ pub record HasRow (x : Cut) (j : ℕ) (t row : List ℕ) : Type 0 where
 
 -- the words of the rows of t with one more put in, and row j of them [C12]
 abbrev pub all_rows : Cut → List ℕ → List ℕ → List ℕ
-all_rows x row t = oneMore x.shape x.rows x.place (part 0 x.shape.stride row) t
+all_rows x row t = one_more x.shape x.rows x.place (part 0 x.shape.stride row) t
 
 -- row j of them [C12]
-abbrev pub moreRow : Cut → ℕ → List ℕ → List ℕ → List ℕ
-moreRow x j row t = part (j * x.shape.stride) x.shape.stride (all_rows x row t)
+abbrev pub more_row : Cut → ℕ → List ℕ → List ℕ → List ℕ
+more_row x j row t = part (j * x.shape.stride) x.shape.stride (all_rows x row t)
 
 -- a full block in the buffer, of which `low` rows stay, and the block for the others
 pub record Shares (x : Cut) (low : ℕ) (f b : List ℕ) : Type 0 where
@@ -77,9 +77,9 @@ abbrev pub upper : Cut → ℕ → List ℕ → List ℕ → List ℕ
 upper x low r t = leaving x.desc.wpb x.shape x.rows low x.place r t
 
 -- the file with the two halves written [C12]
-abbrev pub halvedBy : Cut → List ℕ → List ℕ → List ℕ → List ℕ
-halvedBy x r t f = halved x.desc x.shape x.rows x.place r t x.old x.new f
+abbrev pub halved_by : Cut → List ℕ → List ℕ → List ℕ → List ℕ
+halved_by x r t f = halved x.desc x.shape x.rows x.place r t x.old x.new f
 
 -- the entry of the half that stays [C13]
-abbrev pub entryBy : Cut → List ℕ → List ℕ → List ℕ
-entryBy x r t = lowEntry x.desc x.shape x.rows x.place r t x.old
+abbrev pub entry_by : Cut → List ℕ → List ℕ → List ℕ
+entry_by x r t = low_entry x.desc x.shape x.rows x.place r t x.old

@@ -2,9 +2,9 @@
 use Rattle.std.specs.Prelude.{ℕ, ◌+◌, ◌-◌, ◌*◌, ◌≤◌, ◌≡◌, List, [], ◌∷◌, ◌++◌, take, drop}
 use Rattle.table.specs.declared.Shape.{Shape}
 use Rattle.table.specs.Tables.{laid}
-use Rattle.table.specs.Splits.{oneMore, lowText, highText, lowBound}
+use Rattle.table.specs.Splits.{one_more, low_text, high_text, low_bound}
 use Rattle.drum.specs.declared.Description.{Description}
-use Rattle.drum.specs.Blocks.{putBlock}
+use Rattle.drum.specs.Blocks.{put_block}
 
 -- a block full of n rows of this shape, and a place for one more
 pub record FullTable (p : Description) (h : Shape) (n i : ℕ) : Type 0 where
@@ -17,16 +17,16 @@ pub record FullTable (p : Description) (h : Shape) (n i : ℕ) : Type 0 where
 
 -- the two texts of w words when the lower `low` rows stay
 abbrev pub staying : ℕ → Shape → ℕ → ℕ → ℕ → List ℕ → List ℕ → List ℕ
-staying w h n low i r t = laid w (h.tag + low) (take (low * h.stride) (oneMore h n i r t))
+staying w h n low i r t = laid w (h.tag + low) (take (low * h.stride) (one_more h n i r t))
 
 -- the words of the upper half [C12]
 abbrev pub leaving : ℕ → Shape → ℕ → ℕ → ℕ → List ℕ → List ℕ → List ℕ
-leaving w h n low i r t = laid w (h.tag + (n + 1 - low)) (drop (low * h.stride) (oneMore h n i r t))
+leaving w h n low i r t = laid w (h.tag + (n + 1 - low)) (drop (low * h.stride) (one_more h n i r t))
 
 -- the file with the two halves written, and the entry of the old block
 abbrev pub halved : Description → Shape → ℕ → ℕ → List ℕ → List ℕ → ℕ → ℕ → List ℕ → List ℕ
-halved p h n i r t old new f = putBlock p (putBlock p f old (lowText p.wpb h n i r t)) new (highText p.wpb h n i r t)
+halved p h n i r t old new f = put_block p (put_block p f old (low_text p.wpb h n i r t)) new (high_text p.wpb h n i r t)
 
 -- the entry of the half that stays [C13]
-abbrev pub lowEntry : Description → Shape → ℕ → ℕ → List ℕ → List ℕ → ℕ → List ℕ
-lowEntry p h n i r t old = lowBound h n (lowText p.wpb h n i r t) ++ (old ∷ [])
+abbrev pub low_entry : Description → Shape → ℕ → ℕ → List ℕ → List ℕ → ℕ → List ℕ
+low_entry p h n i r t old = low_bound h n (low_text p.wpb h n i r t) ++ (old ∷ [])

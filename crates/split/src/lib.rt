@@ -3,10 +3,10 @@
 ghost use Rattle.std.specs.Prelude.{◌≡◌, [], ◌∷◌, ◌++◌, ◌+◌, ◌-◌, ◌≤◌, ◌<◌, length};
 ghost use Rattle.words.specs.Words.{part};
 ghost use Rattle.table.specs.Tables.{place, replaced, laid};
-ghost use Rattle.table.specs.Splits.{lowCount, renamed, entered};
+ghost use Rattle.table.specs.Splits.{low_count, renamed, entered};
 ghost use Rattle.drum.specs.Params.{index_shape};
-ghost use Rattle.drum.specs.Blocks.{block_at, putBlock};
-ghost use Rattle.split.specs.Cuts.{EntersIn, Enters, HasRow, moreRow, Shares, Divides, DividesIn, lower, upper, halvedBy, entryBy};
+ghost use Rattle.drum.specs.Blocks.{block_at, put_block};
+ghost use Rattle.split.specs.Cuts.{EntersIn, Enters, HasRow, more_row, Shares, Divides, DividesIn, lower, upper, halved_by, entry_by};
 ghost use Rattle.words.specs.Slices.{was, became};
 
 use drum::Description;
@@ -26,7 +26,7 @@ pub struct Cut {
 // Of n rows and one more, how many stay in the old block.
 pub fn low_count(n: usize) -> usize
     requires { n ≤ 262143 }
-    ensures { result ≡ lowCount n }
+    ensures { result ≡ low_count n }
 {
     (n + 2) / 2
 }
@@ -72,7 +72,7 @@ pub fn enter(h: Shape, t: &mut [u32], i: usize, entry: &[u32], b: usize)
 pub fn enter_in(p: Description, file: &mut [u32], x: usize, i: usize, entry: &[u32], b: usize)
     requires { EntersIn p file.old x i × (p.k + 1 ≤ length entry.now) × (b ≤ 262143) }
     ensures { became file
-        ≡ putBlock p (was file) x (entered (index_shape p) i (part 0 (p.k + 1) (was entry)) b (block_at p (was file) x)) }
+        ≡ put_block p (was file) x (entered (index_shape p) i (part 0 (p.k + 1) (was entry)) b (block_at p (was file) x)) }
 {
     let h = p.index_shape();
     drum::inside::set_name_in(p, file, x, h, i, b);
@@ -82,7 +82,7 @@ pub fn enter_in(p: Description, file: &mut [u32], x: usize, i: usize, entry: &[u
 // Row j of the full buffer's rows with the row put in: the row itself, or one of the buffer's, which stand one lower behind the row.
 fn row_of<'a>(cut: Cut, j: usize, buffer: &'a [u32], row: &'a [u32]) -> &'a [u32]
     requires { HasRow cut j buffer.now row.now }
-    ensures { result.now ≡ moreRow cut j (was row) (was buffer) }
+    ensures { result.now ≡ more_row cut j (was row) (was buffer) }
 {
     let h = cut.shape;
     let stride = h.stride;
@@ -101,7 +101,7 @@ fn row_of<'a>(cut: Cut, j: usize, buffer: &'a [u32], row: &'a [u32]) -> &'a [u32
 // Lays row j of them where it goes in the buffer: the row itself, or the one before row j, which moves up.
 fn raise_row(cut: Cut, j: usize, buffer: &mut [u32], row: &[u32])
     requires { HasRow cut j buffer.old row.now × (cut.place ≤ j) × (j < cut.rows) }
-    ensures { became buffer ≡ replaced cut.shape j (moreRow cut j (was row) (was buffer)) (was buffer) }
+    ensures { became buffer ≡ replaced cut.shape j (more_row cut j (was row) (was buffer)) (was buffer) }
 {
     let h = cut.shape;
     if cut.place < j {
@@ -128,7 +128,7 @@ fn lesser(a: usize, b: usize) -> usize
 fn share_rows(cut: Cut, low: usize, file: &mut [u32], buffer: &mut [u32], row: &[u32])
     requires { Shares cut low file.old buffer.old × (cut.shape.stride ≤ length row.now) }
     ensures { (became file
-        ≡ putBlock cut.desc (was file) cut.new
+        ≡ put_block cut.desc (was file) cut.new
         (upper cut low (part 0 cut.shape.stride (was row)) (was buffer)))
         × (became buffer ≡ lower cut low (part 0 cut.shape.stride (was row)) (was buffer)) }
 {
@@ -173,9 +173,9 @@ pub fn divide(cut: Cut, file: &mut [u32], buffer: &mut [u32], entry: &mut [u32],
     requires { Divides cut file.old buffer.old
         × (cut.shape.stride ≤ length row.now)
         × (cut.shape.width + 1 ≤ length entry.old) }
-    ensures { (became file ≡ halvedBy cut (part 0 cut.shape.stride (was row)) (was buffer) (was file))
+    ensures { (became file ≡ halved_by cut (part 0 cut.shape.stride (was row)) (was buffer) (was file))
         × (part 0 (cut.shape.width + 1) (became entry)
-        ≡ entryBy cut (part 0 cut.shape.stride (was row)) (was buffer)) }
+        ≡ entry_by cut (part 0 cut.shape.stride (was row)) (was buffer)) }
 {
     let h = cut.shape;
     let low = low_count(cut.rows);
@@ -203,11 +203,11 @@ pub fn divide_in(
         × (cut.shape.stride ≤ length entry.now)
         × (cut.shape.width + 1 ≤ length above.old) }
     ensures { (became file
-        ≡ halvedBy cut (part 0 cut.shape.stride (was entry))
+        ≡ halved_by cut (part 0 cut.shape.stride (was entry))
         (renamed cut.shape cut.place b (block_at cut.desc (was file) cut.old))
         (was file))
         × (part 0 (cut.shape.width + 1) (became above)
-        ≡ entryBy cut (part 0 cut.shape.stride (was entry))
+        ≡ entry_by cut (part 0 cut.shape.stride (was entry))
         (renamed cut.shape cut.place b (block_at cut.desc (was file) cut.old))) }
 {
     drum::read_block(cut.desc, file, buffer, cut.old);

@@ -6,7 +6,7 @@ use native.Mathlib.Omega.{arith}
 use lib.ListN.{length, take, drop, get_or, length-append, length-take}
 use lib.Seq.{get_or-set_same, get_or-set_other, drop-set-lt, drop-append-add, drop-drop}
 use Rattle.words.specs.Words.{part, put, zeros}
-use Rattle.words.proofs.Parts.{getD-put-before}
+use Rattle.words.proofs.Parts.{get_or-put-before}
 use Rattle.table.specs.declared.Shape.{Shape}
 use Rattle.table.specs.Tables.{place, count, opened, closed, inserted, removed, replaced}
 use Rattle.table.specs.Splits.{renamed, entered}
@@ -37,11 +37,11 @@ module _ (t : List ℕ) (a e : ℕ) where
 
   pub word-opened : (s : List ℕ) (k : ℕ) → k < a → a ≤ length t → get_or (opened t a e s) k 0 ≡ get_or t k 0
   unfolding opened
-  word-opened s k h h' = getD-put-before t a (s ++ part a (e - a) t) k h h'
+  word-opened s k h h' = get_or-put-before t a (s ++ part a (e - a) t) k h h'
 
   pub word-closed : (n k : ℕ) → k < a → a ≤ length t → get_or (closed t a e n) k 0 ≡ get_or t k 0
   unfolding closed
-  word-closed n k h h' = getD-put-before t a (part (a + n) (e - (a + n)) t ++ zeros n) k h h'
+  word-closed n k h h' = get_or-put-before t a (part (a + n) (e - (a + n)) t ++ zeros n) k h h'
 
 module _ (h : Shape) (i : ℕ) (t : List ℕ) where
   -- a row put in
@@ -104,7 +104,7 @@ module _ (h : Shape) (i : ℕ) (t : List ℕ) where
   module _ (r : List ℕ) (room : place h i + length r ≤ length t) where
     pub word-replaced : (k : ℕ) → k < place h i → get_or (replaced h i r t) k 0 ≡ get_or t k 0
     unfolding replaced
-    word-replaced k l = getD-put-before t (place h i) r k l (omega arith)
+    word-replaced k l = get_or-put-before t (place h i) r k l (omega arith)
 
     pub count-replaced : 1 ≤ h.base → count h (replaced h i r t) ≡ count h t
     unfolding count

@@ -9,7 +9,7 @@ use Rattle.words.specs.Words.{part, zeros}
 use Rattle.words.proofs.Parts.{length_part, length-put}
 use Rattle.table.specs.declared.Shape.{Shape}
 use Rattle.table.specs.Tables.{place, count, opened, closed, inserted, removed, replaced, laid}
-use Rattle.table.specs.Splits.{lowCount, oneMore, lowText, highText, renamed, entered}
+use Rattle.table.specs.Splits.{low_count, one_more, low_text, high_text, renamed, entered}
 use Rattle.table.proofs.Places.{row-le, row_lt}
 
 -- the words that an opened or closed table is written over with
@@ -66,27 +66,27 @@ unfolding laid
 length-laid w n ws h = simp (length-append, length-replicate) (omega arith)
 
 -- a split in the middle leaves at least a row on each side, and at most the rows that there were
-pub low-least : (n : ℕ) → 1 ≤ lowCount n
+pub low-least : (n : ℕ) → 1 ≤ low_count n
 low-least n = omega arith
 
-pub low-most : (n : ℕ) → 1 ≤ n → lowCount n ≤ n
+pub low-most : (n : ℕ) → 1 ≤ n → low_count n ≤ n
 low-most n h = omega arith
 
 module _ (w : ℕ) (h : Shape) (n i : ℕ) (r t : List ℕ) (hn : 1 ≤ n) (hr : length r ≡ h.stride) (hw : 1 + n * h.stride ≤ w) where
-  most : length (oneMore h n i r t) ≤ n * h.stride + h.stride
-  unfolding oneMore part
+  most : length (one_more h n i r t) ≤ n * h.stride + h.stride
+  unfolding one_more part
   most = simp (length-append, length-take, length-drop) (omega arith)
 
-  pub length-low : length (lowText w h n i r t) ≡ w
-  unfolding lowText
+  pub length-low : length (low_text w h n i r t) ≡ w
+  unfolding low_text
   length-low =
-      let ws : List ℕ = take (lowCount n * h.stride) (oneMore h n i r t) in
-      let l : length ws ≤ lowCount n * h.stride = simp length-take (omega arith) in
-      length-laid w (h.tag + lowCount n) ws (omega (arith, row-le (lowCount n) n h.stride (low-most n hn)))
+      let ws : List ℕ = take (low_count n * h.stride) (one_more h n i r t) in
+      let l : length ws ≤ low_count n * h.stride = simp length-take (omega arith) in
+      length-laid w (h.tag + low_count n) ws (omega (arith, row-le (low_count n) n h.stride (low-most n hn)))
 
-  pub length_high : length (highText w h n i r t) ≡ w
-  unfolding highText
+  pub length_high : length (high_text w h n i r t) ≡ w
+  unfolding high_text
   length_high =
-      let ws : List ℕ = drop (lowCount n * h.stride) (oneMore h n i r t) in
-      let l : length ws ≤ n * h.stride = simp length-drop (omega (arith, most, row-le 1 (lowCount n) h.stride (low-least n))) in
-      length-laid w (h.tag + (n + 1 - lowCount n)) ws (omega arith)
+      let ws : List ℕ = drop (low_count n * h.stride) (one_more h n i r t) in
+      let l : length ws ≤ n * h.stride = simp length-drop (omega (arith, most, row-le 1 (low_count n) h.stride (low-least n))) in
+      length-laid w (h.tag + (n + 1 - low_count n)) ws (omega arith)

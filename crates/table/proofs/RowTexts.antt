@@ -5,14 +5,14 @@ use Prim.Native.Nat.{ℕ, suc, ◌+◌, ◌*◌, ◌-◌, ◌≤◌, ◌<◌}
 use native.Mathlib.Omega.{arith}
 use lib.ListN.{length, take, get_or, length-append, length-replicate, replicate-append-replicate}
 use Rattle.words.specs.Words.{zeros}
-use Rattle.words.specs.Keys.{keyLt, keyLe, sameKey}
+use Rattle.words.specs.Keys.{key_lt, key_le, same_key}
 use Rattle.table.specs.declared.Shape.{Shape}
-use Rattle.table.specs.Tables.{count, row, key_at, blockIn, rowWith, rowFrom, rowAbove, inserted, removed, replaced, laid}
+use Rattle.table.specs.Tables.{count, row, key_at, block_in, row_with, row_from, row_above, inserted, removed, replaced, laid}
 use Rattle.table.specs.Splits.{renamed, entered}
 use Rattle.table.specs.Rows.{cat, encode, table}
 use Rattle.table.proofs.Lists.{all_append}
 use Rattle.table.proofs.Rows.{untag, Each, length-cat, row-encode, key-encode, block-encode, entry_length}
-use Rattle.table.proofs.RowSearch.{firstIn, with-encode, from-encode, above-encode}
+use Rattle.table.proofs.RowSearch.{first_in, with-encode, from-encode, above-encode}
 use Rattle.table.proofs.RowChanges.{replaced-encode, rekeyed-encode, renamed-encode, inserted-encode, removed-encode}
 use Rattle.table.proofs.Lengths.{length-laid}
 
@@ -57,14 +57,14 @@ module _ (w : ℕ) (h : Shape) (one : h.base ≡ 1) where
     is : table h w rows ≡ encode ((h.tag + length rows) ∷ []) rows (behind w h.stride rows)
     is = table-encode h w h.stride rows e
 
-    pub table-with : rowWith h key (table h w rows) ≡ firstIn (λ r. sameKey (take h.width r) key) rows
-    table-with = ap (rowWith h key) is ∙ with-encode h [] one kw key (length rows) rows refl e (behind w h.stride rows)
+    pub table-with : row_with h key (table h w rows) ≡ first_in (λ r. same_key (take h.width r) key) rows
+    table-with = ap (row_with h key) is ∙ with-encode h [] one kw key (length rows) rows refl e (behind w h.stride rows)
 
-    pub table-from : rowFrom h key (table h w rows) ≡ firstIn (λ r. keyLe key (take h.width r)) rows
-    table-from = ap (rowFrom h key) is ∙ from-encode h [] one kw key (length rows) rows refl e (behind w h.stride rows)
+    pub table-from : row_from h key (table h w rows) ≡ first_in (λ r. key_le key (take h.width r)) rows
+    table-from = ap (row_from h key) is ∙ from-encode h [] one kw key (length rows) rows refl e (behind w h.stride rows)
 
-    pub table-above : rowAbove h key (table h w rows) ≡ firstIn (λ r. keyLt key (take h.width r)) rows
-    table-above = ap (rowAbove h key) is ∙ above-encode h [] one kw key (length rows) rows refl e (behind w h.stride rows)
+    pub table-above : row_above h key (table h w rows) ≡ first_in (λ r. key_lt key (take h.width r)) rows
+    table-above = ap (row_above h key) is ∙ above-encode h [] one kw key (length rows) rows refl e (behind w h.stride rows)
 
   module _ (bs cs : List (List ℕ)) (hb : Each h.stride bs) (hc : Each h.stride cs) where
     with_row : (r : List ℕ) → length r ≡ h.stride
@@ -83,9 +83,9 @@ module _ (w : ℕ) (h : Shape) (one : h.base ≡ 1) where
           ap (λ (t : List ℕ). key_at h t (length bs)) (with_row r hr)
           ∙ key-encode h ((h.tag + length (bs ++ (r ∷ cs))) ∷ []) one bs hb r hr cs (behind w h.stride (bs ++ (r ∷ cs))) kw
 
-      pub table-block : h.width < h.stride → blockIn h (table h w (bs ++ (r ∷ cs))) (length bs) ≡ get_or r h.width 0
+      pub table-block : h.width < h.stride → block_in h (table h w (bs ++ (r ∷ cs))) (length bs) ≡ get_or r h.width 0
       table-block kw =
-          ap (λ (t : List ℕ). blockIn h t (length bs)) (with_row r hr)
+          ap (λ (t : List ℕ). block_in h t (length bs)) (with_row r hr)
           ∙ block-encode h ((h.tag + length (bs ++ (r ∷ cs))) ∷ []) one bs hb r hr cs (behind w h.stride (bs ++ (r ∷ cs))) kw
 
       -- the row put in, and taken out

@@ -9,7 +9,7 @@ use lib.Seq.{take_at, drop_at, get_or_at, split_at, length-take-le}
 use Rattle.words.specs.Words.{part, put}
 use Rattle.words.proofs.Parts.{take_part, get_d_part}
 use Rattle.table.specs.declared.Shape.{Shape}
-use Rattle.table.specs.Tables.{place, count, row, key_at, blockIn}
+use Rattle.table.specs.Tables.{place, count, row, key_at, block_in}
 use Rattle.table.specs.Rows.{cat, encode}
 use Rattle.table.proofs.Lists.{All, all_left, all_right}
 
@@ -99,8 +99,8 @@ module _ (h : Shape) (front : List ℕ) (eb : h.base ≡ length front) where
     unfolding key_at row
     key-encode kw = sym (take_part (place h (length bs)) h.width h.stride (encode front (bs ++ (r ∷ cs)) pad) kw) ∙ ap (take h.width) row-encode
 
-    pub block-encode : h.width < h.stride → blockIn h (encode front (bs ++ (r ∷ cs)) pad) (length bs) ≡ get_or r h.width 0
-    unfolding blockIn row
+    pub block-encode : h.width < h.stride → block_in h (encode front (bs ++ (r ∷ cs)) pad) (length bs) ≡ get_or r h.width 0
+    unfolding block_in row
     block-encode kw = sym (get_d_part (place h (length bs)) h.stride h.width (encode front (bs ++ (r ∷ cs)) pad) kw) ∙ ap (λ (z : List ℕ). get_or z h.width 0) row-encode
 
   -- the same by number
@@ -117,8 +117,8 @@ module _ (h : Shape) (front : List ℕ) (eb : h.base ≡ length front) where
     unfolding key_at row
     key-at kw = sym (take_part (place h i) h.width h.stride (encode front rows pad) kw) ∙ ap (take h.width) row_at
 
-    pub block-at : h.width < h.stride → blockIn h (encode front rows pad) i ≡ get_or (get_or rows i []) h.width 0
-    unfolding blockIn row
+    pub block-at : h.width < h.stride → block_in h (encode front rows pad) i ≡ get_or (get_or rows i []) h.width 0
+    unfolding block_in row
     block-at kw = sym (get_d_part (place h i) h.stride h.width (encode front rows pad) kw) ∙ ap (λ (z : List ℕ). get_or z h.width 0) row_at
 
 -- an entry: its key and the block that it names
@@ -130,5 +130,5 @@ module _ (h : Shape) (front : List ℕ) (eb : h.base ≡ length front) (es : h.s
   pub entry_key : key_at h (encode front (bs ++ ((k ++ (b ∷ [])) ∷ cs)) pad) (length bs) ≡ k
   entry_key = key-encode h front eb bs hb (k ++ (b ∷ [])) entry_length cs pad (omega arith) ∙ take_at k (b ∷ []) h.width ek
 
-  pub entry-block : blockIn h (encode front (bs ++ ((k ++ (b ∷ [])) ∷ cs)) pad) (length bs) ≡ b
+  pub entry-block : block_in h (encode front (bs ++ ((k ++ (b ∷ [])) ∷ cs)) pad) (length bs) ≡ b
   entry-block = block-encode h front eb bs hb (k ++ (b ∷ [])) entry_length cs pad (omega arith) ∙ get_or_at k b [] 0 h.width ek

@@ -10,12 +10,12 @@ use lib.ListN.{length, get_or}
 use mir.Syntax.{w32, w64}
 use mir.Val.{Fits}
 use Rattle.words.specs.Words.{part}
-use Rattle.words.specs.Keys.{order, keyLt}
+use Rattle.words.specs.Keys.{order, key_lt}
 use Rattle.words.specs.declared.Order.{Order}
 use Rattle.table.specs.declared.Shape.{Shape}
 use Rattle.table.specs.declared.Want.{Want}
 use Rattle.table.specs.declared.Want.TheVariants.{Equal}
-use Rattle.table.specs.Tables.{place, firstWhere, asked, fits, key_at, AllBelow, Pair, differs}
+use Rattle.table.specs.Tables.{place, first_where, asked, fits, key_at, AllBelow, Pair, differs}
 use Rattle.table.proofs.Places.{row-le, row_lt}
 use Rattle.table.proofs.Searches.{first-at, first-zero, first-none, asked-wanted, low_first, low-next, low-unwanted}
 use Rattle.table.proofs.Differs.{word-differs, word_same, told_same, told_below, no_words}
@@ -108,7 +108,7 @@ low-all h key t n z i a r all least =
 module _ (base stride width n i a : ℕ) (t key : List ℕ) (at : ℕ)
     (r : RowAt base stride width n (length t) i a) (all : Low base stride width (part at width key) t i)
     (below : i < n) (there : at + width ≤ length key) where
-  one_below : keyLt (part a width t) (part at width key) ≡ true → Low base stride width (part at width key) t (i + 1)
+  one_below : key_lt (part a width t) (part at width key) ≡ true → Low base stride width (part at width key) t (i + 1)
   one_below e =
       let h = r.here in
       record { low = below_more _ i all.low (rw h at e) }
@@ -134,7 +134,7 @@ module _ (w : Want) (h : Shape) (key t : List ℕ) where
   unwanted i all j l = low-unwanted w key _ (all j l)
 
   pub found_none : (base stride width n z i a : ℕ) → RowAt base stride width n z i a → Passed w h.base h.stride h.width key t i → n ≤ i
-      → n ≡ firstWhere (fits w h key t) n
+      → n ≡ first_where (fits w h key t) n
   unfolding fits key_at
   found_none base stride width n z i a r none least =
       let m = r.most in
@@ -148,21 +148,21 @@ module _ (w : Want) (h : Shape) (key t : List ℕ) where
     unfolding fits key_at
     tested = let q = p.here in rw (er, eo, q) (sym (asked-wanted w key (part (place h i) h.width t)))
 
-    pub found_at : i < n → r ≡ true → i ≡ firstWhere (fits w h key t) n
+    pub found_at : i < n → r ≡ true → i ≡ first_where (fits w h key t) n
     unfolding fits key_at
     found_at l y = sym (first-at _ n i l none (tested ∙ y))
 
-    pub passed_over : r ≡ false → Passed w h.base h.stride h.width key t (i + 1)
+    pub passed_over_lem : r ≡ false → Passed w h.base h.stride h.width key t (i + 1)
     unfolding fits key_at
-    passed_over y = below_more _ i none (tested ∙ y)
+    passed_over_lem y = below_more _ i none (tested ∙ y)
 
 -- the search for an equal key: nothing to compare, the row that has it, and one more that has not
-pub found-any : (h : Shape) (t key : List ℕ) (at n : ℕ) → h.width ≡ 0 → 0 ≡ firstWhere (fits Equal h (part at h.width key) t) n
+pub found-any : (h : Shape) (t key : List ℕ) (at n : ℕ) → h.width ≡ 0 → 0 ≡ first_where (fits Equal h (part at h.width key) t) n
 found-any h t key at n e = sym (first-zero _ n (no_words h t key at 0 e))
 
 pub found-same : (h : Shape) (t key : List ℕ) (at n i a m : ℕ) → RowAt h.base h.stride h.width n (length t) i a
-    → m ≡ firstWhere (differs t a key at) h.width → Passed Equal h.base h.stride h.width (part at h.width key) t i → m ≡ h.width → i < n
-    → at + h.width ≤ length key → i ≡ firstWhere (fits Equal h (part at h.width key) t) n
+    → m ≡ first_where (differs t a key at) h.width → Passed Equal h.base h.stride h.width (part at h.width key) t i → m ≡ h.width → i < n
+    → at + h.width ≤ length key → i ≡ first_where (fits Equal h (part at h.width key) t) n
 unfolding fits key_at
 found-same h t key at n i a m r em none e l there =
     let q = r.here in
@@ -170,7 +170,7 @@ found-same h t key at n i a m r em none e l there =
     sym (first-at _ n i l none (rw q at here))
 
 -- word m of the key, m the first word that differs
-module _ (t key : List ℕ) (at width a m : ℕ) (em : m ≡ firstWhere (differs t a key at) width) (ne : m ≡ width → ⊥) (there : at + width ≤ length key) where
+module _ (t key : List ℕ) (at width a m : ℕ) (em : m ≡ first_where (differs t a key at) width) (ne : m ≡ width → ⊥) (there : at + width ≤ length key) where
   pub told-inside : at + m < length key
   told-inside = let b = told_below t a key at width m em ne in omega arith
 
@@ -183,13 +183,13 @@ module _ (t key : List ℕ) (at width a m : ℕ) (em : m ≡ firstWhere (differs
 
 -- the first word that differs: the words passed do not
 module _ (t : List ℕ) (a : ℕ) (key : List ℕ) (at m : ℕ) (same : (j : ℕ) → j < m → differs t a key at j ≡ false) where
-  pub differs_at : (width : ℕ) → m < width → (get_or t (a + m) 0 ≡ get_or key (at + m) 0 → ⊥) → m ≡ firstWhere (differs t a key at) width
+  pub differs_at : (width : ℕ) → m < width → (get_or t (a + m) 0 ≡ get_or key (at + m) 0 → ⊥) → m ≡ first_where (differs t a key at) width
   differs_at width l n = sym (first-at _ width m l same (word-differs t a key at m n))
 
   pub same_more : get_or t (a + m) 0 ≡ get_or key (at + m) 0 → (j : ℕ) → j < m + 1 → differs t a key at j ≡ false
   same_more e = below_more _ m same (word_same t a key at m e)
 
-  pub differs_none : (width : ℕ) → m ≤ width → width ≤ m → width ≡ firstWhere (differs t a key at) width
+  pub differs_none : (width : ℕ) → m ≤ width → width ≤ m → width ≡ first_where (differs t a key at) width
   differs_none width most least =
       let e : m ≡ width = omega arith in
       sym (first-none _ width (rw e at same))

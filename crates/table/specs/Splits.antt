@@ -6,26 +6,26 @@ use Rattle.table.specs.declared.Shape.{Shape}
 use Rattle.table.specs.Tables.{place, key_at, inserted, laid}
 
 -- "of D+1 records the lower (D+2)/2, rounded down, stay"; "likewise, the lower (I+2)/2 of I+1": of n rows and one more [C12, C15]
-abbrev pub lowCount : ℕ → ℕ
-lowCount n = (n + 2) / 2
+abbrev pub low_count : ℕ → ℕ
+low_count n = (n + 2) / 2
 
 -- the words of n rows of t with row r put in at place i
-unfoldable pub oneMore : Shape → ℕ → ℕ → List ℕ → List ℕ → List ℕ
-oneMore h n i r t =
+unfoldable pub one_more : Shape → ℕ → ℕ → List ℕ → List ℕ → List ℕ
+one_more h n i r t =
     let ws = part h.base (n * h.stride) t in
     take (i * h.stride) ws ++ r ++ drop (i * h.stride) ws
 
 -- the two texts of w words: what stays, and "the rest go to a new block" [C12, C15]
-unfoldable pub lowText : ℕ → Shape → ℕ → ℕ → List ℕ → List ℕ → List ℕ
-lowText w h n i r t = laid w (h.tag + lowCount n) (take (lowCount n * h.stride) (oneMore h n i r t))
+unfoldable pub low_text : ℕ → Shape → ℕ → ℕ → List ℕ → List ℕ → List ℕ
+low_text w h n i r t = laid w (h.tag + low_count n) (take (low_count n * h.stride) (one_more h n i r t))
 
 -- the upper of the two texts [C12, C15]
-unfoldable pub highText : ℕ → Shape → ℕ → ℕ → List ℕ → List ℕ → List ℕ
-highText w h n i r t = laid w (h.tag + (n + 1 - lowCount n)) (drop (lowCount n * h.stride) (oneMore h n i r t))
+unfoldable pub high_text : ℕ → Shape → ℕ → ℕ → List ℕ → List ℕ → List ℕ
+high_text w h n i r t = laid w (h.tag + (n + 1 - low_count n)) (drop (low_count n * h.stride) (one_more h n i r t))
 
 -- "the old block's bound becomes its highest key": the key of the last row that stays [C13]
-unfoldable pub lowBound : Shape → ℕ → List ℕ → List ℕ
-lowBound h n low = key_at h low (lowCount n - 1)
+unfoldable pub low_bound : Shape → ℕ → List ℕ → List ℕ
+low_bound h n low = key_at h low (low_count n - 1)
 
 -- entry i names another block: "a new block, which keeps the old bound" [C13]
 unfoldable pub renamed : Shape → ℕ → ℕ → List ℕ → List ℕ

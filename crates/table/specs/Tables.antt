@@ -2,7 +2,7 @@
 -- words, each of which begins with a key of `width` words. Document 01, "Layout".
 use Rattle.std.specs.Prelude.{ℕ, zero, suc, ◌+◌, ◌*◌, ◌-◌, ◌<◌, ◌≡◌, Bool, true, false, not, eqb, List, ◌∷◌, ◌++◌, length, get_or, set}
 use Rattle.words.specs.Words.{part, put, zeros}
-use Rattle.words.specs.Keys.{keyLt, keyLe, sameKey}
+use Rattle.words.specs.Keys.{key_lt, key_le, same_key}
 use Rattle.words.specs.declared.Order.{Order}
 use Rattle.words.specs.declared.Order.TheVariants.{Below, Same, Above}
 use Rattle.table.specs.declared.Shape.{Shape}
@@ -27,19 +27,19 @@ unfoldable pub key_at : Shape → List ℕ → ℕ → List ℕ
 key_at h t i = part (place h i) h.width t
 
 -- of an entry, row i, the block that it names [L4, L5]
-unfoldable pub blockIn : Shape → List ℕ → ℕ → ℕ
-blockIn h t i = get_or t (place h i + h.width) 0
+unfoldable pub block_in : Shape → List ℕ → ℕ → ℕ
+block_in h t i = get_or t (place h i + h.width) 0
 
 -- "Searches take the first that fits": the first i below n at which the test holds, else n [W5]
-unfoldable pub firstWhere : (ℕ → Bool) → ℕ → ℕ
-firstWhere test zero = zero
-firstWhere test (suc n) = elim (test zero) [ true ↦ zero | false ↦ suc (firstWhere (λ i. test (suc i)) n) ]
+unfoldable pub first_where : (ℕ → Bool) → ℕ → ℕ
+first_where test zero = zero
+first_where test (suc n) = elim (test zero) [ true ↦ zero | false ↦ suc (first_where (λ i. test (suc i)) n) ]
 
 -- whether a row's key x is one that a search for the key wants
 abbrev pub wanted : Want → List ℕ → List ℕ → Bool
-wanted Equal key x = sameKey x key
-wanted NotBelow key x = keyLe key x
-wanted Over key x = keyLt key x
+wanted Equal key x = same_key x key
+wanted NotBelow key x = key_le key x
+wanted Over key x = key_lt key x
 
 -- the same, by how x stands to the key
 abbrev pub asked : Want → Order → Bool
@@ -59,7 +59,7 @@ fits w h key t i = wanted w key (key_at h t i)
 
 -- the first n rows are below the key: no search for it wants one of them
 abbrev pub AllBelow : Shape → List ℕ → List ℕ → ℕ → Type 0
-AllBelow h key t n = (j : ℕ) → j < n → keyLt (part (place h j) h.width t) key ≡ true
+AllBelow h key t n = (j : ℕ) → j < n → key_lt (part (place h j) h.width t) key ≡ true
 
 -- the words i and i + 1 of t as one number r, the first heavier
 pub record Pair (t : List ℕ) (i r : ℕ) : Type 0 where
@@ -71,16 +71,16 @@ abbrev pub differs : List ℕ → ℕ → List ℕ → ℕ → ℕ → Bool
 differs t p k a m = not (eqb (get_or t (p + m) 0) (get_or k (a + m) 0))
 
 -- the first row whose key is the key; is not below it; is above it: else the count [W5]
-abbrev pub rowWith : Shape → List ℕ → List ℕ → ℕ
-rowWith h key t = firstWhere (fits Equal h key t) (count h t)
+abbrev pub row_with : Shape → List ℕ → List ℕ → ℕ
+row_with h key t = first_where (fits Equal h key t) (count h t)
 
 -- the first row whose key is not below the key, else the count [W5]
-abbrev pub rowFrom : Shape → List ℕ → List ℕ → ℕ
-rowFrom h key t = firstWhere (fits NotBelow h key t) (count h t)
+abbrev pub row_from : Shape → List ℕ → List ℕ → ℕ
+row_from h key t = first_where (fits NotBelow h key t) (count h t)
 
 -- the first row whose key is above the key, else the count [W5]
-abbrev pub rowAbove : Shape → List ℕ → List ℕ → ℕ
-rowAbove h key t = firstWhere (fits Over h key t) (count h t)
+abbrev pub row_above : Shape → List ℕ → List ℕ → ℕ
+row_above h key t = first_where (fits Over h key t) (count h t)
 
 -- t with the words s before its words a to e, which move up
 unfoldable pub opened : List ℕ → ℕ → ℕ → List ℕ → List ℕ

@@ -3,7 +3,7 @@
 ghost use Rattle.std.specs.Prelude.{◌≡◌, ◌+◌, ◌*◌, ◌≤◌, ◌<◌, length};
 ghost use Rattle.words.specs.Words.{part};
 ghost use Rattle.table.specs.declared.Want.TheVariants.{Equal};
-ghost use Rattle.table.specs.Tables.{count, place, firstWhere, asked, fits, AllBelow, Pair, differs, opened, closed, inserted, removed, replaced};
+ghost use Rattle.table.specs.Tables.{count, place, first_where, asked, fits, AllBelow, Pair, differs, opened, closed, inserted, removed, replaced};
 ghost use Rattle.words.specs.Slices.{was, became};
 
 use words::Order;
@@ -123,7 +123,7 @@ fn low_after(h: Shape, t: &[u32], from: usize, n: usize, key: &[u32], at: usize)
 // The first row that stands to the key as is wanted, else n.
 fn find_row(w: Want, h: Shape, t: &[u32], n: usize, key: &[u32], at: usize) -> usize
     requires { (place h n ≤ length t.now) × (h.width ≤ h.stride) × (at + h.width ≤ length key.now) }
-    ensures { result ≡ firstWhere (fits w h (part at h.width (was key)) (was t)) n }
+    ensures { result ≡ first_where (fits w h (part at h.width (was key)) (was t)) n }
 {
     let base = h.base;
     let stride = h.stride;
@@ -145,7 +145,7 @@ fn find_row(w: Want, h: Shape, t: &[u32], n: usize, key: &[u32], at: usize) -> u
 // The first word in which the key of the row at word `place` differs from the key sought, else the width.
 fn same_words(t: &[u32], place: usize, key: &[u32], at: usize, width: usize) -> usize
     requires { (place + width ≤ length t.now) × (at + width ≤ length key.now) }
-    ensures { result ≡ firstWhere (differs (was t) place (was key) at) width }
+    ensures { result ≡ first_where (differs (was t) place (was key) at) width }
 {
     let mut m = 0;
     while m < width {
@@ -161,7 +161,7 @@ fn same_words(t: &[u32], place: usize, key: &[u32], at: usize, width: usize) -> 
 // looked at first: most rows are passed by one word, however many of the first words they share.
 fn same_row(h: Shape, t: &[u32], n: usize, key: &[u32], at: usize) -> usize
     requires { (place h n ≤ length t.now) × (h.width ≤ h.stride) × (at + h.width ≤ length key.now) }
-    ensures { result ≡ firstWhere (fits Equal h (part at h.width (was key)) (was t)) n }
+    ensures { result ≡ first_where (fits Equal h (part at h.width (was key)) (was t)) n }
 {
     let base = h.base;
     let stride = h.stride;
@@ -190,7 +190,7 @@ fn same_row(h: Shape, t: &[u32], n: usize, key: &[u32], at: usize) -> usize
 // The first of the n rows of t that is wanted for the key at word `at`, else n.
 pub fn find(w: Want, h: Shape, t: &[u32], n: usize, key: &[u32], at: usize) -> usize
     requires { (place h n ≤ length t.now) × (h.width ≤ h.stride) × (at + h.width ≤ length key.now) }
-    ensures { result ≡ firstWhere (fits w h (part at h.width (was key)) (was t)) n }
+    ensures { result ≡ first_where (fits w h (part at h.width (was key)) (was t)) n }
 {
     match w {
         Want::Equal => same_row(h, t, n, key, at),

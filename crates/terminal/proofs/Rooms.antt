@@ -10,11 +10,11 @@ use borrow.Author.Tests.{ltb-false}
 use lib.Dec.{ltb}
 use lib.ListN.{length, take, length-take}
 use Rattle.drum.specs.declared.Description.{Description}
-use Rattle.drum.specs.Params.{D, goodParams, fileSize, sizeIf}
+use Rattle.drum.specs.Params.{D, good_params, file_size, size_if}
 use Rattle.drum.proofs.Good.{good-facts, caps}
 use Rattle.printed.specs.declared.Start.{Start}
 use Rattle.printed.specs.declared.Start.TheVariants.{BadLine, OutOfRange, TooLarge, Good}
-use Rattle.printed.specs.Output.{mostWords, startWith, start_of}
+use Rattle.printed.specs.Output.{most_words, start_with, start_of}
 use Rattle.rules.specs.State.{Session}
 use Rattle.searchfile.specs.declared.Session as code
 use Rattle.searchfile.specs.Promise.{held}
@@ -67,8 +67,8 @@ pub record-work : (p : Description) (file buffer work : List ℕ) → Roomy file
 record-work p file buffer work r h = omega (arith, work-long p file buffer work r h)
 
 -- the file's size, as it is asked for, is at most that of the lent words
-pub size_small : (p : Description) → Playable p → sizeIf p (fileSize p) ≤ 8192
-unfolding sizeIf
+pub size_small : (p : Description) → Playable p → size_if p (file_size p) ≤ 8192
+unfolding size_if
 size_small p h = simp h.good h.small
 
 -- there are as many marks as blocks
@@ -117,11 +117,11 @@ Fit TooLarge = Unit {0}
 Fit (Good p) = Playable p
 
 fit : (o : Option Description) → Fit (start_of o)
-unfolding start_of startWith
+unfolding start_of start_with
 fit none = tt
-fit (some p) = go (goodParams p) refl (ltb mostWords (fileSize p)) refl
+fit (some p) = go (good_params p) refl (ltb most_words (file_size p)) refl
   where
-    go : (g : Bool) → goodParams p ≡ g → (l : Bool) → ltb mostWords (fileSize p) ≡ l → Fit (cond g (cond l TooLarge (Good p)) OutOfRange)
+    go : (g : Bool) → good_params p ≡ g → (l : Bool) → ltb most_words (file_size p) ≡ l → Fit (cond g (cond l TooLarge (Good p)) OutOfRange)
     go false e l m = tt
     go true e true m = tt
     go true e false m = record { good = e; small = ltb-false _ _ m }

@@ -6,14 +6,14 @@ use mathlib.Core.List.{List}
 use lib.ListN.{length, take, drop, length-take}
 use Rattle.lines.specs.declared.Taken.{Taken}
 use Rattle.lines.specs.Reading.{Read}
-use Rattle.lines.specs.Promise.{Took, took, toLineFeed}
+use Rattle.lines.specs.Promise.{Took, took, to_line_feed}
 use Rattle.lines.proofs.Kept.{taken-within}
 use Rattle.terminal.specs.declared.input.Place.{Place}
 use Rattle.terminal.specs.Places.{Ready}
 
 -- bytes taken off those that are here end where these end
 pub taken-ready : (p : Place) (t : Taken) (input name numbers : List ℕ) (s : Read)
-    → took t name numbers ≡ toLineFeed s p.at (drop p.at (take p.end input)) → Ready p → 65536 ≤ length input
+    → took t name numbers ≡ to_line_feed s p.at (drop p.at (take p.end input)) → Ready p → 65536 ≤ length input
     → Ready (record { fd = p.fd; at = t.at; end = p.end; filled = p.filled; line = p.line; failed = p.failed })
 taken-ready p t input name numbers s e r h =
     let b = r.behind in

@@ -9,7 +9,7 @@ mod turns;
 
 ghost use Rattle.std.specs.Prelude.{◌≡◌};
 ghost use Rattle.words.specs.Slices.{was};
-ghost use Rattle.lines.specs.Reading.{parametersIn};
+ghost use Rattle.lines.specs.Reading.{parameters_in};
 ghost use Rattle.printed.specs.Output.{start_of};
 
 use input::{Found, Place, next_line};
@@ -29,7 +29,7 @@ pub enum Ending {
 
 // What the first line makes of the program.
 fn start_of(line: Found, numbers: &[u32; 2048]) -> Start
-    ensures { result ≡ start_of (parametersIn line.reading (was numbers)) }
+    ensures { result ≡ start_of (parameters_in line.reading (was numbers)) }
 {
     printed::start_of(line.reading, numbers)
 }

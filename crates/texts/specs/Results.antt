@@ -18,18 +18,18 @@ spelling (Updat at) = bytes "UPDAT"
 spelling (Xtend at) = bytes "XTEND"
 
 -- "prints call, number as six octal digits, transfers, and .. the workspace", each after a space [O5]
-unfoldable pub resultText : Call → Line → List ℕ
-resultText c l =
+unfoldable pub result_text : Call → Line → List ℕ
+result_text c l =
     spelling c ++ ((32 ∷ octal l.number) ++ (listed (l.count ∷ l.shown) ++ bytes "\n"))
 
 -- "prints that name, then 020007 0" [O7]
-unfoldable pub refusedText : Call → List ℕ
-refusedText c = spelling c ++ bytes " 020007 0\n"
+unfoldable pub refused_text : Call → List ℕ
+refused_text c = spelling c ++ bytes " 020007 0\n"
 
 -- "a line that is no such call .. prints `BAD LINE`" [O6]
-unfoldable pub badLine : List ℕ
-badLine = bytes "BAD LINE\n"
+unfoldable pub bad_line : List ℕ
+bad_line = bytes "BAD LINE\n"
 
 -- "A file above 8,192 words gets the one line `TOO LARGE`" [O8]
-unfoldable pub tooLarge : List ℕ
-tooLarge = bytes "TOO LARGE\n"
+unfoldable pub too_large : List ℕ
+too_large = bytes "TOO LARGE\n"

@@ -3,7 +3,7 @@
 ghost use Rattle.std.specs.Prelude.{◌≡◌, ◌+◌, ◌*◌, ◌≤◌, ◌<◌, ◌∷◌, length};
 ghost use Rattle.words.specs.Words.{put};
 ghost use Rattle.texts.specs.Texts.{digits, places as places_of, decimal, octal, listed};
-ghost use Rattle.texts.specs.Results.{spelling, resultText, refusedText};
+ghost use Rattle.texts.specs.Results.{spelling, result_text, refused_text};
 ghost use Rattle.words.specs.Slices.{was, became};
 
 use rules::Call;
@@ -125,8 +125,8 @@ pub fn put_result(
 ) -> usize
     requires { at + 35 + 21 * length shown.now ≤ length out.old }
     ensures { (became out
-        ≡ put (was out) at (resultText call (record { number = number; count = transfers; shown = was shown })))
-        × (result ≡ at + length (resultText call (record { number = number; count = transfers; shown = was shown })))
+        ≡ put (was out) at (result_text call (record { number = number; count = transfers; shown = was shown })))
+        × (result ≡ at + length (result_text call (record { number = number; count = transfers; shown = was shown })))
         × (result ≤ at + 35 + 21 * length (was shown)) }
 {
     let named = put_name(out, at, call);
@@ -140,7 +140,7 @@ pub fn put_result(
 // The line of a call whose parameters are out of range.
 pub fn put_refused(out: &mut [u8], at: usize, call: Call) -> usize
     requires { at + 16 ≤ length out.old }
-    ensures { (became out ≡ put (was out) at (refusedText call)) × (result ≡ at + length (refusedText call)) × (result ≤ at + 16) }
+    ensures { (became out ≡ put (was out) at (refused_text call)) × (result ≡ at + length (refused_text call)) × (result ≤ at + 16) }
 {
     let named = put_name(out, at, call);
     put_bytes(out, named, b" 020007 0\n")

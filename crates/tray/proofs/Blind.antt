@@ -7,43 +7,43 @@ use mathlib.Core.List.{List, [], ◌∷◌, ◌++◌, append_assoc}
 use native.Mathlib.Omega.{arith}
 use Rattle.numbers.specs.Checked.{Checked, passed, refused}
 use Rattle.drum.specs.Blocks.{Transfer}
-use Rattle.layout.specs.Inspect.{layoutMarks}
+use Rattle.layout.specs.Inspect.{layout_marks}
 use Rattle.rules.specs.State.{State, Outcome, desc}
-use Rattle.rules.specs.Checks.{sizesOk, isOpen}
-use Rattle.rules.specs.Open.{openChecks, openLayout, openDone, openFile}
-use Rattle.rules.specs.Close.{closeChecks, closeDone, close}
+use Rattle.rules.specs.Checks.{sizes_ok, is_open}
+use Rattle.rules.specs.Open.{open_checks, open_layout, open_done, open_file}
+use Rattle.rules.specs.Close.{close_checks, close_done, close}
 use Rattle.rules.specs.Seek.{seek, updat}
 use Rattle.rules.specs.Adv.{adv}
 use Rattle.rules.specs.NsertDone.{nsert}
 use Rattle.rules.specs.Dlete.{dlete}
 use Rattle.rules.specs.XtendDone.{xtend}
 use Rattle.rules.specs.Requests.{Request, opening, closing, seeking, advancing, inserting, deleting, updating, extending, lending, answer, left, tally}
-use Rattle.demands.specs.History.{Event, eventOf, events}
-use Rattle.tray.specs.Singles.{joined, lastNumber}
+use Rattle.demands.specs.History.{Event, event_of, events}
+use Rattle.tray.specs.Singles.{joined, last_number}
 
 -- an outcome with another workspace
 abbrev pub relent : List ℕ → Outcome → Outcome
 relent w o = record { number = o.number; transfers = o.transfers; after = lending w o.after }
 
 module _ (w : List ℕ) (st : State) where
-  layout-blind : (c : Checked (List ℕ)) → (openLayout (lending w st) c).outcome ≡ relent w (openLayout st c).outcome
-  unfolding openLayout lending
+  layout-blind : (c : Checked (List ℕ)) → (open_layout (lending w st) c).outcome ≡ relent w (open_layout st c).outcome
+  unfolding open_layout lending
   layout-blind (refused n) = refl
   layout-blind (passed marks) = refl
 
-  open-blind : (marks : List ℕ) → (openFile (lending w st) marks).outcome ≡ relent w (openFile st marks).outcome
-  unfolding openFile openChecks openDone sizesOk lending
-  open-blind marks = go (openChecks st marks)
+  open-blind : (marks : List ℕ) → (open_file (lending w st) marks).outcome ≡ relent w (open_file st marks).outcome
+  unfolding open_file open_checks open_done sizes_ok lending
+  open-blind marks = go (open_checks st marks)
     where
-      go : (c : Checked Bool) → (openDone (lending w st) marks c).outcome ≡ relent w (openDone st marks c).outcome
+      go : (c : Checked Bool) → (open_done (lending w st) marks c).outcome ≡ relent w (open_done st marks c).outcome
       go (refused n) = refl
-      go (passed x) = layout-blind (layoutMarks (desc st) st.file)
+      go (passed x) = layout-blind (layout_marks (desc st) st.file)
 
   close-blind : close (lending w st) ≡ relent w (close st)
-  unfolding close closeChecks closeDone sizesOk isOpen lending
-  close-blind = go (closeChecks st)
+  unfolding close close_checks close_done sizes_ok is_open lending
+  close-blind = go (close_checks st)
     where
-      go : (c : Checked Bool) → closeDone (lending w st) c ≡ relent w (closeDone st c)
+      go : (c : Checked Bool) → close_done (lending w st) c ≡ relent w (close_done st c)
       go (refused n) = refl
       go (passed x) = refl
 
@@ -79,12 +79,12 @@ joined-blind w (q ∷ qs) st =
     ap (λ (o : Outcome). o.transfers ++ joined o.after qs) e.same
     ∙ ap (λ (l : List Transfer). (answer st q).transfers ++ l) (joined-blind e.then-work qs (answer st q).after)
 
-pub number-blind : (w : List ℕ) (n : ℕ) (qs : List Request) (st : State) → lastNumber (lending w st) qs n ≡ lastNumber st qs n
-unfolding lastNumber
+pub number-blind : (w : List ℕ) (n : ℕ) (qs : List Request) (st : State) → last_number (lending w st) qs n ≡ last_number st qs n
+unfolding last_number
 number-blind w n [] st = refl
 number-blind w n (q ∷ qs) st =
     let e = unseen w st q in
-    ap (λ (o : Outcome). lastNumber o.after qs o.number) e.same ∙ number-blind e.then-work (answer st q).number qs (answer st q).after
+    ap (λ (o : Outcome). last_number o.after qs o.number) e.same ∙ number-blind e.then-work (answer st q).number qs (answer st q).after
 
 -- a number of each call that does not look at the workspace
 abbrev pub Blind : (State → Request → Outcome → ℕ) → Type 0
@@ -114,8 +114,8 @@ left_after [] rs st = refl
 left_after (q ∷ qs) rs st = left_after qs rs (answer st q).after
 
 -- the events of a run
-event-blind : (w u : List ℕ) (st : State) (q : Request) (o : Outcome) → eventOf (desc (lending w st)) q (relent u o) ≡ eventOf (desc st) q o
-unfolding eventOf lending
+event-blind : (w u : List ℕ) (st : State) (q : Request) (o : Outcome) → event_of (desc (lending w st)) q (relent u o) ≡ event_of (desc st) q o
+unfolding event_of lending
 event-blind w u st (opening marks) o = refl
 event-blind w u st closing o = refl
 event-blind w u st (seeking v) o = refl
@@ -132,12 +132,12 @@ events-blind w (q ∷ qs) st =
     let e = unseen w st q in
     let i = events-blind e.then-work qs (answer st q).after in
     let v = event-blind w e.then-work st q (answer st q) in
-    ap (λ (o : Outcome). eventOf (desc (lending w st)) q o ++ events o.after qs) e.same ∙ λ j. v j ++ i j
+    ap (λ (o : Outcome). event_of (desc (lending w st)) q o ++ events o.after qs) e.same ∙ λ j. v j ++ i j
 
 pub events-after : (qs rs : List Request) (st : State) → events st (qs ++ rs) ≡ events st qs ++ events (left st qs) rs
 unfolding events left
 events-after [] rs st = refl
 events-after (q ∷ qs) rs st =
     let o = answer st q in
-    ap (λ (l : List Event). eventOf (desc st) q o ++ l) (events-after qs rs o.after)
-    ∙ sym (append_assoc (eventOf (desc st) q o) (events o.after qs) (events (left o.after qs) rs))
+    ap (λ (l : List Event). event_of (desc st) q o ++ l) (events-after qs rs o.after)
+    ∙ sym (append_assoc (event_of (desc st) q o) (events o.after qs) (events (left o.after qs) rs))

@@ -1,10 +1,10 @@
 -- Two results allowed by the tray's promise are equal.
 use mathlib.Core.Path.{◌≡◌, sym, ◌∙◌}
-use Rattle.tray.specs.Promise.{answeredTray, OneTrayed}
+use Rattle.tray.specs.Promise.{answered_tray, OneTrayed}
 
 pub one-trayed : OneTrayed
 one-trayed o r s f g b d x y =
-    let e : answeredTray r f b ≡ answeredTray s g d = x ∙ sym y in (
+    let e : answered_tray r f b ≡ answered_tray s g d = x ∙ sym y in (
       λ i. record {
         stored = (e i).stored;
         number = (e i).number;

@@ -13,22 +13,22 @@ use lib.ListN.{length, get_or, take, drop}
 use Rattle.words.specs.Words.{part}
 use Rattle.numbers.proofs.Passed.{both}
 use Rattle.drum.specs.declared.Description.{Description}
-use Rattle.drum.specs.Params.{goodParams}
+use Rattle.drum.specs.Params.{good_params}
 use Rattle.drum.proofs.Good.{caps}
-use Rattle.tray.specs.Tray.{count_of, recordsAt, matches}
+use Rattle.tray.specs.Tray.{count_of, records_at, matches}
 
 -- the first of the records that are left, and those behind it
-pub records-next : (n i w at : ℕ) (t : List ℕ) → i < n → recordsAt (n - i) w at t ≡ part at w t ∷ recordsAt (n - (i + 1)) w (at + w) t
-unfolding recordsAt
+pub records-next : (n i w at : ℕ) (t : List ℕ) → i < n → records_at (n - i) w at t ≡ part at w t ∷ records_at (n - (i + 1)) w (at + w) t
+unfolding records_at
 records-next n i w at t l =
     let m : n - i ≡ suc (n - (i + 1)) = omega arith in
-    ap (λ (k : ℕ). recordsAt k w at t) m
+    ap (λ (k : ℕ). records_at k w at t) m
 
-pub records-none : (n i w at : ℕ) (t : List ℕ) → n ≤ i → recordsAt (n - i) w at t ≡ []
-unfolding recordsAt
+pub records-none : (n i w at : ℕ) (t : List ℕ) → n ≤ i → records_at (n - i) w at t ≡ []
+unfolding records_at
 records-none n i w at t l =
     let m : n - i ≡ 0 = omega arith in
-    ap (λ (k : ℕ). recordsAt k w at t) m
+    ap (λ (k : ℕ). records_at k w at t) m
 
 -- the words that are lent to NSERT are the record's
 pub record-lent : (at w : ℕ) (t : List ℕ) → take (at + w - at) (drop at t) ≡ part at w t
@@ -68,7 +68,7 @@ module _ (count k w at : ℕ) (t : List ℕ) where
 
 module _ (p : Description) (t : List ℕ) where
   -- the product of the count and WPR fits: it is taken in full
-  module _ (n : ℕ) (is : n ≡ get_or t 0 0) (word : (i : ℕ) → Fits w32 (get_or t i 0)) (good : goodParams p ≡ true) where
+  module _ (n : ℕ) (is : n ≡ get_or t 0 0) (word : (i : ℕ) → Fits w32 (get_or t i 0)) (good : good_params p ≡ true) where
     product-most : n * p.wpr ≤ 4294967295 * 4096
     product-most =
         let g = caps p good in

@@ -9,12 +9,12 @@ use Rattle.numbers.specs.Numbers.{done, accepted}
 use Rattle.numbers.specs.Checked.{Checked, passed, refused}
 use Rattle.rules.specs.State.{State, Outcome, desc}
 use Rattle.rules.specs.Requests.{Request, inserting, lending, answer, left, tally}
-use Rattle.demands.specs.Formula.{acceptedBy, ofNsert, ofXtend, share, M, allTransfers, shares}
-use Rattle.demands.specs.History.{Event, stored, eventOf, events}
-use Rattle.tray.specs.Tray.{TrayOutcome, recordsOf, nsertOne, stoppedBy, storedBefore, inserts, trayChecks, afterChecks, nsertTray}
-use Rattle.tray.specs.Singles.{singles, joined, storedBy}
-use Rattle.tray.specs.Runs.{Turn, single, tray, after_turn, leftBy, tried, triedAfter, calls_of, expand, SameRun}
-use Rattle.tray.specs.Runs.{summed, transfersOf, acceptedOf, share_of, eventsOf, eventsBy}
+use Rattle.demands.specs.Formula.{accepted_by, of_nsert, of_xtend, share, M, all_transfers, shares}
+use Rattle.demands.specs.History.{Event, stored, event_of, events}
+use Rattle.tray.specs.Tray.{TrayOutcome, records_of, nsert_one, stopped_by, stored_before, inserts, tray_checks, after_checks, nsert_tray}
+use Rattle.tray.specs.Singles.{singles, joined, stored_by}
+use Rattle.tray.specs.Runs.{Turn, single, tray, after_turn, left_by, tried, tried_after, calls_of, expand, SameRun}
+use Rattle.tray.specs.Runs.{summed, transfers_of, accepted_of, share_of, events_of, events_by}
 use Rattle.tray.proofs.Blind.{Blind, left-blind, tally-blind, tally-after, left_after, events-blind, events-after}
 use Rattle.tray.proofs.Singles.{inserts-made}
 
@@ -23,13 +23,13 @@ abbrev transfers-in : State → Request → Outcome → ℕ
 transfers-in before q o = length o.transfers
 
 abbrev accepted-in : State → Request → Outcome → ℕ
-accepted-in before q o = ofNsert (acceptedBy o) q + ofXtend (acceptedBy o) q
+accepted-in before q o = of_nsert (accepted_by o) q + of_xtend (accepted_by o) q
 
 abbrev share_in : State → Request → Outcome → ℕ
 share_in before q o = share q
 
 accepted-blind : Blind accepted-in
-unfolding acceptedBy
+unfolding accepted_by
 accepted-blind w u st q o = refl
 
 -- ---- of single NSERTs
@@ -42,8 +42,8 @@ joined_length (q ∷ qs) st =
     let i = joined_length qs o.after in
     length-append o.transfers (joined o.after qs) ∙ ap (λ (n : ℕ). length o.transfers + n) i
 
-singles-stored : (ts : List (List ℕ)) (st : State) → storedBy st (singles ts) ≡ tally accepted-in st (singles ts)
-unfolding storedBy tally ofNsert ofXtend
+singles-stored : (ts : List (List ℕ)) (st : State) → stored_by st (singles ts) ≡ tally accepted-in st (singles ts)
+unfolding stored_by tally of_nsert of_xtend
 singles-stored [] st = refl
 singles-stored (r ∷ ts) st =
     let i = singles-stored ts (answer st (inserting r)).after in
@@ -58,22 +58,22 @@ singles-share (r ∷ ts) st =
 
 -- what the records behind the first come to
 abbrev rest_of : State → List ℕ → List (List ℕ) → TrayOutcome
-rest_of st r rs = inserts (nsertOne st r).after rs (nsertOne st r).number
+rest_of st r rs = inserts (nsert_one st r).after rs (nsert_one st r).number
 
 -- as many of the records as are stored are put in
 events-made : (rs : List (List ℕ)) (st : State) (n : ℕ) → events st (singles (tried st rs)) ≡ map stored (take (inserts st rs n).stored rs)
-unfolding tried inserts events eventOf nsertOne answer
+unfolding tried inserts events event_of nsert_one answer
 events-made [] st n = refl
 events-made (r ∷ rs) st n =
-    go (accepted (nsertOne st r).number) refl (events-made rs (nsertOne st r).after (nsertOne st r).number)
+    go (accepted (nsert_one st r).number) refl (events-made rs (nsert_one st r).after (nsert_one st r).number)
   where
-    go : (c : Bool) → accepted (nsertOne st r).number ≡ c
-        → events (nsertOne st r).after (singles (tried (nsertOne st r).after rs)) ≡ map stored (take (rest_of st r rs).stored rs)
-        → events st (singles (r ∷ cond c (tried (nsertOne st r).after rs) []))
-        ≡ map stored (take (cond c (storedBefore (nsertOne st r) (rest_of st r rs)) (stoppedBy (nsertOne st r))).stored (r ∷ rs))
+    go : (c : Bool) → accepted (nsert_one st r).number ≡ c
+        → events (nsert_one st r).after (singles (tried (nsert_one st r).after rs)) ≡ map stored (take (rest_of st r rs).stored rs)
+        → events st (singles (r ∷ cond c (tried (nsert_one st r).after rs) []))
+        ≡ map stored (take (cond c (stored_before (nsert_one st r) (rest_of st r rs)) (stopped_by (nsert_one st r))).stored (r ∷ rs))
     go true h i =
         let now = (answer st (inserting r)).after in
-        let ts = tried (nsertOne st r).after rs in
+        let ts = tried (nsert_one st r).after rs in
         let k = (rest_of st r rs).stored in
         let m : suc k ≡ k + 1 = omega arith in
         ap (λ (c : Bool). cond c (stored r ∷ []) [] ++ events now (singles ts)) h
@@ -91,29 +91,29 @@ record SameTurn (st : State) (after : State) (transfers records share : ℕ) (de
   is-events : deeds ≡ events st qs
 
 abbrev Same : State → Turn → Type 0
-Same st c = SameTurn st (after_turn st c) (transfersOf st c) (acceptedOf st c) (share_of st c) (eventsOf st c) (calls_of st c)
+Same st c = SameTurn st (after_turn st c) (transfers_of st c) (accepted_of st c) (share_of st c) (events_of st c) (calls_of st c)
 
 single-same : (st : State) (q : Request) → Same st (single q)
-unfolding after_turn transfersOf acceptedOf share_of eventsOf calls_of left tally events lending
+unfolding after_turn transfers_of accepted_of share_of events_of calls_of left tally events lending
 single-same st q = record {
   is_state = refl;
   is-transfers = omega arith;
   is-records = omega arith;
   is_share = omega arith;
-  is-events = sym (append-nil (eventOf (desc st) q (answer st q)));
+  is-events = sym (append-nil (event_of (desc st) q (answer st q)));
 }
 
 module _ (st : State) (t : List ℕ) where
   abbrev outcome-by : Checked Bool → TrayOutcome
-  outcome-by c = afterChecks st t c
+  outcome-by c = after_checks st t c
 
   tray-by : (c : Checked Bool)
-      → SameTurn st (outcome-by c).after (length (outcome-by c).transfers) (outcome-by c).stored (3 * length (triedAfter st t c))
-      (map stored (take (outcome-by c).stored (recordsOf (desc st) t))) (singles (triedAfter st t c))
-  unfolding afterChecks triedAfter left tally events lending
+      → SameTurn st (outcome-by c).after (length (outcome-by c).transfers) (outcome-by c).stored (3 * length (tried_after st t c))
+      (map stored (take (outcome-by c).stored (records_of (desc st) t))) (singles (tried_after st t c))
+  unfolding after_checks tried_after left tally events lending
   tray-by (refused n) = record { is_state = refl; is-transfers = refl; is-records = refl; is_share = refl; is-events = refl }
   tray-by (passed x) =
-      let rs = recordsOf (desc st) t in
+      let rs = records_of (desc st) t in
       let m = inserts-made rs st done in
       let ts = tried st rs in
       record {
@@ -125,8 +125,8 @@ module _ (st : State) (t : List ℕ) where
       }
 
   tray-same : Same st (tray t)
-  unfolding after_turn transfersOf acceptedOf share_of eventsOf calls_of nsertTray
-  tray-same = tray-by (trayChecks st t)
+  unfolding after_turn transfers_of accepted_of share_of events_of calls_of nsert_tray
+  tray-same = tray-by (tray_checks st t)
 
 turn-same : (st : State) (c : Turn) → Same st c
 turn-same st (single q) = single-same st q
@@ -134,14 +134,14 @@ turn-same st (tray t) = tray-same st t
 
 -- ---- of a run
 
-pub run-state : (cs : List Turn) (st : State) → leftBy st cs ≡ lending (leftBy st cs).work (left st (expand st cs))
-unfolding leftBy expand left lending
+pub run-state : (cs : List Turn) (st : State) → left_by st cs ≡ lending (left_by st cs).work (left st (expand st cs))
+unfolding left_by expand left lending
 run-state [] st = refl
 run-state (c ∷ cs) st =
     let now = after_turn st c in
     let qs = calls_of st c in
     let ys = expand now cs in
-    let u = (leftBy now cs).work in
+    let u = (left_by now cs).work in
     run-state cs now
     ∙ ap (λ (x : State). lending u (left x ys)) (turn-same st c).is_state
     ∙ left-blind u now.work ys (left st qs)
@@ -160,8 +160,8 @@ module _ (value : State → Request → Outcome → ℕ) (blind : Blind value) (
       let r = run-sum is cs now ∙ ap (λ (x : State). tally value x ys) (turn-same st c).is_state ∙ tally-blind value blind now.work ys (left st qs) in
       (λ j. e j + r j) ∙ sym (tally-after value qs ys st)
 
-run-events : (cs : List Turn) (st : State) → eventsBy st cs ≡ events st (expand st cs)
-unfolding eventsBy expand events
+run-events : (cs : List Turn) (st : State) → events_by st cs ≡ events st (expand st cs)
+unfolding events_by expand events
 run-events [] st = refl
 run-events (c ∷ cs) st =
     let now = after_turn st c in
@@ -172,13 +172,13 @@ run-events (c ∷ cs) st =
     (λ j. e j ++ r j) ∙ sym (events-after qs ys st)
 
 pub same-run : (st : State) (cs : List Turn) → SameRun st cs
-unfolding lending allTransfers M shares
+unfolding lending all_transfers M shares
 same-run st cs = record {
   session = ap (λ (x : State). x.session) (run-state cs st);
   file = ap (λ (x : State). x.file) (run-state cs st);
   buffer = ap (λ (x : State). x.buffer) (run-state cs st);
-  transfers = run-sum transfers-in (λ w u before q o. refl) transfersOf (λ before c. (turn-same before c).is-transfers) cs st;
-  records = run-sum accepted-in accepted-blind acceptedOf (λ before c. (turn-same before c).is-records) cs st;
+  transfers = run-sum transfers-in (λ w u before q o. refl) transfers_of (λ before c. (turn-same before c).is-transfers) cs st;
+  records = run-sum accepted-in accepted-blind accepted_of (λ before c. (turn-same before c).is-records) cs st;
   shares = run-sum share_in (λ w u before q o. refl) share_of (λ before c. (turn-same before c).is_share) cs st;
   events = run-events cs st;
 }

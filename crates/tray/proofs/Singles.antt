@@ -10,9 +10,9 @@ use Rattle.numbers.specs.Numbers.{accepted}
 use Rattle.drum.specs.Blocks.{Transfer}
 use Rattle.rules.specs.State.{State, Outcome}
 use Rattle.rules.specs.Requests.{Request, inserting, lending, answer, left, tally}
-use Rattle.demands.specs.Formula.{acceptedBy}
-use Rattle.tray.specs.Tray.{TrayOutcome, noneMade, nsertOne, stoppedBy, storedBefore, inserts}
-use Rattle.tray.specs.Singles.{singles, joined, lastNumber, storedBy}
+use Rattle.demands.specs.Formula.{accepted_by}
+use Rattle.tray.specs.Tray.{TrayOutcome, none_made, nsert_one, stopped_by, stored_before, inserts}
+use Rattle.tray.specs.Singles.{singles, joined, last_number, stored_by}
 use Rattle.tray.specs.Runs.{tried}
 use Rattle.tray.proofs.Blind.{left-blind, joined-blind, number-blind, tally-blind}
 
@@ -21,19 +21,19 @@ use Rattle.tray.proofs.Blind.{left-blind, joined-blind, number-blind, tally-blin
 pub record Made (st : State) (rs : List (List ℕ)) (n : ℕ) (o : TrayOutcome) (ts : List (List ℕ)) : Type 0 where
   pub after : o.after ≡ lending st.work (left st (singles ts))
   pub transfers : o.transfers ≡ joined st (singles ts)
-  pub number : o.number ≡ lastNumber st (singles ts) n
-  pub stored : o.stored ≡ storedBy st (singles ts)
+  pub number : o.number ≡ last_number st (singles ts) n
+  pub stored : o.stored ≡ stored_by st (singles ts)
   pub first : ts ≡ take (length ts) rs
   pub some : length ts ≤ length rs
   pub ends : ((o.stored ≡ length ts) × (length ts ≡ length rs)) ⊎ ((o.stored + 1 ≡ length ts) × (accepted o.number ≡ false))
 
-stored-blind : (w : List ℕ) (qs : List Request) (st : State) → storedBy (lending w st) qs ≡ storedBy st qs
-unfolding storedBy acceptedBy
-stored-blind w qs st = tally-blind (λ before q o. acceptedBy o) (λ v u before q o. refl) w qs st
+stored-blind : (w : List ℕ) (qs : List Request) (st : State) → stored_by (lending w st) qs ≡ stored_by st qs
+unfolding stored_by accepted_by
+stored-blind w qs st = tally-blind (λ before q o. accepted_by o) (λ v u before q o. refl) w qs st
 
-none_made : (st : State) (n : ℕ) → Made st [] n (noneMade st n) []
-unfolding left joined lastNumber storedBy tally lending
-none_made st n = record {
+none_made_lem : (st : State) (n : ℕ) → Made st [] n (none_made st n) []
+unfolding left joined last_number stored_by tally lending
+none_made_lem st n = record {
   after = refl;
   transfers = refl;
   number = refl;
@@ -46,10 +46,10 @@ none_made st n = record {
 -- one NSERT more
 module _ (st : State) (r : List ℕ) (rs : List (List ℕ)) (n : ℕ) where
   abbrev one : Outcome
-  one = nsertOne st r
+  one = nsert_one st r
 
-  stops : accepted one.number ≡ false → Made st (r ∷ rs) n (stoppedBy one) (r ∷ [])
-  unfolding left joined lastNumber storedBy tally acceptedBy nsertOne answer lending
+  stops : accepted one.number ≡ false → Made st (r ∷ rs) n (stopped_by one) (r ∷ [])
+  unfolding left joined last_number stored_by tally accepted_by nsert_one answer lending
   stops h = record {
     after = refl;
     transfers = sym (append-nil one.transfers);
@@ -61,17 +61,17 @@ module _ (st : State) (r : List ℕ) (rs : List (List ℕ)) (n : ℕ) where
   }
 
   goes : accepted one.number ≡ true → (x : TrayOutcome) (ts : List (List ℕ)) → Made one.after rs one.number x ts
-      → Made st (r ∷ rs) n (storedBefore one x) (r ∷ ts)
-  unfolding left joined lastNumber storedBy tally acceptedBy nsertOne answer lending
+      → Made st (r ∷ rs) n (stored_before one x) (r ∷ ts)
+  unfolding left joined last_number stored_by tally accepted_by nsert_one answer lending
   goes h x ts m =
       let now = (answer st (inserting r)).after in
       let l = m.some in
-      let k : x.stored + 1 ≡ 1 + storedBy now (singles ts) = omega (arith, m.stored ∙ stored-blind st.work (singles ts) now) in
+      let k : x.stored + 1 ≡ 1 + stored_by now (singles ts) = omega (arith, m.stored ∙ stored-blind st.work (singles ts) now) in
       record {
         after = m.after ∙ left-blind st.work st.work (singles ts) now;
         transfers = ap (λ (z : List Transfer). one.transfers ++ z) (m.transfers ∙ joined-blind st.work (singles ts) now);
         number = m.number ∙ number-blind st.work one.number (singles ts) now;
-        stored = k ∙ sym (ap (λ (c : Bool). cond c 1 0 + storedBy now (singles ts)) h);
+        stored = k ∙ sym (ap (λ (c : Bool). cond c 1 0 + stored_by now (singles ts)) h);
         first = ap (λ (z : List (List ℕ)). r ∷ z) m.first;
         some = omega arith;
         ends = go m.ends;
@@ -89,11 +89,11 @@ module _ (st : State) (r : List ℕ) (rs : List (List ℕ)) (n : ℕ) where
   made_more m = go (accepted one.number) refl
     where
       go : (c : Bool) → accepted one.number ≡ c
-          → Made st (r ∷ rs) n (cond c (storedBefore one (inserts one.after rs one.number)) (stoppedBy one)) (r ∷ cond c (tried one.after rs) [])
+          → Made st (r ∷ rs) n (cond c (stored_before one (inserts one.after rs one.number)) (stopped_by one)) (r ∷ cond c (tried one.after rs) [])
       go true h = goes h (inserts one.after rs one.number) (tried one.after rs) m
       go false h = stops h
 
 pub inserts-made : (rs : List (List ℕ)) (st : State) (n : ℕ) → Made st rs n (inserts st rs n) (tried st rs)
 unfolding inserts tried
-inserts-made [] st n = none_made st n
-inserts-made (r ∷ rs) st n = made_more st r rs n (inserts-made rs (nsertOne st r).after (nsertOne st r).number)
+inserts-made [] st n = none_made_lem st n
+inserts-made (r ∷ rs) st n = made_more st r rs n (inserts-made rs (nsert_one st r).after (nsert_one st r).number)

@@ -7,23 +7,23 @@ use mathlib.Core.List.{List, [], ◌∷◌, ◌++◌}
 use native.Mathlib.Omega.{arith}
 use borrow.Author.Tests.{eq-eqb}
 use lib.ListN.{length, take}
-use Rattle.numbers.specs.Numbers.{done, isClosed, accepted}
+use Rattle.numbers.specs.Numbers.{done, is_closed, accepted}
 use Rattle.drum.specs.Params.{sized}
 use Rattle.rules.specs.State.{State, Outcome, desc, unchanged}
 use Rattle.rules.specs.Requests.{Request, inserting, lending, given, answer, left, tally}
-use Rattle.demands.specs.Formula.{acceptedBy}
-use Rattle.demands.specs.When.{early, sizesRight, openRight}
+use Rattle.demands.specs.Formula.{accepted_by}
+use Rattle.demands.specs.When.{early, sizes_right, open_right}
 use Rattle.demands.proofs.When.{when-refused}
-use Rattle.tray.specs.Tray.{TrayOutcome, count_of, recordsAt, recordsOf, matches, noneMade, inserts, nsertTray}
-use Rattle.tray.specs.Singles.{singles, joined, lastNumber, storedBy, AsSingles, TraySingles}
+use Rattle.tray.specs.Tray.{TrayOutcome, count_of, records_at, records_of, matches, none_made, inserts, nsert_tray}
+use Rattle.tray.specs.Singles.{singles, joined, last_number, stored_by, AsSingles, TraySingles}
 use Rattle.tray.specs.Runs.{tried}
 use Rattle.tray.proofs.Rows.{matches-long}
 use Rattle.tray.proofs.Refused.{Rows, rows_long, closed, made}
 use Rattle.tray.proofs.Singles.{inserts-made}
 
 -- there are as many records as the count says
-records-many : (n w at : ℕ) (t : List ℕ) → length (recordsAt n w at t) ≡ n
-unfolding recordsAt
+records-many : (n w at : ℕ) (t : List ℕ) → length (records_at n w at t) ≡ n
+unfolding records_at
 records-many zero w at t = refl
 records-many (suc n) w at t = ap suc (records-many n w (at + w) t)
 
@@ -32,15 +32,15 @@ record Does (st : State) (t : List ℕ) (rs : List (List ℕ)) (o : TrayOutcome)
   does-some : m ≤ length rs
   does-after : o.after ≡ lending st.work (left st (singles (take m rs)))
   does-transfers : o.transfers ≡ joined st (singles (take m rs))
-  does-number : o.number ≡ lastNumber st (singles (take m rs)) done
-  does-stored : o.stored ≡ storedBy st (singles (take m rs))
+  does-number : o.number ≡ last_number st (singles (take m rs)) done
+  does-stored : o.stored ≡ stored_by st (singles (take m rs))
   does-end : ((o.stored ≡ m) × (m ≡ length rs)) ⊎ ((o.stored + 1 ≡ m) × (accepted o.number ≡ false))
 
 module _ (st : State) (t : List ℕ) where
   abbrev rows : List (List ℕ)
-  rows = recordsOf (desc st) t
+  rows = records_of (desc st) t
 
-  as-singles : (o : TrayOutcome) → nsertTray st t ≡ o → (m : ℕ) → Does st t rows o m → AsSingles st t m
+  as-singles : (o : TrayOutcome) → nsert_tray st t ≡ o → (m : ℕ) → Does st t rows o m → AsSingles st t m
   unfolding lending
   as-singles o e m d =
       let many = records-many (count_of t) (desc st).wpr 1 t in
@@ -58,7 +58,7 @@ module _ (st : State) (t : List ℕ) where
       }
     where
       go : ((o.stored ≡ m) × (m ≡ length rows)) ⊎ ((o.stored + 1 ≡ m) × (accepted o.number ≡ false)) → length rows ≡ count_of t
-          → (((nsertTray st t).stored ≡ m) × (m ≡ count_of t)) ⊎ (((nsertTray st t).stored + 1 ≡ m) × (accepted (nsertTray st t).number ≡ false))
+          → (((nsert_tray st t).stored ≡ m) × (m ≡ count_of t)) ⊎ (((nsert_tray st t).stored + 1 ≡ m) × (accepted (nsert_tray st t).number ≡ false))
       go (inl (a, b)) many = inl (ap (λ (x : TrayOutcome). x.stored) e ∙ a, b ∙ many)
       go (inr (a, b)) many = inr (ap (λ (x : TrayOutcome). x.stored + 1) e ∙ a, ap (λ (x : TrayOutcome). accepted x.number) e ∙ b)
 
@@ -71,30 +71,30 @@ module _ (st : State) (t : List ℕ) where
         does-some = m.some;
         does-after = m.after ∙ ap (λ (qs : List Request). lending st.work (left st qs)) e;
         does-transfers = m.transfers ∙ ap (joined st) e;
-        does-number = m.number ∙ ap (λ (qs : List Request). lastNumber st qs done) e;
-        does-stored = m.stored ∙ ap (storedBy st) e;
+        does-number = m.number ∙ ap (λ (qs : List Request). last_number st qs done) e;
+        does-stored = m.stored ∙ ap (stored_by st) e;
         does-end = m.ends;
       }
 
   -- on a closed one: the first
   shut : (r : List ℕ) → sized (desc st) (length st.file) (length st.buffer) ≡ true → length r ≡ (desc st).wpr → st.session.opened ≡ false
-      → answer st (inserting r) ≡ unchanged (lending r st) isClosed
-  unfolding early sizesRight openRight given lending
-  shut r s l c = (when-refused st (inserting r)).first isClosed (simp (s, eq-eqb _ _ l, c))
+      → answer st (inserting r) ≡ unchanged (lending r st) is_closed
+  unfolding early sizes_right open_right given lending
+  shut r s l c = (when-refused st (inserting r)).first is_closed (simp (s, eq-eqb _ _ l, c))
 
-  closed-does : (r : List ℕ) (rs : List (List ℕ)) → answer st (inserting r) ≡ unchanged (lending r st) isClosed → Does st t (r ∷ rs) (noneMade st isClosed) 1
-  unfolding left joined lastNumber storedBy tally acceptedBy lending
+  closed-does : (r : List ℕ) (rs : List (List ℕ)) → answer st (inserting r) ≡ unchanged (lending r st) is_closed → Does st t (r ∷ rs) (none_made st is_closed) 1
+  unfolding left joined last_number stored_by tally accepted_by lending
   closed-does r rs e = record {
     does-some = omega arith;
     does-after = sym (ap (λ (o : Outcome). lending st.work o.after) e);
     does-transfers = sym (ap (λ (o : Outcome). o.transfers ++ []) e);
     does-number = sym (ap (λ (o : Outcome). o.number) e);
-    does-stored = sym (ap (λ (o : Outcome). acceptedBy o + 0) e);
+    does-stored = sym (ap (λ (o : Outcome). accepted_by o + 0) e);
     does-end = inr (refl, refl);
   }
 
   closed_some : (rs : List (List ℕ)) → 1 ≤ length rs → Rows (desc st).wpr rs → sized (desc st) (length st.file) (length st.buffer) ≡ true
-      → st.session.opened ≡ false → Does st t rs (noneMade st isClosed) 1
+      → st.session.opened ≡ false → Does st t rs (none_made st is_closed) 1
   closed_some [] n l s c = absurd (omega arith)
   closed_some (r ∷ rs) n l s c = closed-does r rs (shut r s l.0 c)
 
@@ -105,10 +105,10 @@ tray-singles st t s h n = go st.session.opened refl
     right = λ j. s j && h j
 
     go : (c : Bool) → st.session.opened ≡ c → (m : ℕ) × AsSingles st t m
-    go true c = (length (tried st (recordsOf (desc st) t)), as-singles st t _ (made st t right c) _ (opened-does st t))
+    go true c = (length (tried st (records_of (desc st) t)), as-singles st t _ (made st t right c) _ (opened-does st t))
     go false c = (
       1,
       as-singles st t _ (closed st t right c) 1
-          (closed_some st t (recordsOf (desc st) t) (omega (arith, records-many (count_of t) (desc st).wpr 1 t))
+          (closed_some st t (records_of (desc st) t) (omega (arith, records-many (count_of t) (desc st).wpr 1 t))
           (rows_long (count_of t) (desc st).wpr 1 t (omega (arith, matches-long (desc st) t h))) s c),
     )

@@ -17,8 +17,8 @@ use Rattle.searchfile.specs.declared.Session as code
 use Rattle.searchfile.specs.declared.Answer.{Answer}
 use Rattle.searchfile.specs.Promise.{Counted, given, counted, answered}
 use Rattle.demands.proofs.Costs.{few-transfers}
-use Rattle.tray.specs.Tray.{TrayOutcome, count_of, recordsAt, nsertOne, stoppedBy, storedBefore, inserts}
-use Rattle.tray.specs.Promise.{CountedTray, countedTray, answeredTray}
+use Rattle.tray.specs.Tray.{TrayOutcome, count_of, records_at, nsert_one, stopped_by, stored_before, inserts}
+use Rattle.tray.specs.Promise.{CountedTray, counted_tray, answered_tray}
 use Rattle.tray.proofs.Rows.{records-next, records-none, record-lent}
 
 -- an outcome as a caller sees it, with k records stored and n transfers made before it
@@ -27,8 +27,8 @@ behind k n o = record { stored = k + o.stored; number = o.number; transfers = n 
 
 -- what one NSERT of a tray is seen as
 module _ (s : code.Session) (f b r : List ℕ) (a : Answer) (g d : List ℕ) (e : answered a g d r ≡ counted (nsert (given s f b r))) where
-  one_seen : counted (nsertOne (given s f b []) r) ≡ record { number = a.number; transfers = a.transfers; after = given a.session g d [] }
-  unfolding nsertOne lending
+  one_seen : counted (nsert_one (given s f b []) r) ≡ record { number = a.number; transfers = a.transfers; after = given a.session g d [] }
+  unfolding nsert_one lending
   one_seen = λ j. record {
     number = (sym e j).number;
     transfers = (sym e j).transfers;
@@ -51,7 +51,7 @@ module _ (s : code.Session) (f b r : List ℕ) (a : Answer) (g d : List ℕ) (e 
 
   module _ (rs : List (List ℕ)) (k n m : ℕ) (t : Bool) (told : t ≡ accepted a.number) where
     abbrev one : Outcome
-    one = nsertOne (given s f b []) r
+    one = nsert_one (given s f b []) r
 
     abbrev rest : TrayOutcome
     rest = inserts one.after rs one.number
@@ -66,7 +66,7 @@ module _ (s : code.Session) (f b r : List ℕ) (a : Answer) (g d : List ℕ) (e 
     unfolding inserts
     tray-stops h =
         let z : k + 0 ≡ k = omega arith in
-        sym (ap (λ (c : Bool). behind k n (cond c (storedBefore one rest) (stoppedBy one))) (answers ∙ not-true t h)
+        sym (ap (λ (c : Bool). behind k n (cond c (stored_before one rest) (stopped_by one))) (answers ∙ not-true t h)
         ∙ λ j. record { stored = z j; number = (one_seen j).number; transfers = n + (one_seen j).transfers; after = (one_seen j).after })
 
     -- or the rest follows
@@ -77,29 +77,29 @@ module _ (s : code.Session) (f b r : List ℕ) (a : Answer) (g d : List ℕ) (e 
         let u : k + (rest.stored + 1) ≡ k + 1 + rest.stored = omega arith in
         let l = length-append one.transfers rest.transfers in
         let v : n + length (one.transfers ++ rest.transfers) ≡ n + length one.transfers + length rest.transfers = omega arith in
-        ap (λ (c : Bool). behind k n (cond c (storedBefore one rest) (stoppedBy one))) (answers ∙ not-false t h)
+        ap (λ (c : Bool). behind k n (cond c (stored_before one rest) (stopped_by one))) (answers ∙ not-false t h)
         ∙ (λ j. record { stored = u j; number = rest.number; transfers = v j; after = rest.after })
         ∙ λ j. behind (k + 1) (n + (one_seen j).transfers) (inserts (one_seen j).after rs (one_seen j).number)
 
 -- what a caller will see of the whole tray, told from the loop: k records stored, n transfers made, m the last number, and the rest from word
 -- `at` on
 abbrev pub Reached : CountedTray → code.Session → ℕ → ℕ → ℕ → List ℕ → List ℕ → ℕ → ℕ → ℕ → List ℕ → Type 0
-Reached whole s k m n f b count w at t = whole ≡ behind k n (inserts (given s f b []) (recordsAt (count - k) w at t) m)
+Reached whole s k m n f b count w at t = whole ≡ behind k n (inserts (given s f b []) (records_at (count - k) w at t) m)
 
 -- at first
 pub tray-starts : (st : State) (count w : ℕ) (t : List ℕ) (n : ℕ) → count ≡ count_of t
-    → countedTray (inserts st (recordsAt (count_of t) w 1 t) n) ≡ behind 0 0 (inserts st (recordsAt (count - 0) w 1 t) n)
+    → counted_tray (inserts st (records_at (count_of t) w 1 t) n) ≡ behind 0 0 (inserts st (records_at (count - 0) w 1 t) n)
 tray-starts st count w t n e =
     let z : count_of t ≡ count - 0 = omega arith in
-    ap (λ (k : ℕ). countedTray (inserts st (recordsAt k w 1 t) n)) z
-    ∙ (let o = inserts st (recordsAt (count - 0) w 1 t) n in
+    ap (λ (k : ℕ). counted_tray (inserts st (records_at k w 1 t) n)) z
+    ∙ (let o = inserts st (records_at (count - 0) w 1 t) n in
     let u : o.stored ≡ 0 + o.stored = omega arith in
     let v : length o.transfers ≡ 0 + length o.transfers = omega arith in
     λ j. record { stored = u j; number = o.number; transfers = v j; after = o.after })
 
 module _ (whole : CountedTray) (s : code.Session) (k m n : ℕ) (f b : List ℕ) (count w at : ℕ) (t : List ℕ) (here : Reached whole s k m n f b count w at t) where
   -- at last: nothing is left
-  pub tray-ends : count ≤ k → answeredTray (record { stored = k; number = m; transfers = n; session = s }) f b ≡ whole
+  pub tray-ends : count ≤ k → answered_tray (record { stored = k; number = m; transfers = n; session = s }) f b ≡ whole
   unfolding inserts
   tray-ends l =
       let u : k + 0 ≡ k = omega arith in
@@ -114,7 +114,7 @@ module _ (whole : CountedTray) (s : code.Session) (k m n : ℕ) (f b : List ℕ)
 
   module _ (a : Answer) (g d : List ℕ) (e : answered a g d lent-words ≡ counted (nsert (given s f b lent-words))) where
     abbrev behind-it : List (List ℕ)
-    behind-it = recordsAt (count - (k + 1)) w (at + w) t
+    behind-it = records_at (count - (k + 1)) w (at + w) t
 
     lent_is : answered a g d (part at w t) ≡ counted (nsert (given s f b (part at w t)))
     lent_is = subst (λ (r : List ℕ). answered a g d r ≡ counted (nsert (given s f b r))) (record-lent at w t) e
@@ -123,7 +123,7 @@ module _ (whole : CountedTray) (s : code.Session) (k m n : ℕ) (f b : List ℕ)
     next-is l = here ∙ ap (λ (rs : List (List ℕ)). behind k n (inserts (given s f b []) rs m)) (records-next count k w at t l)
 
     pub turn-stops : (x : Bool) → k < count → x ≡ accepted a.number → not x ≡ true
-        → answeredTray (record { stored = k; number = a.number; transfers = n + a.transfers; session = a.session }) g d ≡ whole
+        → answered_tray (record { stored = k; number = a.number; transfers = n + a.transfers; session = a.session }) g d ≡ whole
     turn-stops x l q h = tray-stops s f b (part at w t) a g d lent_is behind-it k n m x q h ∙ sym (next-is l)
 
     pub turn-goes : (x : Bool) → k < count → x ≡ accepted a.number → not x ≡ false

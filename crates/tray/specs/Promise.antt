@@ -13,15 +13,15 @@ pub record CountedTray : Type 0 where
   pub after : State
 
 -- the outcome so seen [T3]
-abbrev pub countedTray : TrayOutcome → CountedTray
-countedTray o = record { stored = o.stored; number = o.number; transfers = length o.transfers; after = o.after }
+abbrev pub counted_tray : TrayOutcome → CountedTray
+counted_tray o = record { stored = o.stored; number = o.number; transfers = length o.transfers; after = o.after }
 
 -- what the function gives back, with the words it leaves in file and buffer; no workspace is lent
-abbrev pub answeredTray : Trayed → List ℕ → List ℕ → CountedTray
-answeredTray r f b = record { stored = r.stored; number = r.number; transfers = r.transfers; after = given r.session f b [] }
+abbrev pub answered_tray : Trayed → List ℕ → List ℕ → CountedTray
+answered_tray r f b = record { stored = r.stored; number = r.number; transfers = r.transfers; after = given r.session f b [] }
 
 -- "Two results allowed by one promise are proved equal": what it gives back, its session with it, and every word lent
 abbrev pub OneTrayed : Type 0
 OneTrayed =
-    (o : TrayOutcome) (r s : Trayed) (f g b d : List ℕ) → answeredTray r f b ≡ countedTray o → answeredTray s g d ≡ countedTray o
+    (o : TrayOutcome) (r s : Trayed) (f g b d : List ℕ) → answered_tray r f b ≡ counted_tray o → answered_tray s g d ≡ counted_tray o
     → (r ≡ s) × (f ≡ g) × (b ≡ d)

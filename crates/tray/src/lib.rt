@@ -2,11 +2,11 @@
 // where it lies in the tray; nothing is copied, and no workspace is needed.
 ghost use Rattle.std.specs.Prelude.{◌≡◌, true, [], ◌+◌, ◌*◌, length};
 ghost use Rattle.numbers.specs.Numbers.{done};
-ghost use Rattle.drum.specs.Params.{goodParams};
+ghost use Rattle.drum.specs.Params.{good_params};
 ghost use Rattle.face.specs.Checks.{refusing};
 ghost use Rattle.searchfile.specs.Promise.{given};
-ghost use Rattle.tray.specs.Tray.{count_of, matches, recordsOf, inserts, trayChecks, nsertTray};
-ghost use Rattle.tray.specs.Promise.{countedTray, answeredTray};
+ghost use Rattle.tray.specs.Tray.{count_of, matches, records_of, inserts, tray_checks, nsert_tray};
+ghost use Rattle.tray.specs.Promise.{counted_tray, answered_tray};
 ghost use Rattle.words.specs.Slices.{was, became};
 
 use drum::Description;
@@ -24,7 +24,7 @@ pub struct Trayed {
 
 // Whether the tray is as long as its first word says.
 fn is_whole(p: Description, tray: &[u32]) -> bool
-    requires { goodParams p ≡ true }
+    requires { good_params p ≡ true }
     ensures { result ≡ matches p (was tray) }
 {
     if tray.len() == 0 {
@@ -36,7 +36,7 @@ fn is_whole(p: Description, tray: &[u32]) -> bool
 
 // The first refusal of a tray, or 0.
 fn refused_tray(session: Session, file: &[u32], buffer: &[u32], tray: &[u32]) -> u32
-    ensures { refusing result ≡ trayChecks (given session (was file) (was buffer) []) (was tray) }
+    ensures { refusing result ≡ tray_checks (given session (was file) (was buffer) []) (was tray) }
 {
     let p = session.desc;
     if !p.is_sized(file.len(), buffer.len()) {
@@ -54,8 +54,8 @@ fn refused_tray(session: Session, file: &[u32], buffer: &[u32], tray: &[u32]) ->
 // NSERT of each record in turn, up to the first that is not stored.
 fn insert_each(session: Session, file: &mut [u32], buffer: &mut [u32], tray: &[u32]) -> Trayed
     requires { length tray.now ≡ 1 + count_of tray.now * session.desc.wpr }
-    ensures { answeredTray result (became file) (became buffer)
-        ≡ countedTray (inserts (given session (was file) (was buffer) []) (recordsOf session.desc (was tray)) done) }
+    ensures { answered_tray result (became file) (became buffer)
+        ≡ counted_tray (inserts (given session (was file) (was buffer) []) (records_of session.desc (was tray)) done) }
 {
     let wpr = session.desc.wpr;
     let count = words::word_at(tray, 0);
@@ -86,8 +86,8 @@ fn insert_each(session: Session, file: &mut [u32], buffer: &mut [u32], tray: &[u
 
 // Puts in the records of a tray: word 0 says how many, then they follow.
 pub fn nsert_tray(session: Session, file: &mut [u32], buffer: &mut [u32], tray: &[u32]) -> Trayed
-    ensures { answeredTray result (became file) (became buffer)
-        ≡ countedTray (nsertTray (given session (was file) (was buffer) []) (was tray)) }
+    ensures { answered_tray result (became file) (became buffer)
+        ≡ counted_tray (nsert_tray (given session (was file) (was buffer) []) (was tray)) }
 {
     let number = refused_tray(session, file, buffer, tray);
     if number != 0 {

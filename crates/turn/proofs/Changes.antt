@@ -10,16 +10,16 @@ use lib.ListN.{length, get_or, set}
 use borrow.Author.Tests.{eq-eqb, ne_eqb}
 use Rattle.words.specs.Words.{part, put}
 use Rattle.words.proofs.Parts.{part-cons, put-cons, put-part, get_d_part, length_part}
-use Rattle.words.proofs.All.{allWords-getD}
+use Rattle.words.proofs.All.{all_words-get_or}
 use Rattle.table.specs.Tables.{count}
 use Rattle.drum.specs.declared.Description.{Description}
-use Rattle.drum.specs.Params.{goodParams, start, tag_of, indexKind, detailKind, index_shape, detailShape}
-use Rattle.drum.specs.Blocks.{block_at, putBlock, freeText, linkPlace, link_in}
+use Rattle.drum.specs.Params.{good_params, start, tag_of, index_kind, detail_kind, index_shape, detail_shape}
+use Rattle.drum.specs.Blocks.{block_at, put_block, free_text, link_place, link_in}
 use Rattle.drum.specs.Inside.{HasBlock}
 use Rattle.drum.proofs.Good.{caps}
 use Rattle.drum.proofs.Forms.{tag-most, link-most}
 use Rattle.drum.proofs.Lent.{lies-end, block-wide, first_word}
-use Rattle.layout.specs.Turned.{otherForm, turnedIndex, turnedDetail, turnedFree, turnedText}
+use Rattle.layout.specs.Turned.{other_form, turned_index, turned_detail, turned_free, turned_text}
 use Rattle.layout.proofs.TurnedForm.{good-other, other-start, other-size}
 use Rattle.turn.specs.Fits.{Turnable, recounted}
 
@@ -48,7 +48,7 @@ module _ (p : Description) (f : List ℕ) (b : ℕ) (w : Turnable p f b) where
   wide = block-wide p f b w.has
 
   small : (i : ℕ) → get_or (block_at p f b) i 0 ≤ 262143
-  small i = allWords-getD (block_at p f b) i w.words
+  small i = all_words-get_or (block_at p f b) i w.words
 
 module _ (p : Description) (f : List ℕ) (b : ℕ) where
   pub start-lies : (a : ℕ) → a ≡ start p b → Turnable p f b → a < length f
@@ -63,16 +63,16 @@ module _ (p : Description) (f : List ℕ) (b : ℕ) where
     pub count_fits : Fits w64 (t + c)
     count_fits = omega (arith, count_small)
 
-    pub count-turned : (r : List ℕ) → r ≡ set f a (t + c) → g ≡ tag_of p kind → q ≡ otherForm p → r ≡ putBlock p f b (recounted p kind (block_at p f b))
-    unfolding putBlock block_at
+    pub count-turned : (r : List ℕ) → r ≡ set f a (t + c) → g ≡ tag_of p kind → q ≡ other_form p → r ≡ put_block p f b (recounted p kind (block_at p f b))
+    unfolding put_block block_at
     count-turned r er eg eq =
         let first : n ≡ get_or (part (start p b) p.wpb f) 0 0 = unfold block_at in first_word p f b a n en w.has ea in
-        let x : t + c ≡ tag_of (otherForm p) kind + (get_or (part (start p b) p.wpb f) 0 0 - tag_of p kind) =
+        let x : t + c ≡ tag_of (other_form p) kind + (get_or (part (start p b) p.wpb f) 0 0 - tag_of p kind) =
         (λ j. (et ∙ ap (λ (d : Description). tag_of d kind) eq) j + (ec ∙ (λ i. first i - eg i)) j) in
         er ∙ (λ j. set f (ea j) (x j)) ∙ set_first f (start p b) p.wpb _ (ends p f b w) (omega (arith, wide p f b w))
 
   -- the link: i is its place, l the link
-  module _ (a i : ℕ) (ea : a ≡ start p b) (ei : i ≡ linkPlace p) (w : Turnable p f b) where
+  module _ (a i : ℕ) (ea : a ≡ start p b) (ei : i ≡ link_place p) (w : Turnable p f b) where
     pub link-lies : a + i < length f
     link-lies = omega (arith, ends p f b w, wide p f b w, link-most p)
 
@@ -84,43 +84,43 @@ module _ (p : Description) (f : List ℕ) (b : ℕ) where
     link-is : (l : ℕ) → l ≡ get_or f (a + i) 0 → l ≡ link_in p (block_at p f b)
     unfolding link_in block_at
     link-is l el =
-        el ∙ (λ j. get_or f (ea j + ei j) 0) ∙ sym (get_d_part (start p b) p.wpb (linkPlace p) f (omega (arith, wide p f b w, link-most p)))
+        el ∙ (λ j. get_or f (ea j + ei j) 0) ∙ sym (get_d_part (start p b) p.wpb (link_place p) f (omega (arith, wide p f b w, link-most p)))
 
     pub link-small : (l : ℕ) → l ≡ get_or f (a + i) 0 → l ≤ 262143
     unfolding link_in
-    link-small l el = omega (arith, link-is l el, small p f b w (linkPlace p))
+    link-small l el = omega (arith, link-is l el, small p f b w (link_place p))
 
-    pub link-turned : (l : ℕ) (q : Description) (r : List ℕ) → r ≡ putBlock q f b (freeText q l) → l ≡ get_or f (a + i) 0 → q ≡ otherForm p
-        → r ≡ putBlock p f b (turnedFree p (block_at p f b))
-    unfolding turnedFree putBlock
+    pub link-turned : (l : ℕ) (q : Description) (r : List ℕ) → r ≡ put_block q f b (free_text q l) → l ≡ get_or f (a + i) 0 → q ≡ other_form p
+        → r ≡ put_block p f b (turned_free p (block_at p f b))
+    unfolding turned_free put_block
     link-turned l q r er el eq =
         er
-        ∙ (λ j. put f (start (eq j) b) (freeText (eq j) (link-is l el j)))
-        ∙ ap (λ (s : ℕ). put f s (freeText (otherForm p) (link_in p (block_at p f b)))) (other-start p b)
+        ∙ (λ j. put f (start (eq j) b) (free_text (eq j) (link-is l el j)))
+        ∙ ap (λ (s : ℕ). put f s (free_text (other_form p) (link_in p (block_at p f b)))) (other-start p b)
 
-  pub other-has : (q : Description) → q ≡ otherForm p → Turnable p f b → HasBlock q f b
-  unfolding otherForm
+  pub other-has : (q : Description) → q ≡ other_form p → Turnable p f b → HasBlock q f b
+  unfolding other_form
   other-has q e w =
       let h = w.has in
       rw e (record { good = good-other p h.good; file-is = h.file-is ∙ sym (other-size p); least = h.least; most = h.most })
 
 -- by the mark
 module _ (p : Description) (f : List ℕ) (b m : ℕ) where
-  pub index-turns : (r : List ℕ) → r ≡ putBlock p f b (recounted p 4096 (block_at p f b)) → m ≡ 3 → r ≡ putBlock p f b (turnedText p m (block_at p f b))
-  unfolding turnedText turnedIndex count index_shape
+  pub index-turns : (r : List ℕ) → r ≡ put_block p f b (recounted p 4096 (block_at p f b)) → m ≡ 3 → r ≡ put_block p f b (turned_text p m (block_at p f b))
+  unfolding turned_text turned_index count index_shape
   index-turns r er e = er ∙ sym (rw (eq-eqb m 3 e))
 
-  pub detail-turns : (r : List ℕ) → r ≡ putBlock p f b (recounted p 8192 (block_at p f b)) → (m ≡ 3 → ⊥) → m ≡ 1
-      → r ≡ putBlock p f b (turnedText p m (block_at p f b))
-  unfolding turnedText turnedDetail count detailShape
+  pub detail-turns : (r : List ℕ) → r ≡ put_block p f b (recounted p 8192 (block_at p f b)) → (m ≡ 3 → ⊥) → m ≡ 1
+      → r ≡ put_block p f b (turned_text p m (block_at p f b))
+  unfolding turned_text turned_detail count detail_shape
   detail-turns r er n e = er ∙ sym (rw (ne_eqb m 3 n, eq-eqb m 1 e))
 
-  pub link-turns : (r : List ℕ) → r ≡ putBlock p f b (turnedFree p (block_at p f b)) → (m ≡ 3 → ⊥) → (m ≡ 1 → ⊥) → m ≡ 2
-      → r ≡ putBlock p f b (turnedText p m (block_at p f b))
-  unfolding turnedText
+  pub link-turns : (r : List ℕ) → r ≡ put_block p f b (turned_free p (block_at p f b)) → (m ≡ 3 → ⊥) → (m ≡ 1 → ⊥) → m ≡ 2
+      → r ≡ put_block p f b (turned_text p m (block_at p f b))
+  unfolding turned_text
   link-turns r er n k e = er ∙ sym (rw (ne_eqb m 3 n, ne_eqb m 1 k, eq-eqb m 2 e))
 
-  pub none-turns : Turnable p f b → (m ≡ 3 → ⊥) → (m ≡ 1 → ⊥) → (m ≡ 2 → ⊥) → f ≡ putBlock p f b (turnedText p m (block_at p f b))
-  unfolding turnedText putBlock block_at
+  pub none-turns : Turnable p f b → (m ≡ 3 → ⊥) → (m ≡ 1 → ⊥) → (m ≡ 2 → ⊥) → f ≡ put_block p f b (turned_text p m (block_at p f b))
+  unfolding turned_text put_block block_at
   none-turns w n k l =
       sym (rw (ne_eqb m 3 n, ne_eqb m 1 k, ne_eqb m 2 l) (put-part f (start p b) p.wpb (ends p f b w)))

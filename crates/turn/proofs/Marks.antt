@@ -11,15 +11,15 @@ use lib.Dec.{eqb}
 use lib.ListN.{length, get_or, set, take, drop}
 use lib.Seq.{take_all, take-suc-set, drop-set-lt, drop-cons, drop-length}
 use borrow.Author.Tests.{eq-eqb, ne_eqb}
-use Rattle.table.specs.Tables.{blockIn}
+use Rattle.table.specs.Tables.{block_in}
 use Rattle.drum.specs.declared.Description.{Description}
-use Rattle.drum.specs.Params.{masterShape}
+use Rattle.drum.specs.Params.{master_shape}
 use Rattle.drum.specs.Blocks.{sections}
 use Rattle.drum.proofs.Good.{caps}
 use Rattle.layout.specs.Inspected.{Fit}
-use Rattle.layout.specs.Turned.{indexMarked, indexUnmarked}
+use Rattle.layout.specs.Turned.{index_marked, index_unmarked}
 use Rattle.layout.proofs.Good.{row_more}
-use Rattle.turn.specs.Fits.{TurnFits, openMark}
+use Rattle.turn.specs.Fits.{TurnFits, open_mark}
 
 -- entry i of the master lies in the file
 module _ (p : Description) (f : List ℕ) where
@@ -51,8 +51,8 @@ module _ (p : Description) (f : List ℕ) where
         let c = caps p w.good in
         omega (arith, entry-within, w.size, c.sections-fit, c.file-is)
 
-pub entry-names : (p : Description) (f : List ℕ) (i r : ℕ) → r ≡ get_or f (3 + i * (p.k + 1) + p.k) 0 → r ≡ blockIn (masterShape p) f i
-unfolding blockIn masterShape
+pub entry-names : (p : Description) (f : List ℕ) (i r : ℕ) → r ≡ get_or f (3 + i * (p.k + 1) + p.k) 0 → r ≡ block_in (master_shape p) f i
+unfolding block_in master_shape
 entry-names p f i r e = e
 
 -- the loop over the entries
@@ -68,57 +68,57 @@ module _ (p : Description) (f marks : List ℕ) where
   pub turn-few : TurnFits p f marks → sections f ≤ p.control
   turn-few w = w.few
 
-  pub mark-none : marks ≡ indexMarked p f 0 marks
-  unfolding indexMarked
+  pub mark-none : marks ≡ index_marked p f 0 marks
+  unfolding index_marked
   mark-none = refl
 
-  module _ (i n b : ℕ) (eb : b ≡ blockIn (masterShape p) f i) (w : TurnFits p f marks) (en : n ≡ sections f) (l : i < n) where
+  module _ (i n b : ℕ) (eb : b ≡ block_in (master_shape p) f i) (w : TurnFits p f marks) (en : n ≡ sections f) (l : i < n) where
     pub names-some : 1 ≤ b
     names-some = omega (arith, w.named i (omega arith))
 
     pub names-within : (m : List ℕ) → length m ≡ length marks → b - 1 < length m
     names-within m k = omega (arith, w.named i (omega arith), w.marks-are, names-some)
 
-  pub mark-next : (m : List ℕ) (i b : ℕ) → m ≡ indexMarked p f i marks → b ≡ blockIn (masterShape p) f i
-      → set m (b - 1) 3 ≡ indexMarked p f (i + 1) marks
-  unfolding indexMarked
+  pub mark-next : (m : List ℕ) (i b : ℕ) → m ≡ index_marked p f i marks → b ≡ block_in (master_shape p) f i
+      → set m (b - 1) 3 ≡ index_marked p f (i + 1) marks
+  unfolding index_marked
   mark-next m i b em eb =
       let s : i + 1 ≡ suc i = omega arith in
-      (λ j. set (em j) (eb j - 1) 3) ∙ ap (λ (x : ℕ). indexMarked p f x marks) (sym s)
+      (λ j. set (em j) (eb j - 1) 3) ∙ ap (λ (x : ℕ). index_marked p f x marks) (sym s)
 
-  pub mark-all : (m : List ℕ) (i n : ℕ) → m ≡ indexMarked p f i marks → n ≡ sections f → i ≤ n → n ≤ i → m ≡ indexMarked p f (sections f) marks
+  pub mark-all : (m : List ℕ) (i n : ℕ) → m ≡ index_marked p f i marks → n ≡ sections f → i ≤ n → n ≤ i → m ≡ index_marked p f (sections f) marks
   mark-all m i n em en h k =
       let s : i ≡ sections f = omega arith in
-      em ∙ ap (λ (x : ℕ). indexMarked p f x marks) s
+      em ∙ ap (λ (x : ℕ). index_marked p f x marks) s
 
 -- one mark
-pub index-mark : (m : ℕ) → m ≡ 3 → 1 ≡ openMark m
+pub index-mark : (m : ℕ) → m ≡ 3 → 1 ≡ open_mark m
 index-mark m e = sym (rw (eq-eqb m 3 e))
 
-pub other-mark : (m : ℕ) → (m ≡ 3 → ⊥) → m ≡ openMark m
+pub other-mark : (m : ℕ) → (m ≡ 3 → ⊥) → m ≡ open_mark m
 other-mark m n = sym (rw (ne_eqb m 3 n))
 
 -- the loop over the marks: those given back and what the others give are all
-pub unmark-none : (m : List ℕ) → indexUnmarked m ≡ take 0 m ++ indexUnmarked (drop 0 m)
+pub unmark-none : (m : List ℕ) → index_unmarked m ≡ take 0 m ++ index_unmarked (drop 0 m)
 unmark-none m = refl
 
-pub unmark-next : (m₀ m : List ℕ) (i x : ℕ) → indexUnmarked m₀ ≡ take i m ++ indexUnmarked (drop i m) → x ≡ openMark (get_or m i 0) → i < length m
-    → indexUnmarked m₀ ≡ take (i + 1) (set m i x) ++ indexUnmarked (drop (i + 1) (set m i x))
-unfolding indexUnmarked
+pub unmark-next : (m₀ m : List ℕ) (i x : ℕ) → index_unmarked m₀ ≡ take i m ++ index_unmarked (drop i m) → x ≡ open_mark (get_or m i 0) → i < length m
+    → index_unmarked m₀ ≡ take (i + 1) (set m i x) ++ index_unmarked (drop (i + 1) (set m i x))
+unfolding index_unmarked
 unmark-next m₀ m i x e ex l =
     let s : i + 1 ≡ suc i = omega arith in
     let a : take (i + 1) (set m i x) ≡ take i m ++ (x ∷ []) = ap (λ (n : ℕ). take n (set m i x)) s ∙ take-suc-set m i x l in
     let b : drop (i + 1) (set m i x) ≡ drop (suc i) m = ap (λ (n : ℕ). drop n (set m i x)) s ∙ drop-set-lt (suc i) m i x (omega arith) in
-    let c : indexUnmarked (drop i m) ≡ x ∷ indexUnmarked (drop (suc i) m) =
-    ap indexUnmarked (drop-cons m i 0 l) ∙ ap (λ (y : ℕ). y ∷ indexUnmarked (drop (suc i) m)) (sym ex) in
+    let c : index_unmarked (drop i m) ≡ x ∷ index_unmarked (drop (suc i) m) =
+    ap index_unmarked (drop-cons m i 0 l) ∙ ap (λ (y : ℕ). y ∷ index_unmarked (drop (suc i) m)) (sym ex) in
     e
     ∙ ap (λ (r : List ℕ). take i m ++ r) c
-    ∙ sym (append_assoc (take i m) (x ∷ []) (indexUnmarked (drop (suc i) m)))
-    ∙ sym (λ j. a j ++ indexUnmarked (b j))
+    ∙ sym (append_assoc (take i m) (x ∷ []) (index_unmarked (drop (suc i) m)))
+    ∙ sym (λ j. a j ++ index_unmarked (b j))
 
-pub unmark-all : (m₀ m : List ℕ) (i : ℕ) → indexUnmarked m₀ ≡ take i m ++ indexUnmarked (drop i m) → length m ≤ i → i ≤ length m₀ → length m ≡ length m₀
-    → m ≡ indexUnmarked m₀
-unfolding indexUnmarked
+pub unmark-all : (m₀ m : List ℕ) (i : ℕ) → index_unmarked m₀ ≡ take i m ++ index_unmarked (drop i m) → length m ≤ i → i ≤ length m₀ → length m ≡ length m₀
+    → m ≡ index_unmarked m₀
+unfolding index_unmarked
 unmark-all m₀ m i e h k l =
     let s : i ≡ length m = omega arith in
-    sym (e ∙ ap (λ (n : ℕ). take n m ++ indexUnmarked (drop n m)) s ∙ rw (drop-length m, take_all (length m) m (omega arith)) (append-nil m))
+    sym (e ∙ ap (λ (n : ℕ). take n m ++ index_unmarked (drop n m)) s ∙ rw (drop-length m, take_all (length m) m (omega arith)) (append-nil m))

@@ -1,11 +1,11 @@
 // The blocks, each by its mark: the count of one in use and the link of a chained one as the other form has them.
 ghost use Rattle.std.specs.Prelude.{◌≡◌, true, ◌≤◌, ◌<◌, length, set};
-ghost use Rattle.words.specs.Words.{allWords};
-ghost use Rattle.drum.specs.Blocks.{block_at, putBlock};
+ghost use Rattle.words.specs.Words.{all_words};
+ghost use Rattle.drum.specs.Blocks.{block_at, put_block};
 ghost use Rattle.layout.specs.Inspected.{Fit};
-ghost use Rattle.layout.specs.Turned.{turnedFree, turnedText};
+ghost use Rattle.layout.specs.Turned.{turned_free, turned_text};
 ghost use Rattle.words.specs.Slices.{was, became};
-ghost use Rattle.turn.specs.Fits.{Turnable, recounted, blocksTurned};
+ghost use Rattle.turn.specs.Fits.{Turnable, recounted, blocks_turned};
 
 use super::{marking, other};
 use drum::{Description, inside, kinds};
@@ -21,7 +21,7 @@ fn set_word(t: &mut [u32], i: usize, x: usize)
 // The count of block b, of this kind, with the other form's tag.
 fn turn_count(p: Description, file: &mut [u32], b: usize, kind: usize)
     requires { Turnable p file.old b × (kind ≤ 8192) }
-    ensures { became file ≡ putBlock p (was file) b (recounted p kind (block_at p (was file) b)) }
+    ensures { became file ≡ put_block p (was file) b (recounted p kind (block_at p (was file) b)) }
 {
     let start = p.start(b);
     let count = kinds::less(words::word_at(file, start), p.tag(kind));
@@ -32,7 +32,7 @@ fn turn_count(p: Description, file: &mut [u32], b: usize, kind: usize)
 // The link of block b where the other form has it, with its kind there.
 fn turn_link(p: Description, file: &mut [u32], b: usize)
     requires { Turnable p file.old b }
-    ensures { became file ≡ putBlock p (was file) b (turnedFree p (block_at p (was file) b)) }
+    ensures { became file ≡ put_block p (was file) b (turned_free p (block_at p (was file) b)) }
 {
     let at = p.start(b) + p.link_place();
     let link = words::word_at(file, at);
@@ -42,7 +42,7 @@ fn turn_link(p: Description, file: &mut [u32], b: usize)
 // Block b by its mark; one never used stays.
 fn turn_block(p: Description, file: &mut [u32], b: usize, mark: u8)
     requires { Turnable p file.old b }
-    ensures { became file ≡ putBlock p (was file) b (turnedText p mark (block_at p (was file) b)) }
+    ensures { became file ≡ put_block p (was file) b (turned_text p mark (block_at p (was file) b)) }
 {
     if mark == marking::INDEX {
         turn_count(p, file, b, Description::INDEX);
@@ -59,8 +59,8 @@ fn turn_block(p: Description, file: &mut [u32], b: usize, mark: u8)
 
 // All blocks.
 pub fn turn_blocks(p: Description, file: &mut [u32], marks: &[u8])
-    requires { Fit p file.old × (allWords file.old ≡ true) × (length marks.now ≡ p.n) }
-    ensures { became file ≡ blocksTurned p (was marks) (was file) }
+    requires { Fit p file.old × (all_words file.old ≡ true) × (length marks.now ≡ p.n) }
+    ensures { became file ≡ blocks_turned p (was marks) (was file) }
 {
     let mut b = 0;
     while b < marks.len() {

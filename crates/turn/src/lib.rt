@@ -4,11 +4,11 @@ mod blocks;
 mod marking;
 
 ghost use Rattle.std.specs.Prelude.{◌≡◌, true, length};
-ghost use Rattle.drum.specs.Params.{goodParams};
-ghost use Rattle.layout.specs.Inspect.{layoutMarks};
+ghost use Rattle.drum.specs.Params.{good_params};
+ghost use Rattle.layout.specs.Inspect.{layout_marks};
 ghost use Rattle.layout.specs.Inspected.{Fit};
-ghost use Rattle.layout.specs.Turned.{otherForm, turned};
-ghost use Rattle.rules.specs.Turning.{turnLeft, turnSizes, turnLayout, turning};
+ghost use Rattle.layout.specs.Turned.{other_form, turned};
+ghost use Rattle.rules.specs.Turning.{turn_left, turn_sizes, turn_layout, turning};
 ghost use Rattle.words.specs.Slices.{was, became};
 ghost use Rattle.turn.specs.Fits.{TurnFits};
 
@@ -26,15 +26,15 @@ pub struct Turned {
 
 // The parameters of the file in the other form.
 fn other(p: Description) -> Description
-    requires { goodParams p ≡ true }
-    ensures { result ≡ otherForm p }
+    requires { good_params p ≡ true }
+    ensures { result ≡ other_form p }
 {
     p.with_form(Description::FIRST + Description::SECOND - p.form)
 }
 
 // Whether parameters and lengths are right.
 fn is_sized(p: Description, file: usize, marks: usize) -> bool
-    ensures { result ≡ turnSizes p file marks }
+    ensures { result ≡ turn_sizes p file marks }
 {
     if !p.is_good() {
         return false;
@@ -58,7 +58,7 @@ fn turn_file(p: Description, file: &mut [u32], marks: &mut [u8])
 // Turns a file of the right length if it is as under Layout.
 fn turn_closed(p: Description, file: &mut [u32], marks: &mut [u8]) -> Turned
     requires { Fit p file.old × (length marks.old ≡ p.n) }
-    ensures { turnLeft result.number result.desc (became file) (became marks) ≡ turnLayout p (was file) (layoutMarks p (was file)) }
+    ensures { turn_left result.number result.desc (became file) (became marks) ≡ turn_layout p (was file) (layout_marks p (was file)) }
 {
     if !layout::inspect(p, file, marks) {
         return Turned {
@@ -76,7 +76,7 @@ fn turn_closed(p: Description, file: &mut [u32], marks: &mut [u8]) -> Turned
 
 // Turns the file of a session with these parameters, open or not.
 pub fn turn(p: Description, opened: bool, file: &mut [u32], marks: &mut [u8]) -> Turned
-    ensures { turnLeft result.number result.desc (became file) (became marks) ≡ turning p opened (was file) (was marks) }
+    ensures { turn_left result.number result.desc (became file) (became marks) ≡ turning p opened (was file) (was marks) }
 {
     if !is_sized(p, file.len(), marks.len()) {
         return Turned {

@@ -7,9 +7,9 @@ use native.Mathlib.Omega.{arith}
 use lib.Dec.{leb, eqb}
 use lib.ListN.{length, take, drop, get_or, set, replicate}
 use borrow.Author.Tests.{leb-true, eqb-true, le-leb, eq-eqb}
-use Rattle.words.specs.Words.{part, put, topWord, allAre, allWords}
-use Rattle.words.specs.Keys.{ones, isOnes, keyLt}
-use Rattle.words.proofs.Keys.{clash, Tri, lt, eq, gt, tri, Stands, below, same, above, stands, keyLt-over, keyLt-tail}
+use Rattle.words.specs.Words.{part, put, top_word, all_are, all_words}
+use Rattle.words.specs.Keys.{ones, is_ones, key_lt}
+use Rattle.words.proofs.Keys.{clash, Tri, lt, eq, gt, tri, Stands, below, same, above, stands, key_lt-over, key_lt-tail}
 
 -- both of two tests, or one and then the other
 pub and_both : (s t : Bool) → (s && t) ≡ true → (s ≡ true) × (t ≡ true)
@@ -24,126 +24,126 @@ and_assoc true s t = refl
 and_assoc false s t = refl
 
 -- each word is x
-pub allAre-append : (x : ℕ) (l r : List ℕ) → allAre x (l ++ r) ≡ (allAre x l && allAre x r)
-unfolding allAre
-allAre-append x [] r = refl
-allAre-append x (y ∷ l) r = ap (λ (t : Bool). eqb y x && t) (allAre-append x l r) ∙ and_assoc (eqb y x) (allAre x l) (allAre x r)
+pub all_are-append : (x : ℕ) (l r : List ℕ) → all_are x (l ++ r) ≡ (all_are x l && all_are x r)
+unfolding all_are
+all_are-append x [] r = refl
+all_are-append x (y ∷ l) r = ap (λ (t : Bool). eqb y x && t) (all_are-append x l r) ∙ and_assoc (eqb y x) (all_are x l) (all_are x r)
 
-pub allAre-replicate : (n x : ℕ) → allAre x (replicate n x) ≡ true
-unfolding allAre
-allAre-replicate zero x = refl
-allAre-replicate (suc n) x = rw (eq-eqb x x refl, allAre-replicate n x)
+pub all_are-replicate : (n x : ℕ) → all_are x (replicate n x) ≡ true
+unfolding all_are
+all_are-replicate zero x = refl
+all_are-replicate (suc n) x = rw (eq-eqb x x refl, all_are-replicate n x)
 
-pub allAre-true : (x : ℕ) (l : List ℕ) → allAre x l ≡ true → l ≡ replicate (length l) x
-unfolding allAre
-allAre-true x [] h = refl
-allAre-true x (y ∷ l) h =
-    let b = and_both (eqb y x) (allAre x l) h in
+pub all_are-true : (x : ℕ) (l : List ℕ) → all_are x l ≡ true → l ≡ replicate (length l) x
+unfolding all_are
+all_are-true x [] h = refl
+all_are-true x (y ∷ l) h =
+    let b = and_both (eqb y x) (all_are x l) h in
     let e : y ≡ x = eqb-true y x b.0 in
-    let r : l ≡ replicate (length l) x = allAre-true x l b.1 in
+    let r : l ≡ replicate (length l) x = all_are-true x l b.1 in
     λ i. e i ∷ r i
 
-pub allAre-getD : (x : ℕ) (l : List ℕ) (i : ℕ) → allAre x l ≡ true → i < length l → get_or l i 0 ≡ x
-unfolding allAre
-allAre-getD x [] i h k = absurd (omega arith)
-allAre-getD x (y ∷ l) zero h k = eqb-true y x (and_both (eqb y x) (allAre x l) h).0
-allAre-getD x (y ∷ l) (suc i) h k = allAre-getD x l i (and_both (eqb y x) (allAre x l) h).1 (omega arith)
+pub all_are-get_or : (x : ℕ) (l : List ℕ) (i : ℕ) → all_are x l ≡ true → i < length l → get_or l i 0 ≡ x
+unfolding all_are
+all_are-get_or x [] i h k = absurd (omega arith)
+all_are-get_or x (y ∷ l) zero h k = eqb-true y x (and_both (eqb y x) (all_are x l) h).0
+all_are-get_or x (y ∷ l) (suc i) h k = all_are-get_or x l i (and_both (eqb y x) (all_are x l) h).1 (omega arith)
 
 -- the key ONES, and no other of its length, is ones
-pub isOnes-ones : (k : ℕ) → isOnes (ones k) ≡ true
-unfolding isOnes
-isOnes-ones k = allAre-replicate k topWord
+pub is_ones-ones : (k : ℕ) → is_ones (ones k) ≡ true
+unfolding is_ones
+is_ones-ones k = all_are-replicate k top_word
 
-pub isOnes-true : (k : ℕ) (key : List ℕ) → length key ≡ k → isOnes key ≡ true → key ≡ ones k
-unfolding isOnes
-isOnes-true k key e h = allAre-true topWord key h ∙ ap (λ (n : ℕ). replicate n topWord) e
+pub is_ones-true : (k : ℕ) (key : List ℕ) → length key ≡ k → is_ones key ≡ true → key ≡ ones k
+unfolding is_ones
+is_ones-true k key e h = all_are-true top_word key h ∙ ap (λ (n : ℕ). replicate n top_word) e
 
-pub isOnes-eq : (k : ℕ) (key : List ℕ) → key ≡ ones k → isOnes key ≡ true
-isOnes-eq k key e = ap isOnes e ∙ isOnes-ones k
+pub is_ones-eq : (k : ℕ) (key : List ℕ) → key ≡ ones k → is_ones key ≡ true
+is_ones-eq k key e = ap is_ones e ∙ is_ones-ones k
 
-pub isOnes-ne : (k : ℕ) (key : List ℕ) → length key ≡ k → (key ≡ ones k → ⊥) → isOnes key ≡ false
-isOnes-ne k key e n = go (isOnes key) refl
+pub is_ones-ne : (k : ℕ) (key : List ℕ) → length key ≡ k → (key ≡ ones k → ⊥) → is_ones key ≡ false
+is_ones-ne k key e n = go (is_ones key) refl
   where
-    go : (t : Bool) → isOnes key ≡ t → t ≡ false
-    go true h = absurd (n (isOnes-true k key e h))
+    go : (t : Bool) → is_ones key ≡ t → t ≡ false
+    go true h = absurd (n (is_ones-true k key e h))
     go false h = refl
 
 -- none is above 262143
-pub allWords-cons : (x : ℕ) (l : List ℕ) → allWords (x ∷ l) ≡ true → (x ≤ topWord) × (allWords l ≡ true)
-unfolding allWords
-allWords-cons x l h =
-    let b = and_both (leb x topWord) (allWords l) h in
-    (leb-true x topWord b.0, b.1)
+pub all_words-cons : (x : ℕ) (l : List ℕ) → all_words (x ∷ l) ≡ true → (x ≤ top_word) × (all_words l ≡ true)
+unfolding all_words
+all_words-cons x l h =
+    let b = and_both (leb x top_word) (all_words l) h in
+    (leb-true x top_word b.0, b.1)
 
-pub cons-allWords : (x : ℕ) (l : List ℕ) → x ≤ topWord → allWords l ≡ true → allWords (x ∷ l) ≡ true
-unfolding allWords
-cons-allWords x l h k = both-and (leb x topWord) (allWords l) (le-leb x topWord h) k
+pub cons-all_words : (x : ℕ) (l : List ℕ) → x ≤ top_word → all_words l ≡ true → all_words (x ∷ l) ≡ true
+unfolding all_words
+cons-all_words x l h k = both-and (leb x top_word) (all_words l) (le-leb x top_word h) k
 
-pub allWords-append : (l r : List ℕ) → allWords (l ++ r) ≡ (allWords l && allWords r)
-unfolding allWords
-allWords-append [] r = refl
-allWords-append (x ∷ l) r = ap (λ (t : Bool). leb x topWord && t) (allWords-append l r) ∙ and_assoc (leb x topWord) (allWords l) (allWords r)
+pub all_words-append : (l r : List ℕ) → all_words (l ++ r) ≡ (all_words l && all_words r)
+unfolding all_words
+all_words-append [] r = refl
+all_words-append (x ∷ l) r = ap (λ (t : Bool). leb x top_word && t) (all_words-append l r) ∙ and_assoc (leb x top_word) (all_words l) (all_words r)
 
-pub append-allWords : (l r : List ℕ) → allWords l ≡ true → allWords r ≡ true → allWords (l ++ r) ≡ true
-append-allWords l r p q = allWords-append l r ∙ both-and (allWords l) (allWords r) p q
+pub append-all_words : (l r : List ℕ) → all_words l ≡ true → all_words r ≡ true → all_words (l ++ r) ≡ true
+append-all_words l r p q = all_words-append l r ∙ both-and (all_words l) (all_words r) p q
 
-pub allWords-none : allWords [] ≡ true
-unfolding allWords
-allWords-none = refl
+pub all_words-none : all_words [] ≡ true
+unfolding all_words
+all_words-none = refl
 
-pub allWords-take : (n : ℕ) (l : List ℕ) → allWords l ≡ true → allWords (take n l) ≡ true
-allWords-take zero l h = allWords-none
-allWords-take (suc n) [] h = h
-allWords-take (suc n) (x ∷ l) h =
-    let b = allWords-cons x l h in
-    cons-allWords x (take n l) b.0 (allWords-take n l b.1)
+pub all_words-take : (n : ℕ) (l : List ℕ) → all_words l ≡ true → all_words (take n l) ≡ true
+all_words-take zero l h = all_words-none
+all_words-take (suc n) [] h = h
+all_words-take (suc n) (x ∷ l) h =
+    let b = all_words-cons x l h in
+    cons-all_words x (take n l) b.0 (all_words-take n l b.1)
 
-pub allWords-drop : (n : ℕ) (l : List ℕ) → allWords l ≡ true → allWords (drop n l) ≡ true
-allWords-drop zero l h = h
-allWords-drop (suc n) [] h = h
-allWords-drop (suc n) (x ∷ l) h = allWords-drop n l (allWords-cons x l h).1
+pub all_words-drop : (n : ℕ) (l : List ℕ) → all_words l ≡ true → all_words (drop n l) ≡ true
+all_words-drop zero l h = h
+all_words-drop (suc n) [] h = h
+all_words-drop (suc n) (x ∷ l) h = all_words-drop n l (all_words-cons x l h).1
 
-pub allWords-part : (a n : ℕ) (l : List ℕ) → allWords l ≡ true → allWords (part a n l) ≡ true
+pub all_words-part : (a n : ℕ) (l : List ℕ) → all_words l ≡ true → all_words (part a n l) ≡ true
 unfolding part
-allWords-part a n l h = allWords-take n (drop a l) (allWords-drop a l h)
+all_words-part a n l h = all_words-take n (drop a l) (all_words-drop a l h)
 
-pub allWords-put : (l : List ℕ) (a : ℕ) (s : List ℕ) → allWords l ≡ true → allWords s ≡ true → allWords (put l a s) ≡ true
+pub all_words-put : (l : List ℕ) (a : ℕ) (s : List ℕ) → all_words l ≡ true → all_words s ≡ true → all_words (put l a s) ≡ true
 unfolding put
-allWords-put l a s h k = append-allWords (take a l ++ s) (drop (a + length s) l) (append-allWords (take a l) s (allWords-take a l h) k) (allWords-drop (a + length s) l h)
+all_words-put l a s h k = append-all_words (take a l ++ s) (drop (a + length s) l) (append-all_words (take a l) s (all_words-take a l h) k) (all_words-drop (a + length s) l h)
 
-pub allWords-set : (l : List ℕ) (i x : ℕ) → allWords l ≡ true → x ≤ topWord → allWords (set l i x) ≡ true
-allWords-set [] i x h k = h
-allWords-set (y ∷ l) zero x h k = cons-allWords x l k (allWords-cons y l h).1
-allWords-set (y ∷ l) (suc i) x h k =
-    let b = allWords-cons y l h in
-    cons-allWords y (set l i x) b.0 (allWords-set l i x b.1 k)
+pub all_words-set : (l : List ℕ) (i x : ℕ) → all_words l ≡ true → x ≤ top_word → all_words (set l i x) ≡ true
+all_words-set [] i x h k = h
+all_words-set (y ∷ l) zero x h k = cons-all_words x l k (all_words-cons y l h).1
+all_words-set (y ∷ l) (suc i) x h k =
+    let b = all_words-cons y l h in
+    cons-all_words y (set l i x) b.0 (all_words-set l i x b.1 k)
 
-pub allWords-replicate : (n x : ℕ) → x ≤ topWord → allWords (replicate n x) ≡ true
-allWords-replicate zero x h = allWords-none
-allWords-replicate (suc n) x h = cons-allWords x (replicate n x) h (allWords-replicate n x h)
+pub all_words-replicate : (n x : ℕ) → x ≤ top_word → all_words (replicate n x) ≡ true
+all_words-replicate zero x h = all_words-none
+all_words-replicate (suc n) x h = cons-all_words x (replicate n x) h (all_words-replicate n x h)
 
-pub allWords-getD : (l : List ℕ) (i : ℕ) → allWords l ≡ true → get_or l i 0 ≤ topWord
-allWords-getD [] i h = omega arith
-allWords-getD (x ∷ l) zero h = (allWords-cons x l h).0
-allWords-getD (x ∷ l) (suc i) h = allWords-getD l i (allWords-cons x l h).1
+pub all_words-get_or : (l : List ℕ) (i : ℕ) → all_words l ≡ true → get_or l i 0 ≤ top_word
+all_words-get_or [] i h = omega arith
+all_words-get_or (x ∷ l) zero h = (all_words-cons x l h).0
+all_words-get_or (x ∷ l) (suc i) h = all_words-get_or l i (all_words-cons x l h).1
 
 -- no key of words is above ONES, and each other one of its length is below
-pub ones-top : (k : ℕ) (key : List ℕ) → length key ≡ k → allWords key ≡ true → keyLt (ones k) key ≡ false
-unfolding keyLt
+pub ones-top : (k : ℕ) (key : List ℕ) → length key ≡ k → all_words key ≡ true → key_lt (ones k) key ≡ false
+unfolding key_lt
 ones-top zero [] e h = refl
 ones-top zero (x ∷ key) e h = absurd (omega arith)
 ones-top (suc k) [] e h = absurd (omega arith)
-ones-top (suc k) (x ∷ key) e h = go (tri topWord x) (ones-top k key (omega arith) (allWords-cons x key h).1)
+ones-top (suc k) (x ∷ key) e h = go (tri top_word x) (ones-top k key (omega arith) (all_words-cons x key h).1)
   where
-    go : Tri topWord x → keyLt (ones k) key ≡ false → keyLt (topWord ∷ ones k) (x ∷ key) ≡ false
-    go (lt l) r = absurd (omega (arith, allWords-cons x key h))
-    go (eq q) r = keyLt-tail topWord x (ones k) key q ∙ r
-    go (gt g) r = keyLt-over topWord x (ones k) key g
+    go : Tri top_word x → key_lt (ones k) key ≡ false → key_lt (top_word ∷ ones k) (x ∷ key) ≡ false
+    go (lt l) r = absurd (omega (arith, all_words-cons x key h))
+    go (eq q) r = key_lt-tail top_word x (ones k) key q ∙ r
+    go (gt g) r = key_lt-over top_word x (ones k) key g
 
-pub below-ones : (k : ℕ) (key : List ℕ) → length key ≡ k → allWords key ≡ true → isOnes key ≡ false → keyLt key (ones k) ≡ true
+pub below-ones : (k : ℕ) (key : List ℕ) → length key ≡ k → all_words key ≡ true → is_ones key ≡ false → key_lt key (ones k) ≡ true
 below-ones k key e h n = go (stands key (ones k))
   where
-    go : Stands key (ones k) → keyLt key (ones k) ≡ true
+    go : Stands key (ones k) → key_lt key (ones k) ≡ true
     go (below p) = p
-    go (same q) = absurd (clash (sym (isOnes-eq k key q) ∙ n))
+    go (same q) = absurd (clash (sym (is_ones-eq k key q) ∙ n))
     go (above g) = absurd (clash (sym g ∙ ones-top k key e h))

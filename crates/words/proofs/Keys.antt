@@ -8,7 +8,7 @@ use native.Mathlib.Omega.{arith}
 use native.Mathlib.Decide.{dec_lt}
 use lib.Dec.{eqb}
 use borrow.Author.Tests.{lt-ltb, le-ltb, eq-eqb, ne_eqb, eqb-true, not-true, not-false}
-use Rattle.words.specs.Keys.{keyLt, keyLe, sameKey, order}
+use Rattle.words.specs.Keys.{key_lt, key_le, same_key, order}
 use Rattle.words.specs.declared.Order.{Order}
 use Rattle.words.specs.declared.Order.TheVariants.{Below, Same, Above}
 
@@ -30,85 +30,85 @@ tri a b = go (dec_lt a b) (dec_lt b a)
     go (no n) (no m) = eq (omega arith)
 
 pub data Stands (a b : List ℕ) : Type 0 where
-  below : keyLt a b ≡ true → Stands a b
+  below : key_lt a b ≡ true → Stands a b
   same : a ≡ b → Stands a b
-  above : keyLt b a ≡ true → Stands a b
+  above : key_lt b a ≡ true → Stands a b
 
 -- by the first words
 module _ (x y : ℕ) (a b : List ℕ) where
-  pub keyLt-head : x < y → keyLt (x ∷ a) (y ∷ b) ≡ true
-  unfolding keyLt
-  keyLt-head h = rw lt-ltb
+  pub key_lt-head : x < y → key_lt (x ∷ a) (y ∷ b) ≡ true
+  unfolding key_lt
+  key_lt-head h = rw lt-ltb
 
-  pub keyLt-over : y < x → keyLt (x ∷ a) (y ∷ b) ≡ false
-  unfolding keyLt
-  keyLt-over h = rw (le-ltb x y (omega arith), ne_eqb x y (λ e. omega arith))
+  pub key_lt-over : y < x → key_lt (x ∷ a) (y ∷ b) ≡ false
+  unfolding key_lt
+  key_lt-over h = rw (le-ltb x y (omega arith), ne_eqb x y (λ e. omega arith))
 
-  pub keyLt-tail : x ≡ y → keyLt (x ∷ a) (y ∷ b) ≡ keyLt a b
-  unfolding keyLt
-  keyLt-tail e = rw (le-ltb x y (omega arith), eq-eqb)
+  pub key_lt-tail : x ≡ y → key_lt (x ∷ a) (y ∷ b) ≡ key_lt a b
+  unfolding key_lt
+  key_lt-tail e = rw (le-ltb x y (omega arith), eq-eqb)
 
-  pub keyLt-cases : keyLt (x ∷ a) (y ∷ b) ≡ true → (x < y) ⊎ ((x ≡ y) × (keyLt a b ≡ true))
-  keyLt-cases h = go (tri x y)
+  pub key_lt-cases : key_lt (x ∷ a) (y ∷ b) ≡ true → (x < y) ⊎ ((x ≡ y) × (key_lt a b ≡ true))
+  key_lt-cases h = go (tri x y)
     where
-      go : Tri x y → (x < y) ⊎ ((x ≡ y) × (keyLt a b ≡ true))
+      go : Tri x y → (x < y) ⊎ ((x ≡ y) × (key_lt a b ≡ true))
       go (lt l) = inl l
-      go (eq e) = inr (e, sym (keyLt-tail e) ∙ h)
-      go (gt g) = absurd (clash (sym h ∙ keyLt-over g))
+      go (eq e) = inr (e, sym (key_lt-tail e) ∙ h)
+      go (gt g) = absurd (clash (sym h ∙ key_lt-over g))
 
-pub keyLt-irrefl : (a : List ℕ) → keyLt a a ≡ false
-unfolding keyLt
-keyLt-irrefl [] = refl
-keyLt-irrefl (x ∷ a) = keyLt-tail x x a a refl ∙ keyLt-irrefl a
+pub key_lt-irrefl : (a : List ℕ) → key_lt a a ≡ false
+unfolding key_lt
+key_lt-irrefl [] = refl
+key_lt-irrefl (x ∷ a) = key_lt-tail x x a a refl ∙ key_lt-irrefl a
 
-pub keyLt-trans : (a b c : List ℕ) → keyLt a b ≡ true → keyLt b c ≡ true → keyLt a c ≡ true
-unfolding keyLt
-keyLt-trans [] [] c p q = q
-keyLt-trans [] (y ∷ b) [] p q = q
-keyLt-trans [] (y ∷ b) (z ∷ c) p q = refl
-keyLt-trans (x ∷ a) [] [] p q = p
-keyLt-trans (x ∷ a) [] (z ∷ c) p q = absurd (clash (sym p))
-keyLt-trans (x ∷ a) (y ∷ b) [] p q = q
-keyLt-trans (x ∷ a) (y ∷ b) (z ∷ c) p q = go (keyLt-cases x y a b p) (keyLt-cases y z b c q) (keyLt-trans a b c)
+pub key_lt-trans : (a b c : List ℕ) → key_lt a b ≡ true → key_lt b c ≡ true → key_lt a c ≡ true
+unfolding key_lt
+key_lt-trans [] [] c p q = q
+key_lt-trans [] (y ∷ b) [] p q = q
+key_lt-trans [] (y ∷ b) (z ∷ c) p q = refl
+key_lt-trans (x ∷ a) [] [] p q = p
+key_lt-trans (x ∷ a) [] (z ∷ c) p q = absurd (clash (sym p))
+key_lt-trans (x ∷ a) (y ∷ b) [] p q = q
+key_lt-trans (x ∷ a) (y ∷ b) (z ∷ c) p q = go (key_lt-cases x y a b p) (key_lt-cases y z b c q) (key_lt-trans a b c)
   where
-    go : (x < y) ⊎ ((x ≡ y) × (keyLt a b ≡ true)) → (y < z) ⊎ ((y ≡ z) × (keyLt b c ≡ true)) → (keyLt a b ≡ true → keyLt b c ≡ true → keyLt a c ≡ true)
-        → keyLt (x ∷ a) (z ∷ c) ≡ true
-    go (inl l) (inl m) r = keyLt-head x z a c (omega arith)
-    go (inl l) (inr m) r = keyLt-head x z a c (omega arith)
-    go (inr l) (inl m) r = keyLt-head x z a c (omega arith)
-    go (inr l) (inr m) r = keyLt-tail x z a c (l.0 ∙ m.0) ∙ r l.1 m.1
+    go : (x < y) ⊎ ((x ≡ y) × (key_lt a b ≡ true)) → (y < z) ⊎ ((y ≡ z) × (key_lt b c ≡ true)) → (key_lt a b ≡ true → key_lt b c ≡ true → key_lt a c ≡ true)
+        → key_lt (x ∷ a) (z ∷ c) ≡ true
+    go (inl l) (inl m) r = key_lt-head x z a c (omega arith)
+    go (inl l) (inr m) r = key_lt-head x z a c (omega arith)
+    go (inr l) (inl m) r = key_lt-head x z a c (omega arith)
+    go (inr l) (inr m) r = key_lt-tail x z a c (l.0 ∙ m.0) ∙ r l.1 m.1
 
 pub stands : (a b : List ℕ) → Stands a b
-unfolding keyLt
+unfolding key_lt
 stands [] [] = same refl
 stands [] (y ∷ b) = below refl
 stands (x ∷ a) [] = above refl
 stands (x ∷ a) (y ∷ b) = go (tri x y) (stands a b)
   where
     go : Tri x y → Stands a b → Stands (x ∷ a) (y ∷ b)
-    go (lt l) o = below (keyLt-head x y a b l)
-    go (gt g) o = above (keyLt-head y x b a g)
-    go (eq e) (below p) = below (keyLt-tail x y a b e ∙ p)
+    go (lt l) o = below (key_lt-head x y a b l)
+    go (gt g) o = above (key_lt-head y x b a g)
+    go (eq e) (below p) = below (key_lt-tail x y a b e ∙ p)
     go (eq e) (same p) = same (cc)
-    go (eq e) (above p) = above (keyLt-tail y x b a (sym e) ∙ p)
+    go (eq e) (above p) = above (key_lt-tail y x b a (sym e) ∙ p)
 
 -- same keys are equal lists
-pub sameKey-refl : (a : List ℕ) → sameKey a a ≡ true
-unfolding sameKey
-sameKey-refl [] = refl
-sameKey-refl (x ∷ a) = rw (eq-eqb x x refl, sameKey-refl a)
+pub same_key-refl : (a : List ℕ) → same_key a a ≡ true
+unfolding same_key
+same_key-refl [] = refl
+same_key-refl (x ∷ a) = rw (eq-eqb x x refl, same_key-refl a)
 
-pub sameKey-eq : (a b : List ℕ) → a ≡ b → sameKey a b ≡ true
-sameKey-eq a b e = ap (sameKey a) (sym e) ∙ sameKey-refl a
+pub same_key-eq : (a b : List ℕ) → a ≡ b → same_key a b ≡ true
+same_key-eq a b e = ap (same_key a) (sym e) ∙ same_key-refl a
 
-pub sameKey-true : (a b : List ℕ) → sameKey a b ≡ true → a ≡ b
-unfolding sameKey
-sameKey-true [] [] h = refl
-sameKey-true [] (y ∷ b) h = absurd (clash (sym h))
-sameKey-true (x ∷ a) [] h = absurd (clash (sym h))
-sameKey-true (x ∷ a) (y ∷ b) h = go (eqb x y) refl h (sameKey-true a b)
+pub same_key-true : (a b : List ℕ) → same_key a b ≡ true → a ≡ b
+unfolding same_key
+same_key-true [] [] h = refl
+same_key-true [] (y ∷ b) h = absurd (clash (sym h))
+same_key-true (x ∷ a) [] h = absurd (clash (sym h))
+same_key-true (x ∷ a) (y ∷ b) h = go (eqb x y) refl h (same_key-true a b)
   where
-    go : (t : Bool) → eqb x y ≡ t → (t && sameKey a b) ≡ true → (sameKey a b ≡ true → a ≡ b) → ◌≡◌ {A = List ℕ} (x ∷ a) (y ∷ b)
+    go : (t : Bool) → eqb x y ≡ t → (t && same_key a b) ≡ true → (same_key a b ≡ true → a ≡ b) → ◌≡◌ {A = List ℕ} (x ∷ a) (y ∷ b)
     go true e k r =
         let f : x ≡ y = eqb-true x y e in
         let g : a ≡ b = r k in
@@ -116,54 +116,54 @@ sameKey-true (x ∷ a) (y ∷ b) h = go (eqb x y) refl h (sameKey-true a b)
     go false e k r = absurd (clash (sym k))
 
 module _ (a b : List ℕ) where
-  pub sameKey-ne : (a ≡ b → ⊥) → sameKey a b ≡ false
-  sameKey-ne n = go (sameKey a b) refl
+  pub same_key-ne : (a ≡ b → ⊥) → same_key a b ≡ false
+  same_key-ne n = go (same_key a b) refl
     where
-      go : (t : Bool) → sameKey a b ≡ t → t ≡ false
-      go true e = absurd (n (sameKey-true a b e))
+      go : (t : Bool) → same_key a b ≡ t → t ≡ false
+      go true e = absurd (n (same_key-true a b e))
       go false e = refl
 
-  pub sameKey-false : sameKey a b ≡ false → a ≡ b → ⊥
-  sameKey-false s e = clash (sym (sameKey-eq a b e) ∙ s)
+  pub same_key-false : same_key a b ≡ false → a ≡ b → ⊥
+  same_key-false s e = clash (sym (same_key-eq a b e) ∙ s)
 
   -- each of below, same and above excludes the others
-  pub keyLt-asym : keyLt a b ≡ true → keyLt b a ≡ false
-  keyLt-asym p = go (keyLt b a) refl
+  pub key_lt-asym : key_lt a b ≡ true → key_lt b a ≡ false
+  key_lt-asym p = go (key_lt b a) refl
     where
-      go : (t : Bool) → keyLt b a ≡ t → t ≡ false
-      go true q = absurd (clash (sym (keyLt-trans a b a p q) ∙ keyLt-irrefl a))
+      go : (t : Bool) → key_lt b a ≡ t → t ≡ false
+      go true q = absurd (clash (sym (key_lt-trans a b a p q) ∙ key_lt-irrefl a))
       go false q = refl
 
-  pub keyLt-ne : keyLt a b ≡ true → a ≡ b → ⊥
-  keyLt-ne p e = clash (sym p ∙ ap (λ (z : List ℕ). keyLt z b) e ∙ keyLt-irrefl b)
+  pub key_lt-ne : key_lt a b ≡ true → a ≡ b → ⊥
+  key_lt-ne p e = clash (sym p ∙ ap (λ (z : List ℕ). key_lt z b) e ∙ key_lt-irrefl b)
 
-  pub keyLt-not-same : keyLt a b ≡ true → sameKey a b ≡ false
-  keyLt-not-same p = sameKey-ne (keyLt-ne p)
+  pub key_lt-not-same : key_lt a b ≡ true → same_key a b ≡ false
+  key_lt-not-same p = same_key-ne (key_lt-ne p)
 
-  pub same-not-lt : a ≡ b → keyLt a b ≡ false
-  same-not-lt e = ap (keyLt a) (sym e) ∙ keyLt-irrefl a
+  pub same-not-lt : a ≡ b → key_lt a b ≡ false
+  same-not-lt e = ap (key_lt a) (sym e) ∙ key_lt-irrefl a
 
   -- neither below nor same is above
-  pub not-below : keyLt a b ≡ false → sameKey a b ≡ false → keyLt b a ≡ true
+  pub not-below : key_lt a b ≡ false → same_key a b ≡ false → key_lt b a ≡ true
   not-below p q = go (stands a b)
     where
-      go : Stands a b → keyLt b a ≡ true
+      go : Stands a b → key_lt b a ≡ true
       go (below l) = absurd (clash (sym l ∙ p))
-      go (same e) = absurd (sameKey-false q e)
+      go (same e) = absurd (same_key-false q e)
       go (above g) = g
 
   -- the three answers of `order`, each from its case and back
-  pub order_lt : keyLt a b ≡ true → order a b ≡ Below
+  pub order_lt : key_lt a b ≡ true → order a b ≡ Below
   unfolding order
   order_lt p = simp p
 
   pub order-eq : a ≡ b → order a b ≡ Same
   unfolding order
-  order-eq e = simp (same-not-lt e, sameKey-eq a b e)
+  order-eq e = simp (same-not-lt e, same_key-eq a b e)
 
-pub order-gt : (a b : List ℕ) → keyLt b a ≡ true → order a b ≡ Above
+pub order-gt : (a b : List ℕ) → key_lt b a ≡ true → order a b ≡ Above
 unfolding order
-order-gt a b p = simp (keyLt-asym b a p, sameKey-ne a b (λ e. keyLt-ne b a p (sym e)))
+order-gt a b p = simp (key_lt-asym b a p, same_key-ne a b (λ e. key_lt-ne b a p (sym e)))
 
 abbrev code : Order → ℕ
 code Below = 0
@@ -175,10 +175,10 @@ apart x y e (inl l) = let n : code x ≡ code y = ap code e in omega arith
 apart x y e (inr l) = let n : code x ≡ code y = ap code e in omega arith
 
 module _ (a b : List ℕ) where
-  pub order-lt-of : order a b ≡ Below → keyLt a b ≡ true
+  pub order-lt-of : order a b ≡ Below → key_lt a b ≡ true
   order-lt-of h = go (stands a b)
     where
-      go : Stands a b → keyLt a b ≡ true
+      go : Stands a b → key_lt a b ≡ true
       go (below p) = p
       go (same e) = absurd (apart Below Same (sym h ∙ order-eq a b e) (inl (omega arith)))
       go (above p) = absurd (apart Below Above (sym h ∙ order-gt a b p) (inl (omega arith)))
@@ -191,67 +191,67 @@ module _ (a b : List ℕ) where
       go (same e) = e
       go (above p) = absurd (apart Same Above (sym h ∙ order-gt a b p) (inl (omega arith)))
 
-  pub order-gt-of : order a b ≡ Above → keyLt b a ≡ true
+  pub order-gt-of : order a b ≡ Above → key_lt b a ≡ true
   order-gt-of h = go (stands a b)
     where
-      go : Stands a b → keyLt b a ≡ true
+      go : Stands a b → key_lt b a ≡ true
       go (below p) = absurd (apart Above Below (sym h ∙ order_lt a b p) (inr (omega arith)))
       go (same e) = absurd (apart Above Same (sym h ∙ order-eq a b e) (inr (omega arith)))
       go (above p) = p
 
 -- not above
 module _ (a b : List ℕ) where
-  pub keyLe-yes : keyLt b a ≡ false → keyLe a b ≡ true
-  unfolding keyLe
-  keyLe-yes h = ap not h
+  pub key_le-yes : key_lt b a ≡ false → key_le a b ≡ true
+  unfolding key_le
+  key_le-yes h = ap not h
 
-  pub keyLe-no : keyLt b a ≡ true → keyLe a b ≡ false
-  unfolding keyLe
-  keyLe-no h = ap not h
+  pub key_le-no : key_lt b a ≡ true → key_le a b ≡ false
+  unfolding key_le
+  key_le-no h = ap not h
 
-  pub keyLe-true : keyLe a b ≡ true → keyLt b a ≡ false
-  unfolding keyLe
-  keyLe-true h = not-true (keyLt b a) h
+  pub key_le-true : key_le a b ≡ true → key_lt b a ≡ false
+  unfolding key_le
+  key_le-true h = not-true (key_lt b a) h
 
-  pub keyLe-false : keyLe a b ≡ false → keyLt b a ≡ true
-  unfolding keyLe
-  keyLe-false h = not-false (keyLt b a) h
+  pub key_le-false : key_le a b ≡ false → key_lt b a ≡ true
+  unfolding key_le
+  key_le-false h = not-false (key_lt b a) h
 
-  pub keyLt-le : keyLt a b ≡ true → keyLe a b ≡ true
-  keyLt-le h = keyLe-yes (keyLt-asym a b h)
+  pub key_lt-le : key_lt a b ≡ true → key_le a b ≡ true
+  key_lt-le h = key_le-yes (key_lt-asym a b h)
 
-  pub keyLe-antisym : keyLe a b ≡ true → keyLe b a ≡ true → a ≡ b
-  unfolding keyLe
-  keyLe-antisym p q = go (stands a b)
+  pub key_le-antisym : key_le a b ≡ true → key_le b a ≡ true → a ≡ b
+  unfolding key_le
+  key_le-antisym p q = go (stands a b)
     where
       go : Stands a b → a ≡ b
-      go (below l) = absurd (clash (sym l ∙ not-true (keyLt a b) q))
+      go (below l) = absurd (clash (sym l ∙ not-true (key_lt a b) q))
       go (same e) = e
-      go (above g) = absurd (clash (sym g ∙ not-true (keyLt b a) p))
+      go (above g) = absurd (clash (sym g ∙ not-true (key_lt b a) p))
 
-pub keyLe-refl : (a : List ℕ) → keyLe a a ≡ true
-keyLe-refl a = keyLe-yes a a (keyLt-irrefl a)
+pub key_le-refl : (a : List ℕ) → key_le a a ≡ true
+key_le-refl a = key_le-yes a a (key_lt-irrefl a)
 
 module _ (a b c : List ℕ) where
-  pub keyLe-lt-trans : keyLe a b ≡ true → keyLt b c ≡ true → keyLt a c ≡ true
-  keyLe-lt-trans p q = go (stands a b)
+  pub key_le-lt-trans : key_le a b ≡ true → key_lt b c ≡ true → key_lt a c ≡ true
+  key_le-lt-trans p q = go (stands a b)
     where
-      go : Stands a b → keyLt a c ≡ true
-      go (below l) = keyLt-trans a b c l q
-      go (same e) = ap (λ (z : List ℕ). keyLt z c) e ∙ q
-      go (above g) = absurd (clash (sym g ∙ keyLe-true a b p))
+      go : Stands a b → key_lt a c ≡ true
+      go (below l) = key_lt-trans a b c l q
+      go (same e) = ap (λ (z : List ℕ). key_lt z c) e ∙ q
+      go (above g) = absurd (clash (sym g ∙ key_le-true a b p))
 
-  pub keyLt-le-trans : keyLt a b ≡ true → keyLe b c ≡ true → keyLt a c ≡ true
-  keyLt-le-trans p q = go (stands b c)
+  pub key_lt-le-trans : key_lt a b ≡ true → key_le b c ≡ true → key_lt a c ≡ true
+  key_lt-le-trans p q = go (stands b c)
     where
-      go : Stands b c → keyLt a c ≡ true
-      go (below l) = keyLt-trans a b c p l
-      go (same e) = ap (keyLt a) (sym e) ∙ p
-      go (above g) = absurd (clash (sym g ∙ keyLe-true b c q))
+      go : Stands b c → key_lt a c ≡ true
+      go (below l) = key_lt-trans a b c p l
+      go (same e) = ap (key_lt a) (sym e) ∙ p
+      go (above g) = absurd (clash (sym g ∙ key_le-true b c q))
 
-pub keyLe-trans : (a b c : List ℕ) → keyLe a b ≡ true → keyLe b c ≡ true → keyLe a c ≡ true
-keyLe-trans a b c p q = go (keyLt c a) refl
+pub key_le-trans : (a b c : List ℕ) → key_le a b ≡ true → key_le b c ≡ true → key_le a c ≡ true
+key_le-trans a b c p q = go (key_lt c a) refl
   where
-    go : (t : Bool) → keyLt c a ≡ t → keyLe a c ≡ true
-    go true g = absurd (clash (sym (keyLt-le-trans c a b g p) ∙ keyLe-true b c q))
-    go false g = keyLe-yes a c g
+    go : (t : Bool) → key_lt c a ≡ t → key_le a c ≡ true
+    go true g = absurd (clash (sym (key_lt-le-trans c a b g p) ∙ key_le-true b c q))
+    go false g = key_le-yes a c g

@@ -64,15 +64,15 @@ put-cons l a s x h =
     rw (n, add-one, take-suc l a 0) (simp append_assoc (set_at (take a l) (get_or l a 0) (s ++ drop (suc a + length s) l) x a e))
 
 -- words before and after what is written are kept
-pub getD-put-before : (l : List ℕ) (a : ℕ) (s : List ℕ) (k : ℕ) → k < a → a ≤ length l → get_or (put l a s) k 0 ≡ get_or l k 0
+pub get_or-put-before : (l : List ℕ) (a : ℕ) (s : List ℕ) (k : ℕ) → k < a → a ≤ length l → get_or (put l a s) k 0 ≡ get_or l k 0
 unfolding put
-getD-put-before l a s k h h' =
+get_or-put-before l a s k h h' =
     let e : k < length (take a l) = simp length-take (omega arith) in
     simp append_assoc (get_or-append (take a l) (s ++ drop (a + length s) l) 0 k e ∙ get_or-take a l k 0 h)
 
-pub getD-put-after : (l : List ℕ) (a : ℕ) (s : List ℕ) (k : ℕ) → a + length s ≤ k → a ≤ length l → get_or (put l a s) k 0 ≡ get_or l k 0
+pub get_or-put-after : (l : List ℕ) (a : ℕ) (s : List ℕ) (k : ℕ) → a + length s ≤ k → a ≤ length l → get_or (put l a s) k 0 ≡ get_or l k 0
 unfolding put
-getD-put-after l a s k h h' =
+get_or-put-after l a s k h h' =
     let n : length (take a l ++ s) ≡ a + length s = simp (length-append, length-take) (omega arith) in
     let e : k ≡ length (take a l ++ s) + (k - (a + length s)) = omega arith in
     let f : a + length s + (k - (a + length s)) ≡ k = omega arith in
@@ -125,13 +125,13 @@ pub part-put-before : (l : List ℕ) (a : ℕ) (s : List ℕ) (b n : ℕ) → b 
 part-put-before l a s b n h h' =
     let e : length (part b n (put l a s)) ≡ n = length_part b n (put l a s) (rw (length-put l a s h') (omega arith)) in
     let f : length (part b n l) ≡ n = length_part b n l (omega arith) in
-    ext_get_or 0 _ _ (e ∙ sym f) (λ i k. get_d_part b n i (put l a s) (omega arith) ∙ getD-put-before l a s (b + i) (omega arith) (omega arith) ∙ sym (get_d_part b n i l (omega arith)))
+    ext_get_or 0 _ _ (e ∙ sym f) (λ i k. get_d_part b n i (put l a s) (omega arith) ∙ get_or-put-before l a s (b + i) (omega arith) (omega arith) ∙ sym (get_d_part b n i l (omega arith)))
 
 pub part-put-after : (l : List ℕ) (a : ℕ) (s : List ℕ) (b n : ℕ) → a + length s ≤ b → b + n ≤ length l → part b n (put l a s) ≡ part b n l
 part-put-after l a s b n h h' =
     let e : length (part b n (put l a s)) ≡ n = length_part b n (put l a s) (rw (length-put l a s (omega arith)) (omega arith)) in
     let f : length (part b n l) ≡ n = length_part b n l (omega arith) in
-    ext_get_or 0 _ _ (e ∙ sym f) (λ i k. get_d_part b n i (put l a s) (omega arith) ∙ getD-put-after l a s (b + i) (omega arith) (omega arith) ∙ sym (get_d_part b n i l (omega arith)))
+    ext_get_or 0 _ _ (e ∙ sym f) (λ i k. get_d_part b n i (put l a s) (omega arith) ∙ get_or-put-after l a s (b + i) (omega arith) (omega arith) ∙ sym (get_d_part b n i l (omega arith)))
 
 pub part-put : (l : List ℕ) (a : ℕ) (s : List ℕ) → a + length s ≤ length l → part a (length s) (put l a s) ≡ s
 unfolding part put
@@ -140,8 +140,8 @@ part-put l a s h =
     simp append_assoc (rw (drop_at (take a l) (s ++ drop (a + length s) l) a n) (take-append_seam s (drop (a + length s) l)))
 
 -- a word of what is written
-pub getD-put-in : (l : List ℕ) (a : ℕ) (s : List ℕ) (k : ℕ) → a ≤ k → k < a + length s → a + length s ≤ length l → get_or (put l a s) k 0 ≡ get_or s (k - a) 0
-getD-put-in l a s k h h' g =
+pub get_or-put-in : (l : List ℕ) (a : ℕ) (s : List ℕ) (k : ℕ) → a ≤ k → k < a + length s → a + length s ≤ length l → get_or (put l a s) k 0 ≡ get_or s (k - a) 0
+get_or-put-in l a s k h h' g =
     let e : a + (k - a) ≡ k = omega arith in
     let q : k - a < length s = omega arith in
     sym (sym (ap (λ (x : List ℕ). get_or x (k - a) 0) (part-put l a s g)) ∙ get_d_part a (length s) (k - a) (put l a s) q ∙ ap (λ (j : ℕ). get_or (put l a s) j 0) e)
@@ -170,19 +170,19 @@ put-swap l a s b z h g = ext_get_or 0 _ _ (lens ∙ sym rens) word
     word k m = first (dec_lt k a)
       where
         last : Dec (k < b + length z) → b ≤ k → get_or (put (put l a s) b z) k 0 ≡ get_or (put (put l b z) a s) k 0
-        last (yes q) r = getD-put-in (put l a s) b z k r q (omega (arith, la)) ∙ sym (getD-put-after (put l b z) a s k (omega arith) (omega (arith, lb)) ∙ getD-put-in l b z k r q g)
-        last (no q) r = getD-put-after (put l a s) b z k (omega arith) (omega (arith, la)) ∙ getD-put-after l a s k (omega arith) (omega arith) ∙ sym (getD-put-after (put l b z) a s k (omega arith) (omega (arith, lb)) ∙ getD-put-after l b z k (omega arith) (omega arith))
+        last (yes q) r = get_or-put-in (put l a s) b z k r q (omega (arith, la)) ∙ sym (get_or-put-after (put l b z) a s k (omega arith) (omega (arith, lb)) ∙ get_or-put-in l b z k r q g)
+        last (no q) r = get_or-put-after (put l a s) b z k (omega arith) (omega (arith, la)) ∙ get_or-put-after l a s k (omega arith) (omega arith) ∙ sym (get_or-put-after (put l b z) a s k (omega arith) (omega (arith, lb)) ∙ get_or-put-after l b z k (omega arith) (omega arith))
 
         third : Dec (k < b) → a + length s ≤ k → get_or (put (put l a s) b z) k 0 ≡ get_or (put (put l b z) a s) k 0
-        third (yes q) r = getD-put-before (put l a s) b z k q (omega (arith, la)) ∙ getD-put-after l a s k r (omega arith) ∙ sym (getD-put-after (put l b z) a s k r (omega (arith, lb)) ∙ getD-put-before l b z k q (omega arith))
+        third (yes q) r = get_or-put-before (put l a s) b z k q (omega (arith, la)) ∙ get_or-put-after l a s k r (omega arith) ∙ sym (get_or-put-after (put l b z) a s k r (omega (arith, lb)) ∙ get_or-put-before l b z k q (omega arith))
         third (no q) r = last (dec_lt k (b + length z)) (omega arith)
 
         second : Dec (k < a + length s) → a ≤ k → get_or (put (put l a s) b z) k 0 ≡ get_or (put (put l b z) a s) k 0
-        second (yes q) r = getD-put-before (put l a s) b z k (omega arith) (omega (arith, la)) ∙ getD-put-in l a s k r q (omega arith) ∙ sym (getD-put-in (put l b z) a s k r q (omega (arith, lb)))
+        second (yes q) r = get_or-put-before (put l a s) b z k (omega arith) (omega (arith, la)) ∙ get_or-put-in l a s k r q (omega arith) ∙ sym (get_or-put-in (put l b z) a s k r q (omega (arith, lb)))
         second (no q) r = third (dec_lt k b) (omega arith)
 
         first : Dec (k < a) → get_or (put (put l a s) b z) k 0 ≡ get_or (put (put l b z) a s) k 0
-        first (yes q) = getD-put-before (put l a s) b z k (omega arith) (omega (arith, la)) ∙ getD-put-before l a s k q (omega arith) ∙ sym (getD-put-before (put l b z) a s k q (omega (arith, lb)) ∙ getD-put-before l b z k (omega arith) (omega arith))
+        first (yes q) = get_or-put-before (put l a s) b z k (omega arith) (omega (arith, la)) ∙ get_or-put-before l a s k q (omega arith) ∙ sym (get_or-put-before (put l b z) a s k q (omega (arith, lb)) ∙ get_or-put-before l b z k (omega arith) (omega arith))
         first (no q) = second (dec_lt k (a + length s)) (omega arith)
 
 -- one write over another, and a part written where it stands

@@ -2,8 +2,8 @@
 use Rattle.std.specs.Prelude.{ℕ, ◌+◌, Bool, true, false, ◌&&◌, not, List, [], ◌∷◌, ◌++◌, leb, eqb, length, take, drop, replicate}
 
 -- "What is built": "A word is a number 0..262143" [W1]
-abbrev pub topWord : ℕ
-topWord = 262143
+abbrev pub top_word : ℕ
+top_word = 262143
 
 -- the n words of l from word a on
 unfoldable pub part : ℕ → ℕ → List ℕ → List ℕ
@@ -18,16 +18,16 @@ abbrev pub zeros : ℕ → List ℕ
 zeros n = replicate n 0
 
 -- each word is x
-unfoldable pub allAre : ℕ → List ℕ → Bool
-allAre x [] = true
-allAre x (y ∷ l) = eqb y x && allAre x l
+unfoldable pub all_are : ℕ → List ℕ → Bool
+all_are x [] = true
+all_are x (y ∷ l) = eqb y x && all_are x l
 
 -- no word is x
-unfoldable pub noneIs : ℕ → List ℕ → Bool
-noneIs x [] = true
-noneIs x (y ∷ l) = not (eqb y x) && noneIs x l
+unfoldable pub none_is : ℕ → List ℕ → Bool
+none_is x [] = true
+none_is x (y ∷ l) = not (eqb y x) && none_is x l
 
 -- "Layout": "none is above 262143" [W1, L9]
-unfoldable pub allWords : List ℕ → Bool
-allWords [] = true
-allWords (x ∷ l) = leb x topWord && allWords l
+unfoldable pub all_words : List ℕ → Bool
+all_words [] = true
+all_words (x ∷ l) = leb x top_word && all_words l

@@ -1,7 +1,7 @@
 // Words in slices of u32: copied, moved, cleared, tested and compared. Every contract is one equation between lists.
 ghost use Rattle.std.specs.Prelude.{◌≡◌, ◌+◌, ◌≤◌, ◌<◌, length, get_or, set};
-ghost use Rattle.words.specs.Words.{part, put, zeros, allAre, allWords};
-ghost use Rattle.words.specs.Keys.{order, keyLt, sameKey};
+ghost use Rattle.words.specs.Words.{part, put, zeros, all_are, all_words};
+ghost use Rattle.words.specs.Keys.{order, key_lt, same_key};
 ghost use Rattle.words.specs.Slices.{was, became};
 
 // How one key stands to another.
@@ -83,7 +83,7 @@ pub fn compare_keys(a: &[u32], i: usize, b: &[u32], j: usize, k: usize) -> Order
 // Whether the key of k words at word i of a is below the one at word j of b.
 pub fn key_below(a: &[u32], i: usize, b: &[u32], j: usize, k: usize) -> bool
     requires { (i + k ≤ length a.now) × (j + k ≤ length b.now) }
-    ensures { result ≡ keyLt (part i k (was a)) (part j k (was b)) }
+    ensures { result ≡ key_lt (part i k (was a)) (part j k (was b)) }
 {
     let o = compare_keys(a, i, b, j, k);
     match o {
@@ -96,7 +96,7 @@ pub fn key_below(a: &[u32], i: usize, b: &[u32], j: usize, k: usize) -> bool
 // Whether the key of k words at word i of a is the one at word j of b.
 pub fn same_key(a: &[u32], i: usize, b: &[u32], j: usize, k: usize) -> bool
     requires { (i + k ≤ length a.now) × (j + k ≤ length b.now) }
-    ensures { result ≡ sameKey (part i k (was a)) (part j k (was b)) }
+    ensures { result ≡ same_key (part i k (was a)) (part j k (was b)) }
 {
     let o = compare_keys(a, i, b, j, k);
     match o {
@@ -109,7 +109,7 @@ pub fn same_key(a: &[u32], i: usize, b: &[u32], j: usize, k: usize) -> bool
 // Whether each of the n words of t from word a on is x.
 pub fn all_are(t: &[u32], a: usize, n: usize, x: u32) -> bool
     requires { a + n ≤ length t.now }
-    ensures { result ≡ allAre x (part a n (was t)) }
+    ensures { result ≡ all_are x (part a n (was t)) }
 {
     let mut i = 0;
     while i < n {
@@ -124,7 +124,7 @@ pub fn all_are(t: &[u32], a: usize, n: usize, x: u32) -> bool
 // Whether none of the n words of t from word a on is above 262143.
 pub fn all_words(t: &[u32], a: usize, n: usize) -> bool
     requires { a + n ≤ length t.now }
-    ensures { result ≡ allWords (part a n (was t)) }
+    ensures { result ≡ all_words (part a n (was t)) }
 {
     let mut i = 0;
     while i < n {

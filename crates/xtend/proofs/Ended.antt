@@ -4,7 +4,7 @@ use mathlib.Core.Path.{◌≡◌, refl, ap, ◌∙◌, subst}
 use mathlib.Core.Bool.{Bool, true, false}
 use mathlib.Core.List.{List, []}
 use lib.ListN.{length}
-use Rattle.numbers.specs.Numbers.{badFile}
+use Rattle.numbers.specs.Numbers.{bad_file}
 use Rattle.numbers.specs.Checked.{passed, ◌>>=◌}
 use Rattle.drum.specs.declared.Description.{Description}
 use Rattle.drum.specs.Blocks.{Fitting, Block, Transfer, Texts, seen, block_at}
@@ -16,17 +16,17 @@ use Rattle.rules.specs.declared.Done.{Done}
 use Rattle.rules.specs.declared.Insert.{Insert}
 use Rattle.rules.specs.declared.Extend.{Extend}
 use Rattle.rules.specs.declared.Extend.TheVariants.{Bad, Stop, Room, New, Both, Before}
-use Rattle.rules.specs.State.{keyIn}
+use Rattle.rules.specs.State.{key_in}
 use Rattle.rules.specs.Lookup.{reached, stopping, landing}
 use Rattle.rules.specs.Told.{gave, told}
 use Rattle.rules.specs.Fits.{WayFits}
-use Rattle.rules.specs.NsertDone.{insertDone}
-use Rattle.rules.specs.Xtend.{extendDeed}
-use Rattle.rules.specs.XtendDone.{reading, extendDone, xtendSteps}
+use Rattle.rules.specs.NsertDone.{insert_done}
+use Rattle.rules.specs.Xtend.{extend_deed}
+use Rattle.rules.specs.XtendDone.{reading, extend_done, xtend_steps}
 use Rattle.nsert.specs.Fits.{InsertFits}
-use Rattle.xtend.specs.Answers.{asExtend}
+use Rattle.xtend.specs.Answers.{as_extend}
 use Rattle.xtend.specs.Fits.{LastTakes, NewFits, SectionFits, BeforeFits, ExtendFits}
-use Rattle.xtend.specs.Steps.{besides, led, roomDone, starting, newAll, newLeft, sectionAll, sectionLeft}
+use Rattle.xtend.specs.Steps.{besides, led, room_done, starting, new_all, new_left, section_all, section_left}
 use Rattle.xtend.proofs.Stored.{stop-besides, room-besides}
 use Rattle.xtend.proofs.Led.{before-led}
 
@@ -77,49 +77,49 @@ module _ (p : Description) (cur : ℕ) (f b : List ℕ) (flag : Bool) (deed : Ex
   both-block way w c x n e h = (both-fits way w c x n e h).start.new.block
 
   module _ (r : Done) (work : List ℕ) where
-    pub told-bad : deed ≡ Bad → r ≡ record { number = badFile; transfers = 0; current = cur; flag = flag; keyed = false }
-        → gave r f b work ≡ told v flag work (extendDone v flag work deed)
-    unfolding extendDone
+    pub told-bad : deed ≡ Bad → r ≡ record { number = bad_file; transfers = 0; current = cur; flag = flag; keyed = false }
+        → gave r f b work ≡ told v flag work (extend_done v flag work deed)
+    unfolding extend_done
     told-bad e er = rw e (ap (λ (x : Done). gave x f b work) er)
 
     module _ (g t : List ℕ) where
       pub told-stop : (way : Way) (x n : ℕ) (d : Done) → deed ≡ Stop way x n → r ≡ besides x d
           → gave d g t [] ≡ told v flag [] (passed (stopping n [] (reached v flag way)))
-          → gave r g t work ≡ told v flag work (extendDone v flag work deed)
-      unfolding extendDone
+          → gave r g t work ≡ told v flag work (extend_done v flag work deed)
+      unfolding extend_done
       told-stop way x n d e er h = rw e (ap (λ (z : Done). gave z g t work) er ∙ stop-besides v flag way n x work d g t h)
 
       pub told-room : (way : Way) (x n : ℕ) (d : Done) → deed ≡ Room way x n → r ≡ besides x d
-          → gave d g t work ≡ told v flag work (roomDone v flag work way n)
-          → gave r g t work ≡ told v flag work (extendDone v flag work deed)
-      unfolding extendDone reading
+          → gave d g t work ≡ told v flag work (room_done v flag work way n)
+          → gave r g t work ≡ told v flag work (extend_done v flag work deed)
+      unfolding extend_done reading
       told-room way x n d e er h = rw e (ap (λ (z : Done). gave z g t work) er ∙ room-besides v flag way n x work d g t h)
 
       pub told-new : (way : Way) (w : Path) (d : Taken) (n m : ℕ) → deed ≡ New way w d n
           → r ≡ record { number = n; transfers = m; current = d.block; flag = false; keyed = true } → t ≡ block_at p g d.block
-          → m ≡ length (newAll v flag (starting way w d) work) → g ≡ newLeft v flag (starting way w d) work
-          → gave r g t work ≡ told v flag work (extendDone v flag work deed)
-      unfolding extendDone newAll newLeft
+          → m ≡ length (new_all v flag (starting way w d) work) → g ≡ new_left v flag (starting way w d) work
+          → gave r g t work ≡ told v flag work (extend_done v flag work deed)
+      unfolding extend_done new_all new_left
       told-new way w d n m e er et em eg = rw e (landed v flag work n m d.block _ _ g t r er et em eg)
 
       pub told-both : (way : Way) (w : Path) (c : ℕ) (x : Taken) (n m : ℕ) → deed ≡ Both way w c x n
           → r ≡ record { number = n; transfers = m; current = c; flag = false; keyed = true } → t ≡ block_at p g c
-          → m ≡ length (sectionAll v flag (starting way w (record { block = c; head = x.head; lowest = x.lowest })) x.block work)
-          → g ≡ sectionLeft v flag (starting way w (record { block = c; head = x.head; lowest = x.lowest })) x.block work
-          → gave r g t work ≡ told v flag work (extendDone v flag work deed)
-      unfolding extendDone sectionAll sectionLeft
+          → m ≡ length (section_all v flag (starting way w (record { block = c; head = x.head; lowest = x.lowest })) x.block work)
+          → g ≡ section_left v flag (starting way w (record { block = c; head = x.head; lowest = x.lowest })) x.block work
+          → gave r g t work ≡ told v flag work (extend_done v flag work deed)
+      unfolding extend_done section_all section_left
       told-both way w c x n m e er et em eg = rw e (landed v flag work n m c _ _ g t r er et em eg)
 
       pub told-before : (way : Way) (w : Path) (d : Insert) (x : Done) → deed ≡ Before way w d → r ≡ led way x
-          → gave x g t work ≡ told v flag work (insertDone v flag work d) → ExtendFits v flag deed
-          → gave r g t work ≡ told v flag work (extendDone v flag work deed)
+          → gave x g t work ≡ told v flag work (insert_done v flag work d) → ExtendFits v flag deed
+          → gave r g t work ≡ told v flag work (extend_done v flag work deed)
       told-before way w d x e er h fits =
           let q : BeforeFits v flag w d = subst (ExtendFits v flag) e fits in
           rw e (ap (λ (z : Done). gave z g t work) er ∙ before-led v flag work way w d x g t q.last.index-least q.outside h)
 
 -- a plan that passed is done
-planned : (v : Texts) (flag : Bool) (work : List ℕ) (d : Extend) → extendDone v flag work d ≡ (asExtend d >>= extendDone v flag work)
-unfolding extendDone
+planned : (v : Texts) (flag : Bool) (work : List ℕ) (d : Extend) → extend_done v flag work d ≡ (as_extend d >>= extend_done v flag work)
+unfolding extend_done
 planned v flag work Bad = refl
 planned v flag work (Stop way x n) = refl
 planned v flag work (Room way x n) = refl
@@ -129,13 +129,13 @@ planned v flag work (Before way w d) = refl
 
 -- XTEND by its plan and by what was done
 pub xtend-told : (p : Description) (cur : ℕ) (f b : List ℕ) (flag : Bool) (work : List ℕ) (d : Extend) (r : Done) (g h : List ℕ)
-    → asExtend d ≡ extendDeed (seen p cur f b) flag (keyIn p work)
-    → gave r g h work ≡ told (seen p cur f b) flag work (extendDone (seen p cur f b) flag work d)
-    → gave r g h work ≡ told (seen p cur f b) flag work (xtendSteps (seen p cur f b) flag work)
-unfolding xtendSteps
+    → as_extend d ≡ extend_deed (seen p cur f b) flag (key_in p work)
+    → gave r g h work ≡ told (seen p cur f b) flag work (extend_done (seen p cur f b) flag work d)
+    → gave r g h work ≡ told (seen p cur f b) flag work (xtend_steps (seen p cur f b) flag work)
+unfolding xtend_steps
 xtend-told p cur f b flag work d r g h e t =
     let v = seen p cur f b in
-    t ∙ ap (told v flag work) (planned v flag work d ∙ ap (λ x. x >>= extendDone v flag work) e)
+    t ∙ ap (told v flag work) (planned v flag work d ∙ ap (λ x. x >>= extend_done v flag work) e)
 
 -- a key lies in a record
 pub key-within : (p : Description) (f b : List ℕ) → Fitting p f b → p.k ≤ p.wpr

@@ -6,7 +6,7 @@ use native.Mathlib.Nat.{not-suc-le-zero}
 use native.Mathlib.Omega.{arith}
 use lib.ListN.{length, take, get_or, set, replicate, length-replicate, length-set}
 use lib.Seq.{get_or-set_same}
-use Rattle.words.specs.Words.{part, topWord}
+use Rattle.words.specs.Words.{part, top_word}
 use Rattle.words.specs.Keys.{ones}
 use Rattle.words.proofs.Parts.{part-snoc, part-set-after, length_part}
 use Rattle.table.specs.declared.Shape.{Shape}
@@ -14,7 +14,7 @@ use Rattle.table.specs.Tables.{count, place, inserted, replaced}
 use Rattle.table.proofs.Places.{row_lt}
 use Rattle.drum.specs.declared.Description.{Description}
 use Rattle.drum.proofs.Good.{good-facts}
-use Rattle.rules.specs.XtendDone.{onesEntry, bounded, extended}
+use Rattle.rules.specs.XtendDone.{ones_entry, bounded, extended}
 use Rattle.rules.proofs.XtendKept.{bounded-length, bounded-count, extended-length}
 use Rattle.xtend.specs.Fits.{LastIn, LastRoomIn}
 
@@ -29,20 +29,20 @@ unfolding part
 part-replicate k m x h = take-replicate k m x h
 
 -- of 64 words that are all 262143 one is the block
-pub ones-made : (k b : ℕ) (r : List ℕ) → r ≡ set (replicate 64 topWord) k b → k ≤ 63 → part 0 (k + 1) r ≡ ones k ++ (b ∷ [])
+pub ones-made : (k b : ℕ) (r : List ℕ) → r ≡ set (replicate 64 top_word) k b → k ≤ 63 → part 0 (k + 1) r ≡ ones k ++ (b ∷ [])
 ones-made k b r er h =
-    let l : List ℕ = replicate 64 topWord in
-    let n : length l ≡ 64 = length-replicate 64 topWord in
+    let l : List ℕ = replicate 64 top_word in
+    let n : length l ≡ 64 = length-replicate 64 top_word in
     let s : length (set l k b) ≡ 64 = length-set l k b ∙ n in
-    let e : part 0 k (set l k b) ≡ ones k = part-set-after l k b 0 k (omega arith) (omega arith) ∙ part-replicate k 64 topWord (omega arith) in
+    let e : part 0 k (set l k b) ≡ ones k = part-set-after l k b 0 k (omega arith) (omega arith) ∙ part-replicate k 64 top_word (omega arith) in
     let z : 0 + k ≡ k = omega arith in
     let g : get_or (set l k b) (0 + k) 0 ≡ b = ap (λ (i : ℕ). get_or (set l k b) i 0) z ∙ get_or-set_same l k b 0 (omega arith) in
     ap (part 0 (k + 1)) er ∙ part-snoc 0 k (set l k b) (omega arith) ∙ (λ j. e j ++ (g j ∷ []))
 
 -- as many words of them as an entry has
 pub entry-is : (p : Description) (h : Shape) (b : ℕ) (entry : List ℕ) → h.stride ≡ p.k + 1 → part 0 (p.k + 1) entry ≡ ones p.k ++ (b ∷ [])
-    → part 0 h.stride entry ≡ onesEntry p b
-unfolding onesEntry
+    → part 0 h.stride entry ≡ ones_entry p b
+unfolding ones_entry
 entry-is p h b entry s e = ap (λ (i : ℕ). part 0 i entry) s ∙ e
 
 -- the last bound is the key
@@ -106,5 +106,5 @@ pub extended-by : (p : Description) (h : Shape) (key : List ℕ) (b n : ℕ) (en
     → t₂ ≡ extended p h (part 0 p.k key) b t
 unfolding extended
 extended-by p h key b n entry t t₁ t₂ e₂ e₁ en e room =
-    let q : part 0 h.stride entry ≡ onesEntry p b = entry-is p h b entry room.last.stride e in
+    let q : part 0 h.stride entry ≡ ones_entry p b = entry-is p h b entry room.last.stride e in
     rw (e₂, q, e₁, en)

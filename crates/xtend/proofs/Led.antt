@@ -17,8 +17,8 @@ use Rattle.rules.specs.declared.Insert.{Insert}
 use Rattle.rules.specs.declared.Extend.TheVariants.{Before}
 use Rattle.rules.specs.State.{Effect}
 use Rattle.rules.specs.Lookup.{reached}
-use Rattle.rules.specs.NsertDone.{insertDone}
-use Rattle.rules.specs.XtendDone.{reading, listed, extendDone}
+use Rattle.rules.specs.NsertDone.{insert_done}
+use Rattle.rules.specs.XtendDone.{reading, listed, extend_done}
 use Rattle.rules.specs.Fits.{Outside}
 use Rattle.rules.specs.Told.{Told, gave, told}
 use Rattle.rules.proofs.Before.{insert-done, before_here, before-by}
@@ -26,7 +26,7 @@ use Rattle.xtend.specs.Steps.{lead, led}
 
 -- the list of the whole call is longer than NSERT's
 longer : (v : Texts) (flag : Bool) (work : List ℕ) (way : Way) (x : ℕ) (d : Insert) (e t : Effect) → 1 ≤ x → Outside d
-    → insertDone v flag work d ≡ passed e → insertDone v (reached v flag way).flag work d ≡ passed t
+    → insert_done v flag work d ≡ passed e → insert_done v (reached v flag way).flag work d ≡ passed t
     → length ((reading x (reached v flag way)).moves ++ t.transfers) ≡ length e.transfers + lead way
 longer v flag work Here x d e t least out h k = before_here v work x d e t out flag least h k
 longer v flag work (By w) x d e t least out h k = before-by v work x d e t out flag w least h k
@@ -58,15 +58,15 @@ module _ (way : Way) where
 
 module _ (v : Texts) (flag : Bool) (work : List ℕ) (way : Way) (w : Path) (d : Insert) (x : Done) (g t : List ℕ) where
   -- NSERT's effect under that list
-  pub before-led : 1 ≤ w.index → Outside d → gave x g t work ≡ told v flag work (insertDone v flag work d)
-      → gave (led way x) g t work ≡ told v flag work (extendDone v flag work (Before way w d))
-  unfolding extendDone listed led
+  pub before-led : 1 ≤ w.index → Outside d → gave x g t work ≡ told v flag work (insert_done v flag work d)
+      → gave (led way x) g t work ≡ told v flag work (extend_done v flag work (Before way w d))
+  unfolding extend_done listed led
   before-led least out h =
       let a = insert-done v work flag d out in
       let b = insert-done v work (reached v flag way).flag d out in
       let e = h ∙ ap (told v flag work) a.1 in
       let c = ap (λ (z : Told). z.transfers + lead way) e ∙ sym (longer v flag work way w.index d a.0 b.0 least out a.1 b.1) in
-      let l : extendDone v flag work (Before way w d) ≡ passed (listed ((reading w.index (reached v flag way)).moves ++ b.0.transfers) a.0) =
+      let l : extend_done v flag work (Before way w d) ≡ passed (listed ((reading w.index (reached v flag way)).moves ++ b.0.transfers) a.0) =
       rw (a.1, b.1)
       in
       (λ j. record {

@@ -7,15 +7,15 @@ use native.Mathlib.Omega.{arith}
 use borrow.Author.Tests.{ltb-true, eqb-true}
 use lib.Dec.{ltb, eqb}
 use lib.ListN.{length}
-use Rattle.numbers.specs.Numbers.{badFile}
+use Rattle.numbers.specs.Numbers.{bad_file}
 use Rattle.numbers.specs.Checked.{passed, require}
 use Rattle.words.specs.Words.{part}
-use Rattle.table.specs.Tables.{count, rowAbove}
+use Rattle.table.specs.Tables.{count, row_above}
 use Rattle.drum.specs.declared.Description.{Description}
-use Rattle.drum.specs.Params.{D, FD, FI, goodParams, detailShape, index_shape}
+use Rattle.drum.specs.Params.{D, FD, FI, good_params, detail_shape, index_shape}
 use Rattle.drum.specs.Blocks.{Texts, Fitting, seen, text_of}
 use Rattle.drum.proofs.Good.{caps}
-use Rattle.drum.proofs.Blocks.{length-textOf, text-current}
+use Rattle.drum.proofs.Blocks.{length-text_of, text-current}
 use Rattle.rules.specs.declared.Which.TheVariants.{Last}
 use Rattle.rules.specs.declared.Path.{Path}
 use Rattle.rules.specs.declared.Way.{Way}
@@ -26,18 +26,18 @@ use Rattle.rules.specs.declared.Insert.{Insert}
 use Rattle.rules.specs.declared.Insert.TheVariants as insert-is
 use Rattle.rules.specs.declared.Extend.{Extend}
 use Rattle.rules.specs.declared.Extend.TheVariants.{Bad, Stop, Room, New, Both, Before}
-use Rattle.rules.specs.Paths.{pathTo, lastPath}
-use Rattle.rules.specs.Lookup.{textAt}
-use Rattle.rules.specs.Free.{takeOne, takeTwo}
-use Rattle.rules.specs.Nsert.{insertAt}
-use Rattle.rules.specs.Xtend.{lastWay, last_of, lastRoom, insertBefore, lookDeed, aloneDeed, startDeed, sectionDeed, newAt, newDeed, extendAt, extendDeed}
+use Rattle.rules.specs.Paths.{path_to, last_path}
+use Rattle.rules.specs.Lookup.{text_at}
+use Rattle.rules.specs.Free.{take_one, take_two}
+use Rattle.rules.specs.Nsert.{insert_at}
+use Rattle.rules.specs.Xtend.{last_way, last_of, last_room, insert_before, look_deed, alone_deed, start_deed, section_deed, new_at, new_deed, extend_at, extend_deed}
 use Rattle.rules.specs.Fits.{PathFits, WayFits}
 use Rattle.numbers.proofs.Passed.{Passed, chain, required}
 use Rattle.rules.proofs.Fits.{path-fits, flush-of, last-passed}
 use Rattle.rules.proofs.Takes.{one-new, two-new}
 use Rattle.rules.proofs.Before.{insert-outside}
 use Rattle.nsert.proofs.Fits.{place-fits}
-use Rattle.xtend.specs.Answers.{asExtend}
+use Rattle.xtend.specs.Answers.{as_extend}
 use Rattle.xtend.specs.Fits.{AtFits, LastTakes, NewFits, SectionFits, BeforeFits, ExtendFits}
 use Rattle.xtend.specs.Steps.{starting}
 
@@ -47,27 +47,27 @@ module _ (v : Texts) where
   way_at flag Here h = h
   way_at flag (By w) h = h.0
 
-  pub at-counts : (way : Way) → AtFits v way → (1 ≤ count (detailShape v.desc) (textAt v way)) × (count (detailShape v.desc) (textAt v way) ≤ D v.desc)
+  pub at-counts : (way : Way) → AtFits v way → (1 ≤ count (detail_shape v.desc) (text_at v way)) × (count (detail_shape v.desc) (text_at v way) ≤ D v.desc)
   at-counts Here h = (h.records-least, h.records-most)
   at-counts (By w) h = (h.records-least, h.records-most)
 
-  pub at_length : (way : Way) → Fitting v.desc v.file v.buffer → AtFits v way → length (textAt v way) ≡ v.desc.wpb
+  pub at_length : (way : Way) → Fitting v.desc v.file v.buffer → AtFits v way → length (text_at v way) ≡ v.desc.wpb
   at_length Here fit h = fit.buffer-is
-  at_length (By w) fit h = length-textOf v w.detail fit (h.detail-least, h.detail-most)
+  at_length (By w) fit h = length-text_of v w.detail fit (h.detail-least, h.detail-most)
 
-  pub way-fits : (flag : Bool) (way : Way) → lastWay v flag ≡ passed way → WayFits v flag way
+  pub way-fits : (flag : Bool) (way : Way) → last_way v flag ≡ passed way → WayFits v flag way
   way-fits flag way e = (last-passed v flag).holds way e
 
 -- the path to the last block, which the way leads to
 pub record LastFits (v : Texts) (way : Way) (w : Path) : Type 0 where
   pub path : PathFits v w
-  pub text : textAt v way ≡ text_of v w.detail
+  pub text : text_at v way ≡ text_of v w.detail
 
 module _ (v : Texts) where
-  last-here : (w : Path) (x : Bool) → lastPath v ≡ passed w → require (eqb w.detail v.current) badFile ≡ passed x → LastFits v Here w
+  last-here : (w : Path) (x : Bool) → last_path v ≡ passed w → require (eqb w.detail v.current) bad_file ≡ passed x → LastFits v Here w
   last-here w x e r = record {
     path = path-fits v Last Last [] w e;
-    text = sym (text-current v w.detail (eqb-true w.detail v.current (required (eqb w.detail v.current) badFile x r)));
+    text = sym (text-current v w.detail (eqb-true w.detail v.current (required (eqb w.detail v.current) bad_file x r)));
   }
 
   last-passed-of : (way : Way) → AtFits v way → Passed (LastFits v way) (last_of v way)
@@ -82,7 +82,7 @@ module _ (v : Texts) where
 
 -- the end record starts a new block
 module _ (v : Texts) (flag : Bool) (way : Way) (reached : WayFits v flag way) (w : Path) (last : LastFits v way w) (n : ℕ) where
-  new-facts : (d : Taken) → takeOne v flag w ≡ passed d → ltb (count (index_shape v.desc) (text_of v w.index)) (FI v.desc) ≡ true
+  new-facts : (d : Taken) → take_one v flag w ≡ passed d → ltb (count (index_shape v.desc) (text_of v w.index)) (FI v.desc) ≡ true
       → eqb d.block 0 ≡ false → NewFits v flag (starting way w d)
   unfolding FI
   new-facts d e l z =
@@ -96,7 +96,7 @@ module _ (v : Texts) (flag : Bool) (way : Way) (reached : WayFits v flag way) (w
         room = omega arith;
       }
 
-  both_facts : (t : Pair) → takeTwo v flag w ≡ passed t → eqb t.detail 0 ≡ false
+  both_facts : (t : Pair) → take_two v flag w ≡ passed t → eqb t.detail 0 ≡ false
       → SectionFits v flag (starting way w (record { block = t.detail; head = t.index.head; lowest = t.index.lowest })) t.index.block
   both_facts t e z =
       let two = two-new v flag w t e z in
@@ -109,70 +109,70 @@ module _ (v : Texts) (flag : Bool) (way : Way) (reached : WayFits v flag way) (w
         section = two.section;
       }
 
-  new-passed : Passed (ExtendFits v flag) (newAt v flag way w n)
-  unfolding newAt startDeed sectionDeed
+  new-passed : Passed (ExtendFits v flag) (new_at v flag way w n)
+  unfolding new_at start_deed section_deed
   new-passed = search (chain, reached, new-facts, both_facts) depth 16
 
 -- what XTEND will do
-module _ (v : Texts) (good : goodParams v.desc ≡ true) (flag : Bool) (key : List ℕ) where
-  room-passed : (way : Way) (x : ℕ) → LastTakes v flag way → Passed (ExtendFits v flag) (lastRoom v way x)
-  unfolding lastRoom
+module _ (v : Texts) (good : good_params v.desc ≡ true) (flag : Bool) (key : List ℕ) where
+  room-passed : (way : Way) (x : ℕ) → LastTakes v flag way → Passed (ExtendFits v flag) (last_room v way x)
+  unfolding last_room
   room-passed way x r = search (chain, r) depth 12
 
   -- it looks the key up, and does as NSERT does there
   module _ (way : Way) (reached : WayFits v flag way) (w : Path) (last : PathFits v w) where
-    turned-fits : (q : Path) (n : ℕ) → pathTo v key ≡ passed q → BeforeFits v flag w (insert-is.Stop (By q) n)
+    turned-fits : (q : Path) (n : ℕ) → path_to v key ≡ passed q → BeforeFits v flag w (insert-is.Stop (By q) n)
     turned-fits q n e = record { last = last; insert = (path-fits v _ _ key q e, flush-of v flag way reached); outside = tt }
 
-    before-fits : (q : Path) (d : Insert) → pathTo v key ≡ passed q
-        → insertAt v flag q (rowAbove (detailShape v.desc) key (text_of v q.detail)) ≡ passed d → BeforeFits v flag w d
+    before-fits : (q : Path) (d : Insert) → path_to v key ≡ passed q
+        → insert_at v flag q (row_above (detail_shape v.desc) key (text_of v q.detail)) ≡ passed d → BeforeFits v flag w d
     before-fits q d e i = record {
       last = last;
       insert = place-fits v flag key q d (path-fits v _ _ key q e) (flush-of v flag way reached) i;
       outside = insert-outside v flag q _ d i;
     }
 
-    look-passed : Passed (ExtendFits v flag) (lookDeed v flag key way w)
-    unfolding lookDeed insertBefore
+    look-passed : Passed (ExtendFits v flag) (look_deed v flag key way w)
+    unfolding look_deed insert_before
     look-passed = search (chain, turned-fits, before-fits) depth 16
 
-  alone-passed : (way : Way) → WayFits v flag way → count (detailShape v.desc) (textAt v way) ≡ 1 → Passed (ExtendFits v flag) (aloneDeed v flag key way)
-  unfolding aloneDeed
+  alone-passed : (way : Way) → WayFits v flag way → count (detail_shape v.desc) (text_at v way) ≡ 1 → Passed (ExtendFits v flag) (alone_deed v flag key way)
+  unfolding alone_deed
   alone-passed way h e =
       let g = caps v.desc good in
       let f = g.facts in
       let r : LastTakes v flag way = record { reached = h; room = omega arith } in
-      let room : (x : ℕ) → Passed (ExtendFits v flag) (lastRoom v way x) = λ x. room-passed way x r in
-      let look : (w : Path) → last_of v way ≡ passed w → Passed (ExtendFits v flag) (lookDeed v flag key way w) =
+      let room : (x : ℕ) → Passed (ExtendFits v flag) (last_room v way x) = λ x. room-passed way x r in
+      let look : (w : Path) → last_of v way ≡ passed w → Passed (ExtendFits v flag) (look_deed v flag key way w) =
       λ w e. look-passed way h w (last_fits v way (way_at v flag way h) w e).path
       in
       search (chain, room, look) depth 12
 
-  at-passed : (way : Way) → WayFits v flag way → Passed (ExtendFits v flag) (extendAt v flag key way)
-  unfolding extendAt newDeed
+  at-passed : (way : Way) → WayFits v flag way → Passed (ExtendFits v flag) (extend_at v flag key way)
+  unfolding extend_at new_deed
   at-passed way h = search (chain, h, alone, room, new) depth 12
     where
-      alone : eqb (count (detailShape v.desc) (textAt v way)) 1 ≡ true → Passed (ExtendFits v flag) (aloneDeed v flag key way)
-      alone e = alone-passed way h (eqb-true (count (detailShape v.desc) (textAt v way)) 1 e)
+      alone : eqb (count (detail_shape v.desc) (text_at v way)) 1 ≡ true → Passed (ExtendFits v flag) (alone_deed v flag key way)
+      alone e = alone-passed way h (eqb-true (count (detail_shape v.desc) (text_at v way)) 1 e)
 
-      room : ltb (count (detailShape v.desc) (textAt v way)) (FD v.desc) ≡ true → Passed (ExtendFits v flag) (lastRoom v way 0)
+      room : ltb (count (detail_shape v.desc) (text_at v way)) (FD v.desc) ≡ true → Passed (ExtendFits v flag) (last_room v way 0)
       room e =
           let g = caps v.desc good in
-          let m = ltb-true (count (detailShape v.desc) (textAt v way)) (FD v.desc) e in
+          let m = ltb-true (count (detail_shape v.desc) (text_at v way)) (FD v.desc) e in
           room-passed way 0 (record { reached = h; room = omega arith })
 
-      new : (w : Path) → last_of v way ≡ passed w → Passed (ExtendFits v flag) (newAt v flag way w (count (detailShape v.desc) (textAt v way)))
-      new w e = new-passed v flag way h w (last_fits v way (way_at v flag way h) w e) (count (detailShape v.desc) (textAt v way))
+      new : (w : Path) → last_of v way ≡ passed w → Passed (ExtendFits v flag) (new_at v flag way w (count (detail_shape v.desc) (text_at v way)))
+      new w e = new-passed v flag way h w (last_fits v way (way_at v flag way h) w e) (count (detail_shape v.desc) (text_at v way))
 
-  deed-passed : Passed (ExtendFits v flag) (extendDeed v flag key)
-  unfolding extendDeed
+  deed-passed : Passed (ExtendFits v flag) (extend_deed v flag key)
+  unfolding extend_deed
   deed-passed = search (chain, arm) depth 12
     where
-      arm : (way : Way) → lastWay v flag ≡ passed way → Passed (ExtendFits v flag) (extendAt v flag key way)
+      arm : (way : Way) → last_way v flag ≡ passed way → Passed (ExtendFits v flag) (extend_at v flag key way)
       arm way e = at-passed way (way-fits v flag way e)
 
   -- the same of the code's answer
-  extend_fits : (d : Extend) → asExtend d ≡ extendDeed v flag key → ExtendFits v flag d
+  extend_fits : (d : Extend) → as_extend d ≡ extend_deed v flag key → ExtendFits v flag d
   extend_fits Bad e = tt
   extend_fits (Stop way x n) e = deed-passed.holds (Stop way x n) (sym e)
   extend_fits (Room way x n) e = deed-passed.holds (Room way x n) (sym e)
@@ -182,5 +182,5 @@ module _ (v : Texts) (good : goodParams v.desc ≡ true) (flag : Bool) (key : Li
 
 -- and of the texts that the code has, with the key in its workspace
 pub plan-fits : (p : Description) (cur : ℕ) (f b : List ℕ) (flag : Bool) (work : List ℕ) (d : Extend)
-    → asExtend d ≡ extendDeed (seen p cur f b) flag (part 0 p.k work) → Fitting p f b → ExtendFits (seen p cur f b) flag d
+    → as_extend d ≡ extend_deed (seen p cur f b) flag (part 0 p.k work) → Fitting p f b → ExtendFits (seen p cur f b) flag d
 plan-fits p cur f b flag work d e fit = extend_fits (seen p cur f b) fit.good flag (part 0 p.k work) d e

@@ -7,19 +7,19 @@ use native.Mathlib.Omega.{arith}
 use mir.Syntax.{w64}
 use mir.Val.{Fits}
 use lib.ListN.{length, take, drop}
-use Rattle.words.specs.Words.{part, allAre}
-use Rattle.words.specs.Keys.{keyLt, isOnes}
+use Rattle.words.specs.Words.{part, all_are}
+use Rattle.words.specs.Keys.{key_lt, is_ones}
 use Rattle.words.proofs.Parts.{length_part}
 use Rattle.table.specs.declared.Shape.{Shape}
 use Rattle.table.specs.Tables.{count, place, key_at}
 use Rattle.drum.specs.declared.Description.{Description}
-use Rattle.drum.specs.Params.{D, goodParams, detailShape, index_shape, masterShape}
+use Rattle.drum.specs.Params.{D, good_params, detail_shape, index_shape, master_shape}
 use Rattle.drum.specs.Blocks.{Fitting, Texts, seen, text_of}
 use Rattle.drum.proofs.Good.{caps}
-use Rattle.drum.proofs.Blocks.{length-textOf}
+use Rattle.drum.proofs.Blocks.{length-text_of}
 use Rattle.rules.specs.declared.Path.{Path}
 use Rattle.rules.specs.Fits.{PathFits}
-use Rattle.rules.specs.Xtend.{endsInOnes}
+use Rattle.rules.specs.Xtend.{ends_in_ones}
 use Rattle.rules.proofs.Rooms.{detail-row, index-row, master-row}
 use Rattle.xtend.specs.Fits.{RecordsIn}
 
@@ -54,8 +54,8 @@ record RowIn (p : Description) (t : List ℕ) (i : ℕ) : Type 0 where
   bytes : Fits w64 ((1 + i * p.wpr) * 4)
   key : p.k ≤ p.wpr
 
-row_in : (p : Description) (t : List ℕ) (i : ℕ) → goodParams p ≡ true → length t ≡ p.wpb → i < D p → RowIn p t i
-unfolding detailShape
+row_in : (p : Description) (t : List ℕ) (i : ℕ) → good_params p ≡ true → length t ≡ p.wpb → i < D p → RowIn p t i
+unfolding detail_shape
 row_in p t i good l h =
     let g = caps p good in
     let q = g.facts in
@@ -77,10 +77,10 @@ module _ (p : Description) (t : List ℕ) (m : ℕ) (has : RecordsIn p t m) wher
       omega arith
 
 -- the last record
-module _ (p : Description) (t : List ℕ) (n : ℕ) (en : n ≡ count (detailShape p) t) where
+module _ (p : Description) (t : List ℕ) (n : ℕ) (en : n ≡ count (detail_shape p) t) where
   module _ (has : RecordsIn p t 1) where
-    last_row : RowIn p t (n - 1)
-    last_row =
+    last_row_lem : RowIn p t (n - 1)
+    last_row_lem =
         let a = has.least in
         let b = has.most in
         row_in p t (n - 1) has.good has.text-is (omega arith)
@@ -90,7 +90,7 @@ module _ (p : Description) (t : List ℕ) (n : ℕ) (en : n ≡ count (detailSha
 
     pub last-key : 1 + (n - 1) * p.wpr + p.k ≤ length t
     last-key =
-        let r = last_row in
+        let r = last_row_lem in
         omega arith
 
     pub last-times : Fits w64 ((n - 1) * p.wpr)
@@ -112,12 +112,12 @@ module _ (p : Description) (t : List ℕ) (n : ℕ) (en : n ≡ count (detailSha
         let l = ap length (span (1 + (n - 1) * p.wpr) p.wpr t) ∙ length_part (1 + (n - 1) * p.wpr) p.wpr t last_within in
         omega arith
 
-    pub last-place : (h : Shape) → h ≡ detailShape p → place h (n - 1) + p.wpr ≤ length t
-    unfolding detailShape
+    pub last-place : (h : Shape) → h ≡ detail_shape p → place h (n - 1) + p.wpr ≤ length t
+    unfolding detail_shape
     last-place h eh = rw eh last_within
 
-  pub ends-told : (r : Bool) → r ≡ allAre 262143 (part (1 + (n - 1) * p.wpr) p.k t) → r ≡ endsInOnes p t
-  unfolding isOnes key_at detailShape
+  pub ends-told : (r : Bool) → r ≡ all_are 262143 (part (1 + (n - 1) * p.wpr) p.k t) → r ≡ ends_in_ones p t
+  unfolding is_ones key_at detail_shape
   ends-told r e = rw en at e
 
   -- the one before it
@@ -139,9 +139,9 @@ module _ (p : Description) (t : List ℕ) (n : ℕ) (en : n ≡ count (detailSha
     pub before-start : Fits w64 (1 + (n - 2) * p.wpr)
     before-start = before-row.start
 
-  pub above-told : (r : Bool) (key : List ℕ) → r ≡ keyLt (part (1 + (n - 2) * p.wpr) p.k t) (part 0 p.k key)
-      → r ≡ keyLt (key_at (detailShape p) t (count (detailShape p) t - 2)) (part 0 p.k key)
-  unfolding key_at detailShape
+  pub above-told : (r : Bool) (key : List ℕ) → r ≡ key_lt (part (1 + (n - 2) * p.wpr) p.k t) (part 0 p.k key)
+      → r ≡ key_lt (key_at (detail_shape p) t (count (detail_shape p) t - 2)) (part 0 p.k key)
+  unfolding key_at detail_shape
   above-told r key e = rw en at e
 
 -- the bound before the path's entry: of the section before, or of the entry before
@@ -151,7 +151,7 @@ module _ (p : Description) (cur : ℕ) (f b : List ℕ) (w : Path) where
 
   module _ (path : PathFits v w) (fit : Fitting p f b) where
     section-row : 3 + (w.section - 1) * (p.k + 1) + (p.k + 1) ≤ length f
-    unfolding masterShape
+    unfolding master_shape
     section-row =
         let g = caps p fit.good in
         let l = fit.file-is in
@@ -185,11 +185,11 @@ module _ (p : Description) (cur : ℕ) (f b : List ℕ) (w : Path) where
 
     module _ (t : List ℕ) (et : t ≡ text_of v w.index) where
       text-length : length t ≡ p.wpb
-      text-length = ap length et ∙ length-textOf v w.index fit (path.index-least, path.index-most)
+      text-length = ap length et ∙ length-text_of v w.index fit (path.index-least, path.index-most)
 
-      entry_row : 1 + (w.entry - 1) * (p.k + 1) + (p.k + 1) ≤ length t
+      entry_row_lem : 1 + (w.entry - 1) * (p.k + 1) + (p.k + 1) ≤ length t
       unfolding index_shape
-      entry_row =
+      entry_row_lem =
           let l = text-length in
           let s = path.entry-below in
           let m = path.entries-most in
@@ -198,7 +198,7 @@ module _ (p : Description) (cur : ℕ) (f b : List ℕ) (w : Path) where
 
       pub entry_key : 1 + (w.entry - 1) * (p.k + 1) + p.k ≤ length t
       entry_key =
-          let r = entry_row in
+          let r = entry_row_lem in
           omega arith
 
     entry-most : 1 + (w.entry - 1) * (p.k + 1) ≤ 4096
@@ -206,7 +206,7 @@ module _ (p : Description) (cur : ℕ) (f b : List ℕ) (w : Path) where
         let g = caps p fit.good in
         let q = g.facts in
         let l = text-length (text_of v w.index) (λ j. text_of v w.index) in
-        let r = entry_row (text_of v w.index) (λ j. text_of v w.index) in
+        let r = entry_row_lem (text_of v w.index) (λ j. text_of v w.index) in
         omega arith
 
     pub entry-times : Fits w64 ((w.entry - 1) * (p.k + 1))

@@ -10,14 +10,14 @@ use Rattle.table.specs.declared.Shape.{Shape}
 use Rattle.table.specs.Tables.{count, place, inserted, replaced, laid}
 use Rattle.table.proofs.Lengths.{length-laid}
 use Rattle.drum.specs.declared.Description.{Description}
-use Rattle.drum.specs.Params.{I, fileSize, masterShape, index_shape}
-use Rattle.drum.specs.Blocks.{Block, block_at, putBlock, sections}
+use Rattle.drum.specs.Params.{I, file_size, master_shape, index_shape}
+use Rattle.drum.specs.Blocks.{Block, block_at, put_block, sections}
 use Rattle.drum.specs.Inside.{Takes}
 use Rattle.drum.proofs.Good.{caps}
 use Rattle.drum.proofs.Forms.{index-tag, count-master}
-use Rattle.drum.proofs.Blocks.{length-block, length-putBlock, block_same, master-word}
+use Rattle.drum.proofs.Blocks.{length-block, length-put_block, block_same, master-word}
 use Rattle.drum.proofs.Lent.{changed-twice}
-use Rattle.rules.specs.XtendDone.{onesEntry, bounded, extended}
+use Rattle.rules.specs.XtendDone.{ones_entry, bounded, extended}
 use Rattle.rules.proofs.Rooms.{index-end, index-row, master-row}
 use Rattle.rules.proofs.Sizes.{ones-length}
 use Rattle.xtend.specs.Fits.{LastIn, LastRoomIn, IndexTakes, SectionIn}
@@ -57,7 +57,7 @@ module _ (p : Description) (f : List ℕ) (i : ℕ) (key : List ℕ) (has : Inde
 
     -- an entry has words enough
     pub entry-most : (b : ℕ) (entry : List ℕ) → part 0 (p.k + 1) entry ≡ ones p.k ++ (b ∷ []) → h.stride ≤ length entry
-    unfolding index_shape part onesEntry
+    unfolding index_shape part ones_entry
     entry-most b entry e =
         let l : length (take (p.k + 1) entry) ≡ p.k + 1 = ap length e ∙ ones-length p b in
         let m = simp length-take at l in
@@ -86,7 +86,7 @@ module _ (p : Description) (f : List ℕ) (i : ℕ) (key : List ℕ) (has : Inde
       }
 
   -- and then it takes an entry more
-  module _ (f₁ : List ℕ) (e₁ : f₁ ≡ putBlock p f i (bounded (index_shape p) (part 0 p.k key) (block_at p f i))) where
+  module _ (f₁ : List ℕ) (e₁ : f₁ ≡ put_block p f i (bounded (index_shape p) (part 0 p.k key) (block_at p f i))) where
     bound-text : block_at p f₁ i ≡ bounded (index_shape p) (part 0 p.k key) (block_at p f i)
     bound-text = ap (λ (z : List ℕ). block_at p z i) e₁ ∙ block_same p f has.held.file-is i index-block _ bound-length
 
@@ -111,24 +111,24 @@ unfolding index_shape
 index-stride p h e = rw e
 
 pub bound-told : (p : Description) (f f₁ : List ℕ) (i n : ℕ) (h : Shape) (key : List ℕ) → h ≡ index_shape p → n ≡ count (index_shape p) (block_at p f i)
-    → f₁ ≡ putBlock p f i (replaced h (n - 1) (part 0 h.width key) (block_at p f i))
-    → f₁ ≡ putBlock p f i (bounded (index_shape p) (part 0 p.k key) (block_at p f i))
+    → f₁ ≡ put_block p f i (replaced h (n - 1) (part 0 h.width key) (block_at p f i))
+    → f₁ ≡ put_block p f i (bounded (index_shape p) (part 0 p.k key) (block_at p f i))
 unfolding bounded index_shape
 bound-told p f f₁ i n h key eh en e = rw (e, eh, en)
 
 module _ (p : Description) (f f₁ f₂ : List ℕ) (i n b : ℕ) (h : Shape) (key entry : List ℕ) where
   pub extended-told : h ≡ index_shape p → n ≡ count (index_shape p) (block_at p f i) → part 0 (p.k + 1) entry ≡ ones p.k ++ (b ∷ [])
-      → f₁ ≡ putBlock p f i (bounded (index_shape p) (part 0 p.k key) (block_at p f i))
-      → f₂ ≡ putBlock p f₁ i (inserted h n (part 0 h.stride entry) (block_at p f₁ i))
+      → f₁ ≡ put_block p f i (bounded (index_shape p) (part 0 p.k key) (block_at p f i))
+      → f₂ ≡ put_block p f₁ i (inserted h n (part 0 h.stride entry) (block_at p f₁ i))
       → IndexTakes p f i key → count (index_shape p) (block_at p f i) < I p → b ≤ p.n
-      → f₂ ≡ putBlock p f i (extended p (index_shape p) (part 0 p.k key) b (block_at p f i))
+      → f₂ ≡ put_block p f i (extended p (index_shape p) (part 0 p.k key) b (block_at p f i))
   unfolding extended
   extended-told eh en e e₁ e₂ has room hb =
-      let q : part 0 h.stride entry ≡ onesEntry p b = entry-is p h b entry (index-stride p h eh) e in
-      let g : f₂ ≡ putBlock p f₁ i (inserted (index_shape p) (count (index_shape p) (block_at p f i)) (onesEntry p b) (block_at p f₁ i)) = rw (e₂, q, eh, en) in
+      let q : part 0 h.stride entry ≡ ones_entry p b = entry-is p h b entry (index-stride p h eh) e in
+      let g : f₂ ≡ put_block p f₁ i (inserted (index_shape p) (count (index_shape p) (block_at p f i)) (ones_entry p b) (block_at p f₁ i)) = rw (e₂, q, eh, en) in
       let l = length-extended p (index_shape p) (block_at p f i) key b (index-room p f i key has b hb room) ∙ index-length p f i key has in
       changed-twice p f f₁ f₂ i _ _ has.held (bound-length p f i key has) l e₁
-      (inserted (index_shape p) (count (index_shape p) (block_at p f i)) (onesEntry p b)) g refl
+      (inserted (index_shape p) (count (index_shape p) (block_at p f i)) (ones_entry p b)) g refl
 
 -- a new index block x, and its section
 module _ (p : Description) (f : List ℕ) (i : ℕ) (key : List ℕ) (b x : ℕ) (has : SectionIn p f i key b x) where
@@ -148,27 +148,27 @@ module _ (p : Description) (f : List ℕ) (i : ℕ) (key : List ℕ) (b x : ℕ)
   old-block : Block p i
   old-block = (has.old.held.least, has.old.held.most)
 
-  laid-is : length (laid p.wpb ((index_shape p).tag + 1) (onesEntry p b)) ≡ p.wpb
+  laid-is : length (laid p.wpb ((index_shape p).tag + 1) (ones_entry p b)) ≡ p.wpb
   laid-is =
       let g = caps p has.old.held.good in
       let l = ones-length p b in
-      length-laid p.wpb ((index_shape p).tag + 1) (onesEntry p b) (omega arith)
+      length-laid p.wpb ((index_shape p).tag + 1) (ones_entry p b) (omega arith)
 
-  bounded-is : length (putBlock p f i (bounded (index_shape p) (part 0 p.k key) (block_at p f i))) ≡ fileSize p
-  bounded-is = length-putBlock p f has.old.held.file-is i old-block _ (bound-length p f i key has.old)
+  bounded-is : length (put_block p f i (bounded (index_shape p) (part 0 p.k key) (block_at p f i))) ≡ file_size p
+  bounded-is = length-put_block p f has.old.held.file-is i old-block _ (bound-length p f i key has.old)
 
   -- the entry's words are lent
   pub entry-small : (entry : List ℕ) → part 0 (p.k + 1) entry ≡ ones p.k ++ (b ∷ []) → 1 + length (take (p.k + 1 - 0) (drop 0 entry)) ≤ p.wpb
-  unfolding part onesEntry
+  unfolding part ones_entry
   entry-small entry e =
       let g = caps p has.old.held.good in
       let l : length (take (p.k + 1) (drop 0 entry)) ≡ p.k + 1 = ap length e ∙ ones-length p b in
       let z : p.k + 1 - 0 ≡ p.k + 1 = omega arith in
       rw z (omega arith)
 
-  length-indexed : length (indexed p (part 0 p.k key) i b x f) ≡ fileSize p
+  length-indexed : length (indexed p (part 0 p.k key) i b x f) ≡ file_size p
   unfolding indexed
-  length-indexed = length-putBlock p _ bounded-is x new-block _ laid-is
+  length-indexed = length-put_block p _ bounded-is x new-block _ laid-is
 
   sections-indexed : sections (indexed p (part 0 p.k key) i b x f) ≡ sections f
   unfolding indexed
@@ -177,12 +177,12 @@ module _ (p : Description) (f : List ℕ) (i : ℕ) (key : List ℕ) (b x : ℕ)
       master-word p _ bounded-is x new-block _ laid-is 0 (omega arith)
       ∙ master-word p f has.old.held.file-is i old-block _ (bound-length p f i key has.old) 0 (omega arith)
 
-  indexed-room : LastRoomIn p (masterShape p) (indexed p (part 0 p.k key) i b x f) key x
-  unfolding masterShape
+  indexed-room : LastRoomIn p (master_shape p) (indexed p (part 0 p.k key) i b x f) key x
+  unfolding master_shape
   indexed-room =
       let g = caps p has.old.held.good in
       let q = g.facts in
-      let s : count (masterShape p) (indexed p (part 0 p.k key) i b x f) ≡ sections f = count-master p _ ∙ sections-indexed in
+      let s : count (master_shape p) (indexed p (part 0 p.k key) i b x f) ≡ sections f = count-master p _ ∙ sections-indexed in
       let l = length-indexed in
       let a = has.least in
       let c = has.room in
@@ -205,15 +205,15 @@ module _ (p : Description) (f : List ℕ) (i : ℕ) (key : List ℕ) (b x : ℕ)
 -- `start_index` and `start_section`, by what their calls left
 module _ (p : Description) (f : List ℕ) (i : ℕ) (key : List ℕ) (b x : ℕ) where
   pub indexed-by : (h : Shape) (f₁ f₂ entry : List ℕ) → h ≡ index_shape p → part 0 (p.k + 1) entry ≡ ones p.k ++ (b ∷ [])
-      → f₁ ≡ putBlock p f i (bounded (index_shape p) (part 0 p.k key) (block_at p f i))
-      → f₂ ≡ putBlock p f₁ x (laid p.wpb (h.tag + 1) (take (p.k + 1 - 0) (drop 0 entry))) → f₂ ≡ indexed p (part 0 p.k key) i b x f
-  unfolding indexed onesEntry part
+      → f₁ ≡ put_block p f i (bounded (index_shape p) (part 0 p.k key) (block_at p f i))
+      → f₂ ≡ put_block p f₁ x (laid p.wpb (h.tag + 1) (take (p.k + 1 - 0) (drop 0 entry))) → f₂ ≡ indexed p (part 0 p.k key) i b x f
+  unfolding indexed ones_entry part
   indexed-by h f₁ f₂ entry eh e e₁ e₂ = rw (e₂, eh, z, e, e₁)
     where
       z : p.k + 1 - 0 ≡ p.k + 1
       z = omega arith
 
-  module _ (h : Shape) (f₁ : List ℕ) (eh : h ≡ masterShape p) (e₁ : f₁ ≡ indexed p (part 0 p.k key) i b x f) where
+  module _ (h : Shape) (f₁ : List ℕ) (eh : h ≡ master_shape p) (e₁ : f₁ ≡ indexed p (part 0 p.k key) i b x f) where
     pub section-room : SectionIn p f i key b x → LastRoomIn p h f₁ key x
     section-room has = rw (eh, e₁) (indexed-room p f i key b x has)
 

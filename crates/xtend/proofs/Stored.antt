@@ -12,14 +12,14 @@ use Rattle.words.specs.Words.{part}
 use Rattle.table.specs.declared.Shape.{Shape}
 use Rattle.table.specs.Tables.{count, place, inserted}
 use Rattle.drum.specs.declared.Description.{Description}
-use Rattle.drum.specs.Params.{D, detailShape}
+use Rattle.drum.specs.Params.{D, detail_shape}
 use Rattle.drum.specs.Blocks.{Fitting, Read, Texts, seen}
 use Rattle.drum.proofs.Good.{caps}
 use Rattle.drum.proofs.Forms.{detail-tag}
 use Rattle.rules.specs.declared.Way.{Way}
 use Rattle.rules.specs.declared.Done.{Done}
-use Rattle.rules.specs.State.{recordIn}
-use Rattle.rules.specs.Lookup.{reached, textAt, stopping, storing}
+use Rattle.rules.specs.State.{record_in}
+use Rattle.rules.specs.Lookup.{reached, text_at, stopping, storing}
 use Rattle.rules.specs.Told.{Told, gave, told}
 use Rattle.rules.specs.XtendDone.{reading}
 use Rattle.rules.proofs.Rooms.{detail-row}
@@ -28,7 +28,7 @@ use Rattle.acts.specs.Reach.{Come, came, come}
 use Rattle.acts.proofs.Moves.{reached-fits, reached-text, way-counts}
 use Rattle.acts.proofs.Ways.{moves-most}
 use Rattle.xtend.specs.Fits.{LastTakes}
-use Rattle.xtend.specs.Steps.{besides, roomDone}
+use Rattle.xtend.specs.Steps.{besides, room_done}
 
 -- block 0 is not read, another is
 module _ (x : ℕ) where
@@ -60,7 +60,7 @@ module _ (p : Description) (cur : ℕ) (f b : List ℕ) (flag : Bool) (way : Way
   v = seen p cur f b
 
   module _ (fits : LastTakes v flag way) (e : came a g t ≡ come (reached v flag way)) (fit : Fitting p f b) where
-    text-is : t ≡ textAt v way
+    text-is : t ≡ text_at v way
     text-is = ap (λ (z : Come). z.buffer) e ∙ reached-text v flag way
 
     text-length : length t ≡ p.wpb
@@ -72,38 +72,38 @@ module _ (p : Description) (cur : ℕ) (f b : List ℕ) (flag : Bool) (way : Way
         let l = text-length in
         omega arith
 
-    pub end-least : (n : ℕ) → n ≡ count (detailShape p) t → 1 ≤ n
+    pub end-least : (n : ℕ) → n ≡ count (detail_shape p) t → 1 ≤ n
     end-least n en =
         let c = way-counts v flag way fits.reached in
-        let m : count (detailShape p) t ≡ count (detailShape p) (textAt v way) = ap (count (detailShape p)) text-is in
+        let m : count (detail_shape p) t ≡ count (detail_shape p) (text_at v way) = ap (count (detail_shape p)) text-is in
         omega arith
 
-    text-room : count (detailShape p) t < D p
+    text-room : count (detail_shape p) t < D p
     text-room = rw text-is fits.room
 
-    pub insert-room : (h : Shape) → h ≡ detailShape p → place h (count h t) + h.stride ≤ length t
-    unfolding detailShape
+    pub insert-room : (h : Shape) → h ≡ detail_shape p → place h (count h t) + h.stride ≤ length t
+    unfolding detail_shape
     insert-room h eh =
-        let r = detail-row p fit.good (count (detailShape p) t) text-room in
+        let r = detail-row p fit.good (count (detail_shape p) t) text-room in
         rw (eh, text-length) r
 
-    pub insert-most : (h : Shape) → h ≡ detailShape p → h.tag + count h t < 262143
+    pub insert-most : (h : Shape) → h ≡ detail_shape p → h.tag + count h t < 262143
     insert-most h eh =
         let q = caps p fit.good in
         let r = text-room in
         rw eh (omega (arith, detail-tag p fit.good))
 
-  pub insert-place : (h : Shape) (n : ℕ) → n ≡ count (detailShape p) t → h ≡ detailShape p → n - 1 ≤ count h t
+  pub insert-place : (h : Shape) (n : ℕ) → n ≡ count (detail_shape p) t → h ≡ detail_shape p → n - 1 ≤ count h t
   insert-place h n en eh = rw (eh, ← en) (omega arith)
 
   pub stored-told : (h : Shape) (n number : ℕ) (u work : List ℕ) → came a g t ≡ come (reached v flag way)
-      → u ≡ inserted h (n - 1) (part 0 h.stride work) t → n ≡ count (detailShape p) t → h ≡ detailShape p
+      → u ≡ inserted h (n - 1) (part 0 h.stride work) t → n ≡ count (detail_shape p) t → h ≡ detail_shape p
       → gave (record { number = number; transfers = a.transfers; current = a.current; flag = true; keyed = true }) g u work
-      ≡ told v flag work (roomDone v flag work way number)
-  unfolding roomDone storing detailShape
+      ≡ told v flag work (room_done v flag work way number)
+  unfolding room_done storing detail_shape
   stored-told h n number u work e eu en eh =
       let et : t ≡ (reached v flag way).buffer = ap (λ (z : Come). z.buffer) e in
-      let s : List ℕ → List ℕ = λ z. inserted (detailShape p) (count (detailShape p) z - 1) (recordIn p work) z in
+      let s : List ℕ → List ℕ = λ z. inserted (detail_shape p) (count (detail_shape p) z - 1) (record_in p work) z in
       let x : u ≡ s t = rw (eu, en, eh) in
       let y : u ≡ s (reached v flag way).buffer = x ∙ ap s et in
       λ j. record {
@@ -118,12 +118,12 @@ module _ (p : Description) (cur : ℕ) (f b : List ℕ) (flag : Bool) (way : Way
       }
 
 -- the rows of a detail block begin behind its count, and a record has the workspace's words
-pub detail-base : (p : Description) (h : Shape) → h ≡ detailShape p → 1 ≤ h.base
-unfolding detailShape
+pub detail-base : (p : Description) (h : Shape) → h ≡ detail_shape p → 1 ≤ h.base
+unfolding detail_shape
 detail-base p h e = rw e (omega arith)
 
-pub record-given : (p : Description) (h : Shape) (work : List ℕ) → h ≡ detailShape p → length work ≡ p.wpr → 0 + h.stride ≤ length work
-unfolding detailShape
+pub record-given : (p : Description) (h : Shape) (work : List ℕ) → h ≡ detail_shape p → length work ≡ p.wpr → 0 + h.stride ≤ length work
+unfolding detail_shape
 record-given p h work e l = rw e (omega arith)
 
 -- few transfers are made before an index block's read is counted besides; and then they are those of the list
@@ -135,8 +135,8 @@ module _ (v : Texts) (flag : Bool) (way : Way) (n x : ℕ) (work : List ℕ) (d 
       let m = moves-most v flag way in
       omega arith
 
-  pub room-few : gave d g t work ≡ told v flag work (roomDone v flag work way n) → d.transfers ≤ 3
-  unfolding roomDone storing
+  pub room-few : gave d g t work ≡ told v flag work (room_done v flag work way n) → d.transfers ≤ 3
+  unfolding room_done storing
   room-few e =
       let q : d.transfers ≡ length (reached v flag way).moves = ap (λ (z : Told). z.transfers) e in
       let m = moves-most v flag way in
@@ -165,12 +165,12 @@ module _ (v : Texts) (flag : Bool) (way : Way) (n x : ℕ) (work : List ℕ) (d 
         work = work;
       }
 
-  pub room-besides : gave d g t work ≡ told v flag work (roomDone v flag work way n)
+  pub room-besides : gave d g t work ≡ told v flag work (room_done v flag work way n)
       → gave (besides x d) g t work
       ≡ told v flag work (passed (storing n work (reading x (reached v flag way))
-      (inserted (detailShape v.desc) (count (detailShape v.desc) (reached v flag way).buffer - 1) (recordIn v.desc work)
+      (inserted (detail_shape v.desc) (count (detail_shape v.desc) (reached v flag way).buffer - 1) (record_in v.desc work)
       (reached v flag way).buffer)))
-  unfolding roomDone storing reading besides
+  unfolding room_done storing reading besides
   room-besides e =
       let c = counted (ap (λ (z : Told). z.transfers) e) in
       λ j. record {

@@ -3,7 +3,7 @@ use Rattle.std.specs.Prelude.{ℕ, ◌+◌, ◌≤◌, ◌<◌, ◌≡◌, Bool,
 use Rattle.table.specs.declared.Shape.{Shape}
 use Rattle.table.specs.Tables.{count, place}
 use Rattle.drum.specs.declared.Description.{Description}
-use Rattle.drum.specs.Params.{D, I, goodParams, detailShape, index_shape}
+use Rattle.drum.specs.Params.{D, I, good_params, detail_shape, index_shape}
 use Rattle.drum.specs.Blocks.{Texts, Fitting, text_of, block_at, sections, Block}
 use Rattle.drum.specs.Inside.{HasBlock}
 use Rattle.rules.specs.declared.Path.{Path}
@@ -12,7 +12,7 @@ use Rattle.rules.specs.declared.Way.TheVariants.{Here, By}
 use Rattle.rules.specs.declared.Insert.{Insert}
 use Rattle.rules.specs.declared.Extend.{Extend}
 use Rattle.rules.specs.declared.Extend.TheVariants as extend-is
-use Rattle.rules.specs.Lookup.{textAt}
+use Rattle.rules.specs.Lookup.{text_at}
 use Rattle.rules.specs.Fits.{PathFits, BufferFits, WayFits, New, Outside}
 use Rattle.free.specs.Readied.{ReadyFits}
 use Rattle.nsert.specs.Fits.{InsertFits}
@@ -27,7 +27,7 @@ AtFits v (By w) = PathFits v w
 -- what a plan to insert tells the code that carries it out [C26]
 pub record LastTakes (v : Texts) (flag : Bool) (way : Way) : Type 0 where
   pub reached : WayFits v flag way
-  pub room : count (detailShape v.desc) (textAt v way) < D v.desc
+  pub room : count (detail_shape v.desc) (text_at v way) < D v.desc
 
 -- the end record starts a block: what both kinds of a new block have
 pub record StartFits (v : Texts) (flag : Bool) (s : Start) : Type 0 where
@@ -63,10 +63,10 @@ ExtendFits v flag (extend-is.Before way w d) = BeforeFits v flag w d
 
 -- the text of a detail block with n records or more
 pub record RecordsIn (p : Description) (t : List ℕ) (n : ℕ) : Type 0 where
-  pub good : goodParams p ≡ true
+  pub good : good_params p ≡ true
   pub text-is : length t ≡ p.wpb
-  pub least : n ≤ count (detailShape p) t
-  pub most : count (detailShape p) t ≤ D p
+  pub least : n ≤ count (detail_shape p) t
+  pub most : count (detail_shape p) t ≤ D p
 
 -- the last block's text in the buffer, with the record that takes the end record's place
 pub record EndIn (p : Description) (f b work : List ℕ) : Type 0 where
@@ -84,7 +84,7 @@ pub record LastIn (p : Description) (h : Shape) (t key : List ℕ) : Type 0 wher
 
 -- the same with room for an entry more, of block b
 pub record LastRoomIn (p : Description) (h : Shape) (t key : List ℕ) (b : ℕ) : Type 0 where
-  pub good : goodParams p ≡ true
+  pub good : good_params p ≡ true
   pub last : LastIn p h t key
   pub most : h.tag + count h t < 262143
   pub room : place h (count h t) + h.stride ≤ length t

@@ -2,17 +2,17 @@
 // are below it NSERT is planned there.
 ghost use Rattle.std.specs.Prelude.{◌≡◌, ◌&&◌, ◌-◌, ◌≤◌, length};
 ghost use Rattle.words.specs.Words.{part};
-ghost use Rattle.words.specs.Keys.{keyLt};
+ghost use Rattle.words.specs.Keys.{key_lt};
 ghost use Rattle.words.specs.Slices.{was};
 ghost use Rattle.table.specs.Tables.{count, key_at};
-ghost use Rattle.drum.specs.Params.{detailShape};
+ghost use Rattle.drum.specs.Params.{detail_shape};
 ghost use Rattle.drum.specs.Blocks.{Fitting};
 ghost use Rattle.rules.specs.Fits.{PathFits};
-ghost use Rattle.rules.specs.Xtend.{justBefore, notBehind, apart, lookDeed};
-ghost use Rattle.acts.specs.Reach.{seenBy};
-ghost use Rattle.xtend.specs.Answers.{asExtend};
+ghost use Rattle.rules.specs.Xtend.{just_before, not_behind, apart, look_deed};
+ghost use Rattle.acts.specs.Reach.{seen_by};
+ghost use Rattle.xtend.specs.Answers.{as_extend};
 ghost use Rattle.xtend.specs.Fits.{RecordsIn};
-ghost use Rattle.xtend.specs.Steps.{besideLast};
+ghost use Rattle.xtend.specs.Steps.{beside_last};
 
 use drum::Description;
 use lookup::Route;
@@ -23,8 +23,8 @@ use table::Want;
 
 // Whether the entry of the path q is the one just before that of w: in its index block, or the last of the section before.
 fn just_before<'a>(at: Held, file: &'a [u32], buffer: &'a [u32], q: Path, w: Path) -> bool
-    requires { Fitting at.desc file.now buffer.now × PathFits (seenBy at file.now buffer.now) q }
-    ensures { result ≡ justBefore (seenBy at (was file) (was buffer)) q w }
+    requires { Fitting at.desc file.now buffer.now × PathFits (seen_by at file.now buffer.now) q }
+    ensures { result ≡ just_before (seen_by at (was file) (was buffer)) q w }
 {
     if w.entry != 0 {
         if q.section != w.section {
@@ -42,7 +42,7 @@ fn just_before<'a>(at: Held, file: &'a [u32], buffer: &'a [u32], q: Path, w: Pat
 // Whether the last key of a detail block's text is below the key.
 fn ends_below(p: Description, t: &[u32], key: &[u32]) -> bool
     requires { RecordsIn p t.now 1 × (p.k ≤ length key.now) }
-    ensures { result ≡ keyLt (key_at (detailShape p) (was t) (count (detailShape p) (was t) - 1)) (part 0 p.k (was key)) }
+    ensures { result ≡ key_lt (key_at (detail_shape p) (was t) (count (detail_shape p) (was t) - 1)) (part 0 p.k (was key)) }
 {
     let n = drum::kinds::records_in(p, t);
     words::key_below(t, 1 + (n - 1) * p.wpr, key, 0, p.k)
@@ -59,8 +59,8 @@ fn not_behind<'a>(
 ) -> bool
     requires { Fitting at.desc file.now buffer.now
         × (at.desc.k ≤ length key.now)
-        × PathFits (seenBy at file.now buffer.now) q }
-    ensures { result ≡ notBehind (seenBy at (was file) (was buffer)) (part 0 at.desc.k (was key)) w q }
+        × PathFits (seen_by at file.now buffer.now) q }
+    ensures { result ≡ not_behind (seen_by at (was file) (was buffer)) (part 0 at.desc.k (was key)) w q }
 {
     let p = at.desc;
     let t = drum::text_of(p, at.current, file, buffer, q.detail);
@@ -100,7 +100,7 @@ fn are_apart(way: Way, w: Path, b: usize, x: usize) -> bool
 
 // NSERT's plan as XTEND's, if its new blocks are such.
 fn beside_last(way: Way, w: Path, d: Insert) -> Extend
-    ensures { asExtend result ≡ besideLast way w d }
+    ensures { as_extend result ≡ beside_last way w d }
 {
     match d {
         Insert::Bad => Extend::Bad,
@@ -131,7 +131,7 @@ pub fn look_deed<'a>(
     w: Path,
 ) -> Extend
     requires { Fitting at.desc file.now buffer.now × (at.desc.k ≤ length key.now) }
-    ensures { asExtend result ≡ lookDeed (seenBy at (was file) (was buffer)) at.flag (part 0 at.desc.k (was key)) way w }
+    ensures { as_extend result ≡ look_deed (seen_by at (was file) (was buffer)) at.flag (part 0 at.desc.k (was key)) way w }
 {
     let Route::To(q) = lookup::path_by(at, file, buffer, Which::Covering, Which::Covering, key)
     else {

@@ -3,10 +3,10 @@ ghost use Rattle.std.specs.Prelude.{◌≡◌, ◌≤◌, length};
 ghost use Rattle.drum.specs.Blocks.{Fitting, Block};
 ghost use Rattle.rules.specs.Lookup.{reached};
 ghost use Rattle.rules.specs.Told.{FollowsAt};
-ghost use Rattle.rules.specs.XtendDone.{extendDone};
-ghost use Rattle.acts.specs.Reach.{seenBy};
+ghost use Rattle.rules.specs.XtendDone.{extend_done};
+ghost use Rattle.acts.specs.Reach.{seen_by};
 ghost use Rattle.xtend.specs.Fits.{EndIn, LastTakes, StartFits, NewFits, SectionFits, ExtendFits};
-ghost use Rattle.xtend.specs.Steps.{besides, lead, led, roomDone, swapped, startedFile, newAll, newLeft, sectionAll, sectionLeft};
+ghost use Rattle.xtend.specs.Steps.{besides, lead, led, room_done, swapped, started_file, new_all, new_left, section_all, section_left};
 ghost use Rattle.words.specs.Slices.{was, became};
 
 use super::index::{extend_in, start_section};
@@ -75,8 +75,8 @@ fn store_last(
 ) -> Done
     requires { Fitting at.desc file.old buffer.old
         × (length work.now ≡ at.desc.wpr)
-        × LastTakes (seenBy at file.old buffer.old) at.flag way }
-    ensures { FollowsAt result (λ v flag work. roomDone v flag work way number) at file buffer work }
+        × LastTakes (seen_by at file.old buffer.old) at.flag way }
+    ensures { FollowsAt result (λ v flag work. room_done v flag work way number) at file buffer work }
 {
     let p = at.desc;
     let here = acts::reach(at, file, buffer, way);
@@ -117,9 +117,9 @@ fn swap_end(
 fn start_block(at: Held, file: &mut [u32], buffer: &mut [u32], work: &[u32], s: Start) -> usize
     requires { Fitting at.desc file.old buffer.old
         × (length work.now ≡ at.desc.wpr)
-        × StartFits (seenBy at file.old buffer.old) at.flag s }
-    ensures { (result ≡ length (reached (seenBy at (was file) (was buffer)) at.flag s.way).moves)
-        × (became file ≡ startedFile (seenBy at (was file) (was buffer)) at.flag s (was work)) }
+        × StartFits (seen_by at file.old buffer.old) at.flag s }
+    ensures { (result ≡ length (reached (seen_by at (was file) (was buffer)) at.flag s.way).moves)
+        × (became file ≡ started_file (seen_by at (was file) (was buffer)) at.flag s (was work)) }
 {
     let way = s.way;
     let w = s.path;
@@ -133,9 +133,9 @@ fn start_block(at: Held, file: &mut [u32], buffer: &mut [u32], work: &[u32], s: 
 fn write_new(at: Held, file: &mut [u32], buffer: &mut [u32], work: &[u32], s: Start) -> usize
     requires { Fitting at.desc file.old buffer.old
         × (length work.now ≡ at.desc.wpr)
-        × NewFits (seenBy at file.old buffer.old) at.flag s }
-    ensures { (result ≡ length (newAll (seenBy at (was file) (was buffer)) at.flag s (was work)))
-        × (became file ≡ newLeft (seenBy at (was file) (was buffer)) at.flag s (was work)) }
+        × NewFits (seen_by at file.old buffer.old) at.flag s }
+    ensures { (result ≡ length (new_all (seen_by at (was file) (was buffer)) at.flag s (was work)))
+        × (became file ≡ new_left (seen_by at (was file) (was buffer)) at.flag s (was work)) }
 {
     let w = s.path;
     let d = s.new;
@@ -155,9 +155,9 @@ fn write_both(
 ) -> usize
     requires { Fitting at.desc file.old buffer.old
         × (length work.now ≡ at.desc.wpr)
-        × SectionFits (seenBy at file.old buffer.old) at.flag s x }
-    ensures { (result ≡ length (sectionAll (seenBy at (was file) (was buffer)) at.flag s x (was work)))
-        × (became file ≡ sectionLeft (seenBy at (was file) (was buffer)) at.flag s x (was work)) }
+        × SectionFits (seen_by at file.old buffer.old) at.flag s x }
+    ensures { (result ≡ length (section_all (seen_by at (was file) (was buffer)) at.flag s x (was work)))
+        × (became file ≡ section_left (seen_by at (was file) (was buffer)) at.flag s x (was work)) }
 {
     let w = s.path;
     let d = s.new;
@@ -170,8 +170,8 @@ fn write_both(
 pub fn do_xtend(deed: Extend, at: Held, file: &mut [u32], buffer: &mut [u32], work: &[u32]) -> Done
     requires { Fitting at.desc file.old buffer.old
         × (length work.now ≡ at.desc.wpr)
-        × ExtendFits (seenBy at file.old buffer.old) at.flag deed }
-    ensures { FollowsAt result (λ v flag work. extendDone v flag work deed) at file buffer work }
+        × ExtendFits (seen_by at file.old buffer.old) at.flag deed }
+    ensures { FollowsAt result (λ v flag work. extend_done v flag work deed) at file buffer work }
 {
     let p = at.desc;
     match deed {

@@ -4,7 +4,7 @@ ghost use Rattle.words.specs.Words.{part};
 ghost use Rattle.words.specs.Keys.{ones};
 ghost use Rattle.table.specs.Tables.{count};
 ghost use Rattle.drum.specs.Params.{I, index_shape};
-ghost use Rattle.drum.specs.Blocks.{block_at, putBlock};
+ghost use Rattle.drum.specs.Blocks.{block_at, put_block};
 ghost use Rattle.rules.specs.XtendDone.{bounded, extended};
 ghost use Rattle.xtend.specs.Fits.{LastIn, LastRoomIn, IndexTakes, SectionIn};
 ghost use Rattle.xtend.specs.Steps.{indexed, sectioned};
@@ -47,7 +47,7 @@ fn extend(p: Description, h: Shape, t: &mut [u32], key: &[u32], b: usize)
 fn bound_in(p: Description, file: &mut [u32], i: usize, key: &[u32])
     requires { IndexTakes p file.old i key.now }
     ensures { became file
-        ≡ putBlock p (was file) i (bounded (index_shape p) (part 0 p.k (was key)) (block_at p (was file) i)) }
+        ≡ put_block p (was file) i (bounded (index_shape p) (part 0 p.k (was key)) (block_at p (was file) i)) }
 {
     let n = drum::inside::entries_of(p, file, i);
     drum::inside::set_key_in(p, file, i, p.index_shape(), n - 1, key);
@@ -57,7 +57,7 @@ fn bound_in(p: Description, file: &mut [u32], i: usize, key: &[u32])
 pub fn extend_in(p: Description, file: &mut [u32], i: usize, key: &[u32], b: usize)
     requires { IndexTakes p file.old i key.now × (count (index_shape p) (block_at p file.old i) < I p) × (b ≤ p.n) }
     ensures { became file
-        ≡ putBlock p (was file) i (extended p (index_shape p) (part 0 p.k (was key)) b (block_at p (was file) i)) }
+        ≡ put_block p (was file) i (extended p (index_shape p) (part 0 p.k (was key)) b (block_at p (was file) i)) }
 {
     let entry = ones_entry(p.k, b);
     let n = drum::inside::entries_of(p, file, i);

@@ -1,16 +1,16 @@
 // The last block, which holds the end record: the way to it, its path, and its current text.
 ghost use Rattle.std.specs.Prelude.{◌≡◌, ◌-◌, ◌≤◌, length};
 ghost use Rattle.words.specs.Words.{part};
-ghost use Rattle.words.specs.Keys.{keyLt};
+ghost use Rattle.words.specs.Keys.{key_lt};
 ghost use Rattle.table.specs.Tables.{count, key_at};
-ghost use Rattle.drum.specs.Params.{detailShape};
+ghost use Rattle.drum.specs.Params.{detail_shape};
 ghost use Rattle.drum.specs.Blocks.{Fitting};
-ghost use Rattle.rules.specs.Lookup.{textAt};
-ghost use Rattle.rules.specs.Paths.{lastPath};
-ghost use Rattle.rules.specs.Xtend.{endsInOnes, lastOutside, lastWay, last_of};
-ghost use Rattle.lookup.specs.Answers.{asRoute};
-ghost use Rattle.acts.specs.Reach.{seenBy};
-ghost use Rattle.xtend.specs.Answers.{asLast};
+ghost use Rattle.rules.specs.Lookup.{text_at};
+ghost use Rattle.rules.specs.Paths.{last_path};
+ghost use Rattle.rules.specs.Xtend.{ends_in_ones, last_outside, last_way, last_of};
+ghost use Rattle.lookup.specs.Answers.{as_route};
+ghost use Rattle.acts.specs.Reach.{seen_by};
+ghost use Rattle.xtend.specs.Answers.{as_last};
 ghost use Rattle.xtend.specs.Fits.{AtFits, RecordsIn};
 ghost use Rattle.words.specs.Slices.{was};
 
@@ -28,7 +28,7 @@ pub enum Last {
 // Whether the last record of a detail block's text has the key ONES.
 fn ends_in_ones(p: Description, t: &[u32]) -> bool
     requires { RecordsIn p t.now 1 }
-    ensures { result ≡ endsInOnes p (was t) }
+    ensures { result ≡ ends_in_ones p (was t) }
 {
     let n = drum::kinds::records_in(p, t);
     words::all_are(t, 1 + (n - 1) * p.wpr, p.k, 262143)
@@ -37,7 +37,7 @@ fn ends_in_ones(p: Description, t: &[u32]) -> bool
 // Whether the key is above the highest ordinary key of a detail block's text, that of the record before the end record.
 pub fn is_above(p: Description, t: &[u32], key: &[u32]) -> bool
     requires { RecordsIn p t.now 2 × (p.k ≤ length key.now) }
-    ensures { result ≡ keyLt (key_at (detailShape p) (was t) (count (detailShape p) (was t) - 2)) (part 0 p.k (was key)) }
+    ensures { result ≡ key_lt (key_at (detail_shape p) (was t) (count (detail_shape p) (was t) - 2)) (part 0 p.k (was key)) }
 {
     let n = drum::kinds::records_in(p, t);
     words::key_below(t, 1 + (n - 2) * p.wpr, key, 0, p.k)
@@ -46,7 +46,7 @@ pub fn is_above(p: Description, t: &[u32], key: &[u32]) -> bool
 // The path by the last entries. It asks no key: the buffer's words stand for one.
 fn last_path<'a>(at: Held, file: &'a [u32], buffer: &'a [u32]) -> Route
     requires { Fitting at.desc file.now buffer.now }
-    ensures { asRoute result ≡ lastPath (seenBy at (was file) (was buffer)) }
+    ensures { as_route result ≡ last_path (seen_by at (was file) (was buffer)) }
 {
     lookup::path_by(at, file, buffer, Which::Last, Which::Last, buffer)
 }
@@ -54,7 +54,7 @@ fn last_path<'a>(at: Held, file: &'a [u32], buffer: &'a [u32]) -> Route
 // The way to the last block by way of the master.
 fn last_outside<'a>(at: Held, file: &'a [u32], buffer: &'a [u32]) -> Last
     requires { Fitting at.desc file.now buffer.now }
-    ensures { asLast result ≡ lastOutside (seenBy at (was file) (was buffer)) at.flag }
+    ensures { as_last result ≡ last_outside (seen_by at (was file) (was buffer)) at.flag }
 {
     let route = last_path(at, file, buffer);
     match route {
@@ -75,7 +75,7 @@ fn last_outside<'a>(at: Held, file: &'a [u32], buffer: &'a [u32]) -> Last
 // The way to the last block: it may be buffered.
 pub fn last_way<'a>(at: Held, file: &'a [u32], buffer: &'a [u32]) -> Last
     requires { Fitting at.desc file.now buffer.now }
-    ensures { asLast result ≡ lastWay (seenBy at (was file) (was buffer)) at.flag }
+    ensures { as_last result ≡ last_way (seen_by at (was file) (was buffer)) at.flag }
 {
     let held = lookup::on_buffer(at.desc, at.current, buffer);
     match held {
@@ -93,7 +93,7 @@ pub fn last_way<'a>(at: Held, file: &'a [u32], buffer: &'a [u32]) -> Last
 // The path to the buffered block, if the last entries name it.
 fn last_here<'a>(at: Held, file: &'a [u32], buffer: &'a [u32]) -> Route
     requires { Fitting at.desc file.now buffer.now }
-    ensures { asRoute result ≡ last_of (seenBy at (was file) (was buffer)) Way.Here }
+    ensures { as_route result ≡ last_of (seen_by at (was file) (was buffer)) Way.Here }
 {
     let route = last_path(at, file, buffer);
     match route {
@@ -110,7 +110,7 @@ fn last_here<'a>(at: Held, file: &'a [u32], buffer: &'a [u32]) -> Route
 // The path to the last block, which this way led to.
 pub fn last_of<'a>(at: Held, file: &'a [u32], buffer: &'a [u32], way: Way) -> Route
     requires { Fitting at.desc file.now buffer.now }
-    ensures { asRoute result ≡ last_of (seenBy at (was file) (was buffer)) way }
+    ensures { as_route result ≡ last_of (seen_by at (was file) (was buffer)) way }
 {
     match way {
         Way::Here => last_here(at, file, buffer),
@@ -120,8 +120,8 @@ pub fn last_of<'a>(at: Held, file: &'a [u32], buffer: &'a [u32], way: Way) -> Ro
 
 // The current text of the block at the end of the way.
 pub fn text_at<'a>(at: Held, file: &'a [u32], buffer: &'a [u32], way: Way) -> &'a [u32]
-    requires { Fitting at.desc file.now buffer.now × AtFits (seenBy at file.now buffer.now) way }
-    ensures { result.now ≡ textAt (seenBy at (was file) (was buffer)) way }
+    requires { Fitting at.desc file.now buffer.now × AtFits (seen_by at file.now buffer.now) way }
+    ensures { result.now ≡ text_at (seen_by at (was file) (was buffer)) way }
 {
     match way {
         Way::Here => buffer,
@@ -131,8 +131,8 @@ pub fn text_at<'a>(at: Held, file: &'a [u32], buffer: &'a [u32], way: Way) -> &'
 
 // How many records it holds.
 pub fn count_at<'a>(at: Held, file: &'a [u32], buffer: &'a [u32], way: Way) -> usize
-    requires { Fitting at.desc file.now buffer.now × AtFits (seenBy at file.now buffer.now) way }
-    ensures { result ≡ count (detailShape at.desc) (textAt (seenBy at (was file) (was buffer)) way) }
+    requires { Fitting at.desc file.now buffer.now × AtFits (seen_by at file.now buffer.now) way }
+    ensures { result ≡ count (detail_shape at.desc) (text_at (seen_by at (was file) (was buffer)) way) }
 {
     let t = text_at(at, file, buffer, way);
     drum::kinds::records_in(at.desc, t)

@@ -8,7 +8,7 @@ mod plan;
 ghost use Rattle.std.specs.Prelude.{◌≡◌, length};
 ghost use Rattle.drum.specs.Blocks.{Fitting};
 ghost use Rattle.rules.specs.Told.{Follows};
-ghost use Rattle.rules.specs.XtendDone.{xtendSteps};
+ghost use Rattle.rules.specs.XtendDone.{xtend_steps};
 
 use drum::Description;
 use rules::{Done, Held};
@@ -23,7 +23,7 @@ pub fn xtend(
     work: &[u32],
 ) -> Done
     requires { Fitting p file.old buffer.old × (length work.now ≡ p.wpr) }
-    ensures { Follows result xtendSteps p current flag file buffer work }
+    ensures { Follows result xtend_steps p current flag file buffer work }
 {
     let at = Held {
         desc: p,

@@ -3,9 +3,9 @@ ghost use Rattle.std.specs.Prelude.{◌≡◌, ◌≤◌, length};
 ghost use Rattle.words.specs.Words.{part};
 ghost use Rattle.drum.specs.Blocks.{Fitting};
 ghost use Rattle.rules.specs.Fits.{PathFits};
-ghost use Rattle.rules.specs.Xtend.{lastRoom, notAboveBefore, aloneDeed, startDeed, sectionDeed, newAt, newDeed, extendAt, extendDeed};
-ghost use Rattle.acts.specs.Reach.{seenBy};
-ghost use Rattle.xtend.specs.Answers.{asExtend};
+ghost use Rattle.rules.specs.Xtend.{last_room, not_above_before, alone_deed, start_deed, section_deed, new_at, new_deed, extend_at, extend_deed};
+ghost use Rattle.acts.specs.Reach.{seen_by};
+ghost use Rattle.xtend.specs.Answers.{as_extend};
 ghost use Rattle.xtend.specs.Fits.{AtFits};
 ghost use Rattle.words.specs.Slices.{was};
 
@@ -18,8 +18,8 @@ use rules::{Extend, Held, Path, Way};
 
 // The last block takes the record: x is the index block that was read for it, or 0.
 fn last_room<'a>(at: Held, file: &'a [u32], buffer: &'a [u32], way: Way, x: usize) -> Extend
-    requires { Fitting at.desc file.now buffer.now × AtFits (seenBy at file.now buffer.now) way }
-    ensures { asExtend result ≡ lastRoom (seenBy at (was file) (was buffer)) way x }
+    requires { Fitting at.desc file.now buffer.now × AtFits (seen_by at file.now buffer.now) way }
+    ensures { as_extend result ≡ last_room (seen_by at (was file) (was buffer)) way x }
 {
     let n = count_at(at, file, buffer, way);
     let head = words::word_at(file, 1);
@@ -33,8 +33,8 @@ fn last_room<'a>(at: Held, file: &'a [u32], buffer: &'a [u32], way: Way, x: usiz
 fn not_above_before<'a>(at: Held, file: &'a [u32], buffer: &'a [u32], key: &[u32], w: Path) -> bool
     requires { Fitting at.desc file.now buffer.now
         × (at.desc.k ≤ length key.now)
-        × PathFits (seenBy at file.now buffer.now) w }
-    ensures { result ≡ notAboveBefore (seenBy at (was file) (was buffer)) (part 0 at.desc.k (was key)) w }
+        × PathFits (seen_by at file.now buffer.now) w }
+    ensures { result ≡ not_above_before (seen_by at (was file) (was buffer)) (part 0 at.desc.k (was key)) w }
 {
     let k = at.desc.k;
     if w.entry == 0 {
@@ -51,8 +51,8 @@ fn not_above_before<'a>(at: Held, file: &'a [u32], buffer: &'a [u32], key: &[u32
 fn alone_deed<'a>(at: Held, file: &'a [u32], buffer: &'a [u32], key: &[u32], way: Way) -> Extend
     requires { Fitting at.desc file.now buffer.now
         × (at.desc.k ≤ length key.now)
-        × AtFits (seenBy at file.now buffer.now) way }
-    ensures { asExtend result ≡ aloneDeed (seenBy at (was file) (was buffer)) at.flag (part 0 at.desc.k (was key)) way }
+        × AtFits (seen_by at file.now buffer.now) way }
+    ensures { as_extend result ≡ alone_deed (seen_by at (was file) (was buffer)) at.flag (part 0 at.desc.k (was key)) way }
 {
     let Route::To(w) = last_of(at, file, buffer, way) else {
         return Extend::Bad;
@@ -73,7 +73,7 @@ fn start_deed<'a>(
     n: usize,
 ) -> Extend
     requires { Fitting at.desc file.now buffer.now }
-    ensures { asExtend result ≡ startDeed (seenBy at (was file) (was buffer)) at.flag way w n }
+    ensures { as_extend result ≡ start_deed (seen_by at (was file) (was buffer)) at.flag way w n }
 {
     let Grant::Got(d) = free::take_one(at, file, buffer, w) else {
         return Extend::Bad;
@@ -97,7 +97,7 @@ fn section_deed<'a>(
     n: usize,
 ) -> Extend
     requires { Fitting at.desc file.now buffer.now }
-    ensures { asExtend result ≡ sectionDeed (seenBy at (was file) (was buffer)) at.flag way w n }
+    ensures { as_extend result ≡ section_deed (seen_by at (was file) (was buffer)) at.flag way w n }
 {
     let Grants::Got(t) = free::take_two(at, file, buffer, w) else {
         return Extend::Bad;
@@ -114,8 +114,8 @@ fn section_deed<'a>(
 
 // Which of the two it is: the index block takes one more entry, or not.
 fn new_at<'a>(at: Held, file: &'a [u32], buffer: &'a [u32], way: Way, w: Path, n: usize) -> Extend
-    requires { Fitting at.desc file.now buffer.now × PathFits (seenBy at file.now buffer.now) w }
-    ensures { asExtend result ≡ newAt (seenBy at (was file) (was buffer)) at.flag way w n }
+    requires { Fitting at.desc file.now buffer.now × PathFits (seen_by at file.now buffer.now) w }
+    ensures { as_extend result ≡ new_at (seen_by at (was file) (was buffer)) at.flag way w n }
 {
     let t = drum::text_of(at.desc, at.current, file, buffer, w.index);
     if drum::kinds::entries_in(at.desc, t) < at.desc.fi() {
@@ -126,8 +126,8 @@ fn new_at<'a>(at: Held, file: &'a [u32], buffer: &'a [u32], way: Way, w: Path, n
 
 // The last block takes no more: its path, and then the new block.
 fn new_deed<'a>(at: Held, file: &'a [u32], buffer: &'a [u32], way: Way) -> Extend
-    requires { Fitting at.desc file.now buffer.now × AtFits (seenBy at file.now buffer.now) way }
-    ensures { asExtend result ≡ newDeed (seenBy at (was file) (was buffer)) at.flag way }
+    requires { Fitting at.desc file.now buffer.now × AtFits (seen_by at file.now buffer.now) way }
+    ensures { as_extend result ≡ new_deed (seen_by at (was file) (was buffer)) at.flag way }
 {
     let n = count_at(at, file, buffer, way);
     let Route::To(w) = last_of(at, file, buffer, way) else {
@@ -140,8 +140,8 @@ fn new_deed<'a>(at: Held, file: &'a [u32], buffer: &'a [u32], way: Way) -> Exten
 fn extend_at<'a>(at: Held, file: &'a [u32], buffer: &'a [u32], key: &[u32], way: Way) -> Extend
     requires { Fitting at.desc file.now buffer.now
         × (at.desc.k ≤ length key.now)
-        × AtFits (seenBy at file.now buffer.now) way }
-    ensures { asExtend result ≡ extendAt (seenBy at (was file) (was buffer)) at.flag (part 0 at.desc.k (was key)) way }
+        × AtFits (seen_by at file.now buffer.now) way }
+    ensures { as_extend result ≡ extend_at (seen_by at (was file) (was buffer)) at.flag (part 0 at.desc.k (was key)) way }
 {
     let n = count_at(at, file, buffer, way);
     if n == 1 {
@@ -160,7 +160,7 @@ fn extend_at<'a>(at: Held, file: &'a [u32], buffer: &'a [u32], key: &[u32], way:
 // What XTEND will do.
 pub fn plan_xtend<'a>(at: Held, file: &'a [u32], buffer: &'a [u32], key: &[u32]) -> Extend
     requires { Fitting at.desc file.now buffer.now × (at.desc.k ≤ length key.now) }
-    ensures { asExtend result ≡ extendDeed (seenBy at (was file) (was buffer)) at.flag (part 0 at.desc.k (was key)) }
+    ensures { as_extend result ≡ extend_deed (seen_by at (was file) (was buffer)) at.flag (part 0 at.desc.k (was key)) }
 {
     let Last::At(way) = last_way(at, file, buffer) else {
         return Extend::Bad;

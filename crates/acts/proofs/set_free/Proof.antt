@@ -1,11 +1,11 @@
 -- Two words stored, one after the other.
-use Rattle.rules.specs.Free.{withFree}
+use Rattle.rules.specs.Free.{with_free}
 use borrow.Author.Rules.{rules}
 use Rattle.acts.proofs.set_free.Statement.{statement}
 use Rattle.acts.proofs.set_free.Tie as tie
 
 returns : tie.Need-returns
-unfolding withFree
+unfolding with_free
 returns c = rw c.before.before.put_word.ensures
 
 pub set-free-spec : {M : Type 1} → statement M

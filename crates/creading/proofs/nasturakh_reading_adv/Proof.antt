@@ -1,6 +1,6 @@
 -- The words are no reading session's, or the reading call's promise is told in words.
 use Rattle.rules.specs.Adv.{adv}
-use Rattle.reading.specs.Reading.{readAdv}
+use Rattle.reading.specs.Reading.{read_adv}
 use Rattle.capi.proofs.Outcomes.{adv-telling}
 use Rattle.creading.proofs.Told.{asked-whole, asked-off, called-none, call-told, can-tell, profile-telling}
 use borrow.Author.Rules.{rules}
@@ -17,7 +17,7 @@ nasturakh-reading-adv-spec =
     (λ c. search called-none)
     (λ c κs. (search asked-whole, search asked-off))
     (λ c κs. search rules)
-    (λ c κs. search (can-tell readAdv (profile-telling adv adv-telling)))
+    (λ c κs. search (can-tell read_adv (profile-telling adv adv-telling)))
     (λ c. search rules)
     (λ c. search rules)
     (λ c. search rules)

@@ -1,6 +1,6 @@
 -- The words are no reading session's, or the reading call's promise is told in words.
 use Rattle.rules.specs.Close.{close}
-use Rattle.reading.specs.Reading.{readClose}
+use Rattle.reading.specs.Reading.{read_close}
 use Rattle.capi.proofs.Outcomes.{close-telling}
 use Rattle.creading.proofs.Told.{asked-whole, asked-off, called-none, call-told, can-tell, profile-telling}
 use borrow.Author.Rules.{rules}
@@ -17,6 +17,6 @@ nasturakh-reading-close-spec =
     (λ c. search called-none)
     (λ c κs. (search asked-whole, search asked-off))
     (λ c κs. search rules)
-    (λ c κs. search (can-tell readClose (profile-telling close close-telling)))
+    (λ c κs. search (can-tell read_close (profile-telling close close-telling)))
     (λ c. search rules)
     (λ c. search call-told))

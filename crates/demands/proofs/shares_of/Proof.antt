@@ -1,5 +1,5 @@
 -- The calls' shares, and that they are few enough for a word of 64 bits.
-use Rattle.demands.specs.Planned.{planShares}
+use Rattle.demands.specs.Planned.{plan_shares}
 use borrow.Author.Rules.{rules}
 use Rattle.demands.proofs.shares_of.Statement.{statement}
 use Rattle.demands.proofs.shares_of.Tie as tie
@@ -8,7 +8,7 @@ use Rattle.demands.proofs.shares_of.Lts as lts
 use Rattle.demands.proofs.long.Reads as long-reads
 
 returns : tie.Need-returns
-unfolding planShares
+unfolding plan_shares
 returns c = search rules
 
 pub shares-of-spec : {M : Type 1} → statement M

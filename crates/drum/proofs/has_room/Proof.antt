@@ -7,18 +7,18 @@ use lib.Dec.{leb}
 use mathlib.Core.List.{[], ◌∷◌}
 use Prim.Native.Nat.{◌-◌, ◌≤◌}
 use Rattle.drum.specs.declared.Description.{Description}
-use Rattle.drum.specs.Params.{D, I, mostSections, every}
+use Rattle.drum.specs.Params.{D, I, most_sections, every}
 use borrow.Author.Rules.{rules}
 use Rattle.drum.proofs.has_room.Statement.{statement}
 use Rattle.drum.proofs.has_room.Tie as tie
 
 -- where all tests but the last hold, the last decides
 last : (p : Description) → 2 ≤ D p → 2 ≤ I p → p.space ≤ D p - 2 → p.space ≤ I p - 2 → 1 ≤ p.control
-    → p.control ≤ mostSections → 2 ≤ p.n → p.n ≤ 262142 → 1 ≤ p.form
+    → p.control ≤ most_sections → 2 ≤ p.n → p.n ≤ 262142 → 1 ≤ p.form
     → leb p.form 2
     ≡ every
     (leb 2 (D p) ∷ leb 2 (I p) ∷ leb p.space (D p - 2) ∷ leb p.space (I p - 2)
-    ∷ leb 1 p.control ∷ leb p.control mostSections ∷ leb 2 p.n ∷ leb p.n 262142 ∷ leb 1 p.form ∷ leb p.form 2 ∷ [])
+    ∷ leb 1 p.control ∷ leb p.control most_sections ∷ leb 2 p.n ∷ leb p.n 262142 ∷ leb 1 p.form ∷ leb p.form 2 ∷ [])
 unfolding every
 last p d i sd si c₁ c₂ n₁ n₂ f₁ =
     simp (le-leb _ _ d, le-leb _ _ i, le-leb _ _ sd, le-leb _ _ si, le-leb _ _ c₁, le-leb _ _ c₂, le-leb _ _ n₁, le-leb _ _ n₂, le-leb _ _ f₁, and-true)

@@ -5,7 +5,7 @@ use mathlib.Core.Path.{◌≡◌, refl, sym, ◌∙◌}
 use native.Mathlib.Omega.{arith}
 use lib.ListN.{length, drop}
 use borrow.Author.Rules.{rules}
-use Rattle.lines.specs.Promise.{read, toLineFeed}
+use Rattle.lines.specs.Promise.{read, to_line_feed}
 use Rattle.lines.proofs.Turns.{line-out, line-over, line-more}
 use Rattle.lines.proofs.take.Statement.{statement}
 use Rattle.lines.proofs.take.Tie as tie
@@ -15,7 +15,7 @@ invariant-loop bytes from name₀ numbers₀ reading₀ at₀ name numbers readi
     (at ≤ length bytes)
     × (length name ≡ length name₀)
     × (length numbers ≡ length numbers₀)
-    × (toLineFeed (read reading₀ name₀ numbers₀) from (drop from bytes) ≡ toLineFeed (read reading name numbers) at (drop at bytes))
+    × (to_line_feed (read reading₀ name₀ numbers₀) from (drop from bytes) ≡ to_line_feed (read reading name numbers) at (drop at bytes))
 
 abbrev decreases-loop : tie.decreases-loop
 decreases-loop bytes from name₀ numbers₀ reading₀ at₀ name numbers reading at = length bytes - at
@@ -32,7 +32,7 @@ loop-again : tie.Need-loop-preserved invariant-loop decreases-loop
 loop-again c =
     let s = c.before.before.before.before.before.before.before.before.before.before.before.before.before.before.args in
     let l = c.before.before.before.before.before.before.before.before.before.before.loop in
-    (omega arith, search rules, search rules, l.invariant.3 ∙ line-more _ l.at s.bytes.now (omega arith) c.before.before.before.before.before.before.before.if1.false ∙ λ j. toLineFeed (sym c.before.before.before.before.push.ensures j) (l.at + 1) (drop (l.at + 1) s.bytes.now))
+    (omega arith, search rules, search rules, l.invariant.3 ∙ line-more _ l.at s.bytes.now (omega arith) c.before.before.before.before.before.before.before.if1.false ∙ λ j. to_line_feed (sym c.before.before.before.before.push.ensures j) (l.at + 1) (drop (l.at + 1) s.bytes.now))
 
 returns-2 : tie.Need-returns-2 invariant-loop decreases-loop
 returns-2 c = sym (c.before.loop.invariant.3 ∙ line-out _ c.before.loop.at c.before.before.before.before.before.args.bytes.now (omega arith))

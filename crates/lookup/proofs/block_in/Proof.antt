@@ -1,11 +1,11 @@
 -- The word behind the key of row i.
 use borrow.Author.Rules.{rules}
-use Rattle.table.specs.Tables.{blockIn}
+use Rattle.table.specs.Tables.{block_in}
 use Rattle.lookup.proofs.block_in.Statement.{statement}
 use Rattle.lookup.proofs.block_in.Tie as tie
 
 returns : tie.Need-returns
-unfolding blockIn
+unfolding block_in
 returns c = search rules
 
 pub block-in-spec : {M : Type 1} → statement M

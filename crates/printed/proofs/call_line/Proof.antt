@@ -5,9 +5,9 @@ use native.Mathlib.Omega.{arith}
 use borrow.Author.Rules.{rules}
 use Rattle.rules.specs.declared.Call.{Call}
 use Rattle.searchfile.specs.Promise.{CountedOpen, given}
-use Rattle.lines.specs.Reading.{parsedAs}
+use Rattle.lines.specs.Reading.{parsed_as}
 use Rattle.printed.specs.Output.{played, refusal}
-use Rattle.printed.specs.Promise.{shownAt}
+use Rattle.printed.specs.Promise.{shown_at}
 use Rattle.printed.proofs.Laws.{line-played, line-shown}
 use Rattle.printed.proofs.call_line.Statement.{statement}
 use Rattle.printed.proofs.call_line.Tie as tie
@@ -18,13 +18,13 @@ tell-requires c κs =
     omega arith
 
 returns : tie.Need-returns
-unfolding parsedAs played refusal
+unfolding parsed_as played refusal
 returns c =
     let a = c.before.before.before.before.before.before.before.before.before.before.before.before.before.before.args in
     let st = given a.s a.file.now a.buffer.now a.work.now in
     let bad = c.before.before.bad-line.ensures.0 in (
       (λ j. record { over = (bad j).over; after = st; out = (bad j).out; at = (bad j).at })
-          ∙ ap (λ (x : Option Call). shownAt a.out.now a.at (played st (parsedAs a.s.desc x a.numbers.now))) (rw c.before.before.before.before.enum_told.given.1 at c.before.before.before.before.before.before.call-of.ensures),
+          ∙ ap (λ (x : Option Call). shown_at a.out.now a.at (played st (parsed_as a.s.desc x a.numbers.now))) (rw c.before.before.before.before.enum_told.given.1 at c.before.before.before.before.before.before.call-of.ensures),
       (refl, omega (arith, c.before.before.bad-line.ensures.1)),
     )
 

@@ -1,14 +1,14 @@
 -- What a way that passed its checks tells the code that follows it.
 use Rattle.std.specs.Prelude.{ℕ, ◌≤◌, ◌<◌, ◌≡◌, Bool, true}
 use Rattle.table.specs.Tables.{count}
-use Rattle.drum.specs.Params.{D, I, detailShape, index_shape}
+use Rattle.drum.specs.Params.{D, I, detail_shape, index_shape}
 use Rattle.drum.specs.Blocks.{Texts, text_of, sections, Block}
 use Rattle.rules.specs.declared.Path.{Path}
 use Rattle.rules.specs.declared.Taken.{Taken}
 use Rattle.rules.specs.declared.Pair.{Pair}
 use Rattle.rules.specs.declared.Way.{Way}
 use Rattle.rules.specs.declared.Way.TheVariants.{Here, By}
-use Rattle.rules.specs.Lookup.{textAt}
+use Rattle.rules.specs.Lookup.{text_at}
 use Rattle.rules.specs.declared.Look.{Look}
 use Rattle.rules.specs.declared.Look.TheVariants as look_is
 use Rattle.rules.specs.declared.Step.{Step}
@@ -27,8 +27,8 @@ pub record PathFits (v : Texts) (w : Path) : Type 0 where
   pub detail-least : 1 ≤ w.detail
   pub detail-most : w.detail ≤ v.desc.n
   pub apart : w.index ≡ w.detail → ⊥
-  pub records-least : 1 ≤ count (detailShape v.desc) (text_of v w.detail)
-  pub records-most : count (detailShape v.desc) (text_of v w.detail) ≤ D v.desc
+  pub records-least : 1 ≤ count (detail_shape v.desc) (text_of v w.detail)
+  pub records-most : count (detail_shape v.desc) (text_of v w.detail) ≤ D v.desc
 
 -- a flagged buffer has a block to be written to
 abbrev pub FlushFits : Texts → Bool → Type 0
@@ -38,8 +38,8 @@ FlushFits v flag = flag ≡ true → (1 ≤ v.current) × (v.current ≤ v.desc.
 pub record BufferFits (v : Texts) : Type 0 where
   pub current-least : 1 ≤ v.current
   pub current-most : v.current ≤ v.desc.n
-  pub records-least : 1 ≤ count (detailShape v.desc) v.buffer
-  pub records-most : count (detailShape v.desc) v.buffer ≤ D v.desc
+  pub records-least : 1 ≤ count (detail_shape v.desc) v.buffer
+  pub records-most : count (detail_shape v.desc) v.buffer ≤ D v.desc
 
 -- a way: the buffered block is good; or the path is, and the buffer can be written
 abbrev pub WayFits : Texts → Bool → Way → Type 0
@@ -49,14 +49,14 @@ WayFits v flag (By w) = PathFits v w × FlushFits v flag
 -- what a lookup comes to: a place in the block at the end of the way
 abbrev pub LookFits : Texts → Bool → Look → Type 0
 LookFits v flag look_is.Bad = Unit {0}
-LookFits v flag (look_is.Found way i) = WayFits v flag way × (i < count (detailShape v.desc) (textAt v way))
+LookFits v flag (look_is.Found way i) = WayFits v flag way × (i < count (detail_shape v.desc) (text_at v way))
 LookFits v flag (look_is.Missing w) = PathFits v w × FlushFits v flag
 
 -- what ADV comes to: a place in the block reached, or in the block after the one that the first path leads to
 abbrev pub StepFits : Texts → Bool → Step → Type 0
 StepFits v flag step_is.Bad = Unit {0}
-StepFits v flag (step_is.At way i) = WayFits v flag way × (i < count (detailShape v.desc) (textAt v way))
-StepFits v flag (step_is.Beyond w x i) = PathFits v x × FlushFits v flag × (i < count (detailShape v.desc) (text_of v x.detail))
+StepFits v flag (step_is.At way i) = WayFits v flag way × (i < count (detail_shape v.desc) (text_at v way))
+StepFits v flag (step_is.Beyond w x i) = PathFits v x × FlushFits v flag × (i < count (detail_shape v.desc) (text_of v x.detail))
 
 -- a new block: one of 1..N, and neither block of the path
 pub record New (v : Texts) (w : Path) (b : ℕ) : Type 0 where

@@ -5,7 +5,7 @@ use native.Mathlib.Omega.{arith}
 use borrow.Author.Rules.{rules}
 use lib.ListN.{length}
 use Rattle.words.specs.Words.{part}
-use Rattle.table.proofs.Turns.{RowAt, Passed, row-next-at, key-inside, row_fits, passed-span, passed-place, unwanted, found_at, found_none, passed_over}
+use Rattle.table.proofs.Turns.{RowAt, Passed, row-next-at, key-inside, row_fits, passed-span, passed-place, unwanted, found_at, found_none, passed_over_lem}
 use Rattle.table.proofs.find_row.Statement.{statement}
 use Rattle.table.proofs.find_row.Tie as tie
 
@@ -36,5 +36,5 @@ find-row-spec =
     add-place-2
     (λ c. omega arith)
     (λ c. omega arith)
-    (λ c. (search row-next-at, search passed_over))
+    (λ c. (search row-next-at, search passed_over_lem))
     (λ c. search found_none))

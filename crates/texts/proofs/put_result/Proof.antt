@@ -2,13 +2,13 @@
 use native.Mathlib.Omega.{arith}
 use lib.ListN.{length-set}
 use Rattle.texts.specs.Texts.{bytes, listed}
-use Rattle.texts.specs.Results.{resultText}
+use Rattle.texts.specs.Results.{result_text}
 use Rattle.texts.proofs.Lines.{line-written}
 use Rattle.texts.proofs.put_result.Statement.{statement}
 use Rattle.texts.proofs.put_result.Tie as tie
 
 returns : tie.Need-returns
-unfolding resultText listed bytes
+unfolding result_text listed bytes
 returns c =
     let l = c.before.before.put-listed.ensures in
     let d = rw c.before.before.before.before.before.before.before.count.ensures at c.before.before.before.before.before.before.put-decimal.ensures in

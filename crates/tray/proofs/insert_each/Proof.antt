@@ -7,8 +7,8 @@ use lib.ListN.{length}
 use borrow.Author.Rules.{rules}
 use Rattle.numbers.specs.Numbers.{done}
 use Rattle.searchfile.specs.Promise.{given}
-use Rattle.tray.specs.Tray.{count_of, recordsAt, inserts}
-use Rattle.tray.specs.Promise.{countedTray}
+use Rattle.tray.specs.Tray.{count_of, records_at, inserts}
+use Rattle.tray.specs.Promise.{counted_tray}
 use Rattle.tray.proofs.Rows.{count_most, left-at-first, end_fits, next-end, left_after}
 use Rattle.tray.proofs.Turns.{Reached, sum_fits, sum-most, tray-starts, tray-ends, turn-stops, turn-goes}
 use Rattle.tray.proofs.insert_each.Statement.{statement}
@@ -23,7 +23,7 @@ invariant-loop file₀ buffer₀ tray wpr count held₀ stored₀ number₀ tran
     × (length file ≡ length file₀)
     × (length buffer ≡ length buffer₀)
     × Reached
-    (countedTray (inserts (given held₀ file₀ buffer₀ []) (recordsAt (count_of tray) wpr 1 tray) done))
+    (counted_tray (inserts (given held₀ file₀ buffer₀ []) (records_at (count_of tray) wpr 1 tray) done))
     held stored number transfers file buffer count wpr at tray
 
 abbrev decreases-loop : tie.decreases-loop

@@ -3,13 +3,13 @@ use mathlib.Core.Path.{◌≡◌, sym, ◌∙◌}
 use Prim.Native.Nat.{◌+◌, ◌-◌, ◌≤◌}
 use native.Mathlib.Nat.{sub-zero, add-zero}
 use native.Mathlib.Omega.{arith}
-use Rattle.words.specs.Words.{part, allAre}
+use Rattle.words.specs.Words.{part, all_are}
 use Rattle.words.proofs.Turns.{all-next, all-stop, all_done}
 use Rattle.words.proofs.all_are.Statement.{statement}
 use Rattle.words.proofs.all_are.Tie as tie
 
 abbrev invariant-loop : tie.invariant-loop
-invariant-loop t a n x i₀ i = (i ≤ n) × (allAre x (part a n t) ≡ allAre x (part (a + i) (n - i) t))
+invariant-loop t a n x i₀ i = (i ≤ n) × (all_are x (part a n t) ≡ all_are x (part (a + i) (n - i) t))
 
 abbrev decreases-loop : tie.decreases-loop
 decreases-loop t a n x i₀ i = n - i

@@ -3,13 +3,13 @@ use mathlib.Core.Path.{◌≡◌, sym, ◌∙◌}
 use Prim.Native.Nat.{◌+◌, ◌-◌, ◌≤◌}
 use native.Mathlib.Nat.{sub-zero, add-zero}
 use native.Mathlib.Omega.{arith}
-use Rattle.words.specs.Words.{part, allWords}
+use Rattle.words.specs.Words.{part, all_words}
 use Rattle.words.proofs.Turns.{words-next, words-stop, words-done}
 use Rattle.words.proofs.all_words.Statement.{statement}
 use Rattle.words.proofs.all_words.Tie as tie
 
 abbrev invariant-loop : tie.invariant-loop
-invariant-loop t a n i₀ i = (i ≤ n) × (allWords (part a n t) ≡ allWords (part (a + i) (n - i) t))
+invariant-loop t a n i₀ i = (i ≤ n) × (all_words (part a n t) ≡ all_words (part (a + i) (n - i) t))
 
 abbrev decreases-loop : tie.decreases-loop
 decreases-loop t a n i₀ i = n - i

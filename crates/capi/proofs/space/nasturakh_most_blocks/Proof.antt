@@ -1,5 +1,5 @@
 -- `capi::nasturakh_most_blocks` meets its contract: one of its two tests fails, or the blocks of the names.
-use Rattle.demands.specs.Space.{mostBlocks}
+use Rattle.demands.specs.Space.{most_blocks}
 use Rattle.capi.proofs.Told.{asked-whole}
 use Rattle.capi.proofs.MostSpace.{space-none, space-out, space-is}
 use borrow.Author.Rules.{rules}
@@ -11,9 +11,9 @@ nasturakh-most-blocks-spec =
     tie.close
     (tie.spec
     (λ c κs. search rules)
-    (λ c. search (space-none mostBlocks))
+    (λ c. search (space-none most_blocks))
     (λ c κs. search asked-whole)
     (λ c κs. search rules)
-    (λ c. search (space-out mostBlocks))
+    (λ c. search (space-out most_blocks))
     (λ c κs. search rules)
-    (λ c. search (space-is mostBlocks)))
+    (λ c. search (space-is most_blocks)))

@@ -1,5 +1,5 @@
 -- `capi::nasturakh_most_sections` meets its contract: one of its two tests fails, or the sections of the names.
-use Rattle.demands.specs.Space.{mostSections}
+use Rattle.demands.specs.Space.{most_sections}
 use Rattle.capi.proofs.Told.{asked-whole}
 use Rattle.capi.proofs.MostSpace.{space-none, space-out, space-is}
 use borrow.Author.Rules.{rules}
@@ -11,9 +11,9 @@ nasturakh-most-sections-spec =
     tie.close
     (tie.spec
     (λ c κs. search rules)
-    (λ c. search (space-none mostSections))
+    (λ c. search (space-none most_sections))
     (λ c κs. search asked-whole)
     (λ c κs. search rules)
-    (λ c. search (space-out mostSections))
+    (λ c. search (space-out most_sections))
     (λ c κs. search rules)
-    (λ c. search (space-is mostSections)))
+    (λ c. search (space-is most_sections)))

@@ -1,6 +1,6 @@
 -- The file's words; none of the numbers grows too large.
 use native.Mathlib.Omega.{arith}
-use Rattle.drum.specs.Params.{fileSize}
+use Rattle.drum.specs.Params.{file_size}
 use Rattle.drum.proofs.Good.{caps}
 use borrow.Author.Rules.{rules}
 use Rattle.drum.proofs.Description.file_words.Statement.{statement}
@@ -17,7 +17,7 @@ add-result c =
     omega arith
 
 returns : tie.Need-returns
-unfolding fileSize
+unfolding file_size
 returns c = rw c.before.master-words.ensures
 
 pub file-words-spec : {M : Type 1} → statement M

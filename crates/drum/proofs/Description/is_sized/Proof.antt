@@ -2,13 +2,13 @@
 use mathlib.Core.Path.{◌≡◌, sym, ◌∙◌}
 use borrow.Author.Tests.{eq-eqb, ne_eqb, not-true, not-false}
 use mathlib.Core.Bool.{true, and-true}
-use Rattle.drum.specs.Params.{goodParams, sized, every}
+use Rattle.drum.specs.Params.{good_params, sized, every}
 use borrow.Author.Rules.{rules}
 use Rattle.drum.proofs.Description.is_sized.Statement.{statement}
 use Rattle.drum.proofs.Description.is_sized.Tie as tie
 
 -- past the first test the parameters are good
-kept : (c : tie.Else1) → goodParams c.before.before.args.self ≡ true
+kept : (c : tie.Else1) → good_params c.before.before.args.self ≡ true
 kept c = sym c.before.is-good.ensures ∙ not-false _ c.if1.false
 
 returns : tie.Need-returns

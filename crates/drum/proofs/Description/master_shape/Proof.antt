@@ -1,7 +1,7 @@
 -- The master's table.
 use borrow.Author.Rules.{rules}
 use native.Mathlib.Omega.{arith}
-use Rattle.drum.specs.Params.{masterShape}
+use Rattle.drum.specs.Params.{master_shape}
 use Rattle.drum.proofs.Good.{caps}
 use Rattle.drum.proofs.Description.master_shape.Statement.{statement}
 use Rattle.drum.proofs.Description.master_shape.Tie as tie
@@ -12,7 +12,7 @@ add-t2 c =
     omega arith
 
 returns : tie.Need-returns
-unfolding masterShape
+unfolding master_shape
 returns c = search rules
 
 pub master-shape-spec : {M : Type 1} → statement M

@@ -1,7 +1,7 @@
 -- The master's words; none of the numbers grows too large.
 use borrow.Author.Rules.{rules}
 use native.Mathlib.Omega.{arith}
-use Rattle.drum.specs.Params.{masterSize}
+use Rattle.drum.specs.Params.{master_size}
 use Rattle.drum.proofs.Good.{caps}
 use Rattle.drum.proofs.Description.master_words.Statement.{statement}
 use Rattle.drum.proofs.Description.master_words.Tie as tie
@@ -27,7 +27,7 @@ add-result c =
     omega arith
 
 returns : tie.Need-returns
-unfolding masterSize
+unfolding master_size
 returns c = search rules
 
 pub master-words-spec : {M : Type 1} → statement M

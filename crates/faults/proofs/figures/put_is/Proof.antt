@@ -1,34 +1,34 @@
 -- Each parameter has its text.
 use native.Mathlib.Omega.{arith}
 use Rattle.texts.specs.Texts.{bytes}
-use Rattle.faults.specs.Sentences.{isText}
+use Rattle.faults.specs.Sentences.{is_text}
 use borrow.Author.Rules.{rules}
 use Rattle.faults.proofs.Told.{is-put, is-end}
 use Rattle.faults.proofs.figures.put_is.Statement.{statement}
 use Rattle.faults.proofs.figures.put_is.Tie as tie
 
 returns : tie.Need-returns
-unfolding isText bytes
+unfolding is_text bytes
 returns c = (search is-put, search is-end, omega arith)
 
 returns-2 : tie.Need-returns-2
-unfolding isText bytes
+unfolding is_text bytes
 returns-2 c = (search is-put, search is-end, omega arith)
 
 returns-3 : tie.Need-returns-3
-unfolding isText bytes
+unfolding is_text bytes
 returns-3 c = (search is-put, search is-end, omega arith)
 
 returns-4 : tie.Need-returns-4
-unfolding isText bytes
+unfolding is_text bytes
 returns-4 c = (search is-put, search is-end, omega arith)
 
 returns-5 : tie.Need-returns-5
-unfolding isText bytes
+unfolding is_text bytes
 returns-5 c = (search is-put, search is-end, omega arith)
 
 returns-6 : tie.Need-returns-6
-unfolding isText bytes
+unfolding is_text bytes
 returns-6 c = (search is-put, search is-end, omega arith)
 
 pub put-is-spec : {M : Type 1} → statement M

@@ -2,20 +2,20 @@
 use native.Mathlib.Omega.{arith}
 use borrow.Author.Tests.{eq-eqb, ne_eqb}
 use Rattle.texts.specs.Texts.{bytes}
-use Rattle.faults.specs.Sentences.{takesText}
+use Rattle.faults.specs.Sentences.{takes_text}
 use borrow.Author.Rules.{rules}
 use Rattle.faults.proofs.figures.put_takes.Statement.{statement}
 use Rattle.faults.proofs.figures.put_takes.Tie as tie
 
 returns : tie.Need-returns
-unfolding takesText bytes
+unfolding takes_text bytes
 returns c =
     let s1 = c.before.before in
     let s2 = s1.before.before.before in
     rw (eq-eqb _ _ s2.if1.true) (s1.put-bytes.ensures.0, s1.put-bytes.ensures.1, omega (arith, s1.put-bytes.ensures.1))
 
 returns-2 : tie.Need-returns-2
-unfolding takesText bytes
+unfolding takes_text bytes
 returns-2 c =
     let s1 = c.before.before in
     let s2 = s1.before.before.before.before in

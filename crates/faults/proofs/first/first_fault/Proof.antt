@@ -3,13 +3,13 @@ use mathlib.Core.Path.{ap}
 use borrow.Author.Tests.{not-true, not-false}
 use Rattle.drum.proofs.Good.{was-good, size-good}
 use Rattle.faults.specs.declared.Fault.TheVariants.{TooLarge}
-use Rattle.faults.specs.First.{firstFault}
+use Rattle.faults.specs.First.{first_fault}
 use borrow.Author.Rules.{rules}
 use Rattle.faults.proofs.first.first_fault.Statement.{statement}
 use Rattle.faults.proofs.first.first_fault.Tie as tie
 
 returns : tie.Need-returns
-unfolding firstFault
+unfolding first_fault
 returns c =
     let s1 = c.before in
     let s2 = s1.before in
@@ -17,11 +17,11 @@ returns c =
     rw (s3.given.given.1, ← s2.is-good.ensures, not-true s2.is-good.result s1.if1.true) c.range-fault.ensures
 
 returns-2 : tie.Need-returns-2
-unfolding firstFault
+unfolding first_fault
 returns-2 c = rw c.before.enum_told.given.1 c.words-fault.ensures
 
 returns-3 : tie.Need-returns-3
-unfolding firstFault
+unfolding first_fault
 returns-3 c =
     let s1 = c.before in
     let s2 = s1.before in

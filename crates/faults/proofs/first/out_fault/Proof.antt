@@ -1,11 +1,11 @@
 -- `first::out_fault` meets its contract.
 use mathlib.Core.Path.{refl}
-use Rattle.faults.specs.First.{outFault}
+use Rattle.faults.specs.First.{out_fault}
 use Rattle.faults.proofs.first.out_fault.Statement.{statement}
 use Rattle.faults.proofs.first.out_fault.Tie as tie
 
 returns : tie.Need-returns
-unfolding outFault
+unfolding out_fault
 returns c = refl
 
 pub out-fault-spec : {M : Type 1} → statement M

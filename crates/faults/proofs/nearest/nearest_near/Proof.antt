@@ -2,13 +2,13 @@
 use Rattle.texts.specs.Texts.{bytes}
 use Rattle.texts.specs.Results.{spelling}
 use Rattle.lines.specs.Lines.{kinds}
-use Rattle.faults.specs.Nearest.{nothingNear, nearestIn}
+use Rattle.faults.specs.Nearest.{nothing_near, nearest_in}
 use borrow.Author.Rules.{rules}
 use Rattle.faults.proofs.nearest.nearest_near.Statement.{statement}
 use Rattle.faults.proofs.nearest.nearest_near.Tie as tie
 
 returns : tie.Need-returns
-unfolding nearestIn kinds spelling bytes nothingNear
+unfolding nearest_in kinds spelling bytes nothing_near
 returns c =
     let s1 = c.before.before in
     let s2 = s1.before.before in

@@ -1,14 +1,14 @@
 -- `sentence::put_count` meets its contract.
 use native.Mathlib.Omega.{arith}
 use Rattle.texts.specs.Texts.{bytes}
-use Rattle.faults.specs.Sentences.{countText}
+use Rattle.faults.specs.Sentences.{count_text}
 use Rattle.faults.proofs.Three.{three-written}
 use borrow.Author.Rules.{rules}
 use Rattle.faults.proofs.sentence.put_count.Statement.{statement}
 use Rattle.faults.proofs.sentence.put_count.Tie as tie
 
 returns : tie.Need-returns
-unfolding countText bytes
+unfolding count_text bytes
 returns c =
     let s1 = c.before.before in
     let s2 = s1.before.before.before.before.before.before in

@@ -1,14 +1,14 @@
 -- `sentence::put_no_call` meets its contract.
 use native.Mathlib.Omega.{arith}
 use Rattle.texts.specs.Texts.{bytes}
-use Rattle.faults.specs.Sentences.{noCallText}
+use Rattle.faults.specs.Sentences.{no_call_text}
 use Rattle.faults.proofs.Three.{three-written}
 use borrow.Author.Rules.{rules}
 use Rattle.faults.proofs.sentence.put_no_call.Statement.{statement}
 use Rattle.faults.proofs.sentence.put_no_call.Tie as tie
 
 returns : tie.Need-returns
-unfolding noCallText bytes
+unfolding no_call_text bytes
 returns c =
     let s1 = c.before.before in
     let s2 = s1.before.before.before.before in

@@ -1,14 +1,14 @@
 -- `sentence::put_range` meets its contract.
 use native.Mathlib.Omega.{arith}
 use Rattle.texts.specs.Texts.{bytes}
-use Rattle.faults.specs.Sentences.{rangeText}
+use Rattle.faults.specs.Sentences.{range_text}
 use Rattle.faults.proofs.Three.{three-written}
 use borrow.Author.Rules.{rules}
 use Rattle.faults.proofs.sentence.put_range.Statement.{statement}
 use Rattle.faults.proofs.sentence.put_range.Tie as tie
 
 returns : tie.Need-returns
-unfolding rangeText bytes
+unfolding range_text bytes
 returns c =
     let s1 = c.before.before in
     let s2 = s1.before.before.before.before.before.before in

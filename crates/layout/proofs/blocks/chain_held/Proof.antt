@@ -4,14 +4,14 @@ use native.Mathlib.Omega.{arith}
 use borrow.Author.Rules.{rules}
 use lib.ListN.{length}
 use Rattle.drum.proofs.Forms.{link_near}
-use Rattle.layout.specs.Inspect.{chainHeld}
+use Rattle.layout.specs.Inspect.{chain_held}
 use Rattle.layout.proofs.CodeSizes.{block-least, block-most, block-wide}
 use Rattle.layout.proofs.CodeSteps.{chain-end, chain-long, chain-unmarked, chain-kind, chain-words, chain_next}
 use Rattle.layout.proofs.blocks.chain_held.Statement.{statement}
 use Rattle.layout.proofs.blocks.chain_held.Tie as tie
 
 abbrev invariant-loop : tie.invariant-loop
-invariant-loop p f head marks₀ behind b₀ left₀ marks b left = (length marks ≡ p.n) × (chainHeld p f p.n head marks₀ ≡ chainHeld p f left b marks)
+invariant-loop p f head marks₀ behind b₀ left₀ marks b left = (length marks ≡ p.n) × (chain_held p f p.n head marks₀ ≡ chain_held p f left b marks)
 
 abbrev decreases-loop : tie.decreases-loop
 decreases-loop p f head marks₀ behind b₀ left₀ marks b left = left

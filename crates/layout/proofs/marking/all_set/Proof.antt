@@ -3,13 +3,13 @@ use mathlib.Core.Path.{◌≡◌}
 use Prim.Native.Nat.{◌-◌, ◌≤◌}
 use native.Mathlib.Omega.{arith}
 use lib.ListN.{take}
-use Rattle.words.specs.Words.{part, noneIs}
+use Rattle.words.specs.Words.{part, none_is}
 use Rattle.layout.proofs.CodeMarks.{set-start, set_next, set-stop, set-done}
 use Rattle.layout.proofs.marking.all_set.Statement.{statement}
 use Rattle.layout.proofs.marking.all_set.Tie as tie
 
 abbrev invariant-loop : tie.invariant-loop
-invariant-loop marks n i₀ i = (i ≤ n) × (noneIs 0 (take n marks) ≡ noneIs 0 (part i (n - i) marks))
+invariant-loop marks n i₀ i = (i ≤ n) × (none_is 0 (take n marks) ≡ none_is 0 (part i (n - i) marks))
 
 abbrev decreases-loop : tie.decreases-loop
 decreases-loop marks n i₀ i = n - i

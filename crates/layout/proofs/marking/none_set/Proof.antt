@@ -3,13 +3,13 @@ use mathlib.Core.Path.{◌≡◌, refl}
 use Prim.Native.Nat.{◌-◌}
 use native.Mathlib.Omega.{arith}
 use lib.ListN.{length, drop}
-use Rattle.words.specs.Words.{allAre}
+use Rattle.words.specs.Words.{all_are}
 use Rattle.layout.proofs.CodeMarks.{unset-next, unset-stop, unset-done}
 use Rattle.layout.proofs.marking.none_set.Statement.{statement}
 use Rattle.layout.proofs.marking.none_set.Tie as tie
 
 abbrev invariant-loop : tie.invariant-loop
-invariant-loop marks a i₀ i = allAre 0 (drop a marks) ≡ allAre 0 (drop i marks)
+invariant-loop marks a i₀ i = all_are 0 (drop a marks) ≡ all_are 0 (drop i marks)
 
 abbrev decreases-loop : tie.decreases-loop
 decreases-loop marks a i₀ i = length marks - i

@@ -1,23 +1,23 @@
 -- `bytes::is_blank` meets its contract.
 use borrow.Author.Tests.{eq-eqb, ne_eqb}
-use Rattle.lines.specs.Lines.{isBlank}
+use Rattle.lines.specs.Lines.{is_blank}
 use Rattle.lines.proofs.bytes.is_blank.Statement.{statement}
 use Rattle.lines.proofs.bytes.is_blank.Tie as tie
 
 returns : tie.Need-returns
-unfolding isBlank
+unfolding is_blank
 returns c = rw (eq-eqb _ _ c.if1.true)
 
 returns-2 : tie.Need-returns-2
-unfolding isBlank
+unfolding is_blank
 returns-2 c = rw (ne_eqb _ _ c.before.if1.false, eq-eqb _ _ c.if2.true)
 
 returns-3 : tie.Need-returns-3
-unfolding isBlank
+unfolding is_blank
 returns-3 c = rw (ne_eqb _ _ c.before.before.if1.false, ne_eqb _ _ c.before.if2.false, eq-eqb _ _ c.if3.true)
 
 returns-4 : tie.Need-returns-4
-unfolding isBlank
+unfolding is_blank
 returns-4 c = rw (ne_eqb _ _ c.before.before.if1.false, ne_eqb _ _ c.before.if2.false, ne_eqb _ _ c.if3.false)
 
 pub is-blank-spec : {M : Type 1} → statement M

@@ -1,15 +1,15 @@
 -- `bytes::is_digit` meets its contract.
 use borrow.Author.Tests.{le-leb, lt-leb}
-use Rattle.lines.specs.Lines.{isDigit}
+use Rattle.lines.specs.Lines.{is_digit}
 use Rattle.lines.proofs.bytes.is_digit.Statement.{statement}
 use Rattle.lines.proofs.bytes.is_digit.Tie as tie
 
 returns : tie.Need-returns
-unfolding isDigit
+unfolding is_digit
 returns c = rw (le-leb _ _ c.if1.true)
 
 returns-2 : tie.Need-returns-2
-unfolding isDigit
+unfolding is_digit
 returns-2 c = rw (lt-leb _ _ c.if1.false)
 
 pub is-digit-spec : {M : Type 1} → statement M

@@ -4,14 +4,14 @@ use mathlib.Core.Path.{◌≡◌, sym, ◌∙◌}
 use native.Mathlib.Omega.{arith}
 use lib.ListN.{length}
 use Rattle.words.specs.Words.{part}
-use Rattle.words.specs.Keys.{sameKey}
+use Rattle.words.specs.Keys.{same_key}
 use Rattle.lines.proofs.Turns.{name-other, name-start, name-stop, name-next, name_done}
 use Rattle.lines.proofs.names.is_name.Statement.{statement}
 use Rattle.lines.proofs.names.is_name.Tie as tie
 
 abbrev invariant-loop : tie.invariant-loop
 invariant-loop name n text i₀ i =
-    (i ≤ n) × (n ≡ length text) × (sameKey (part 0 n name) text ≡ sameKey (part i (n - i) name) (part i (n - i) text))
+    (i ≤ n) × (n ≡ length text) × (same_key (part 0 n name) text ≡ same_key (part i (n - i) name) (part i (n - i) text))
 
 abbrev decreases-loop : tie.decreases-loop
 decreases-loop name n text i₀ i = n - i

@@ -1,5 +1,5 @@
 -- The counts of the two blocks, in their current texts, decide.
-use Rattle.nsert.proofs.Planning.{has_room, is-full, both-full}
+use Rattle.nsert.proofs.Planning.{has_room_lem, is-full, both-full}
 use borrow.Author.Rules.{rules}
 use Rattle.nsert.proofs.plan.insert_at.Statement.{statement}
 use Rattle.nsert.proofs.plan.insert_at.Tie as tie
@@ -12,7 +12,7 @@ insert-at-spec =
     (λ c κs. search rules)
     (λ c κs. search rules)
     (λ c κs. search rules)
-    (λ c. search has_room)
+    (λ c. search has_room_lem)
     (λ c κs. search rules)
     (λ c κs. search rules)
     (λ c κs. search rules)

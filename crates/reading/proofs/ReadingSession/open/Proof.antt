@@ -1,5 +1,5 @@
 -- Each return is one way through OPEN.
-use Rattle.reading.proofs.Opened.{open-sizes, open-marks, open_twice, open-bad, open_done, inspect-fit}
+use Rattle.reading.proofs.Opened.{open-sizes, open-marks, open_twice, open-bad, open_done_lem, inspect-fit}
 use borrow.Author.Rules.{rules}
 use Rattle.reading.proofs.ReadingSession.open.Statement.{statement}
 use Rattle.reading.proofs.ReadingSession.open.Tie as tie
@@ -26,4 +26,4 @@ open_spec =
     (λ c. search open-bad)
     (λ c κs. search rules)
     (λ c. search rules)
-    (λ c. search open_done))
+    (λ c. search open_done_lem))

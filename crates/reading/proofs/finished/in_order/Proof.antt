@@ -4,7 +4,7 @@ use mathlib.Core.Path.{◌≡◌, refl}
 use native.Mathlib.Omega.{arith}
 use lib.ListN.{length}
 use Rattle.layout.proofs.CodeSizes.{key-short, row_inside, row-rest}
-use Rattle.reading.specs.Finished.{inOrder}
+use Rattle.reading.specs.Finished.{in_order}
 use Rattle.reading.specs.Fits.{NamesBlocks}
 use Rattle.reading.proofs.Order.{order-done, order-stop, order-next, names-rest, first-least, first-most, next_fits, number_fits}
 use Rattle.reading.proofs.finished.in_order.Statement.{statement}
@@ -12,7 +12,7 @@ use Rattle.reading.proofs.finished.in_order.Tie as tie
 
 abbrev invariant-loop : tie.invariant-loop
 invariant-loop p file e n at₀ b₀ left₀ at b left =
-    (at + left * (p.k + 1) ≤ length file) × (b + left ≡ n + 2) × NamesBlocks p file at left × (inOrder p file e 2 n ≡ inOrder p file at b left)
+    (at + left * (p.k + 1) ≤ length file) × (b + left ≡ n + 2) × NamesBlocks p file at left × (in_order p file e 2 n ≡ in_order p file at b left)
 
 abbrev decreases-loop : tie.decreases-loop
 decreases-loop p file e n at₀ b₀ left₀ at b left = left

@@ -5,7 +5,7 @@ use native.Mathlib.Omega.{arith}
 use borrow.Author.Rules.{rules}
 use lib.ListN.{length}
 use Rattle.drum.specs.Params.{D}
-use Rattle.salvage.specs.Met.{met, metFrom}
+use Rattle.salvage.specs.Met.{met, met_from}
 use Rattle.salvage.specs.Salvage.{run}
 use Rattle.salvage.specs.Promise.{walking, Spare, Copied}
 use Rattle.salvage.proofs.Walks.{blocks-first, spare-first, copied_on, spare-block, number-most, spare-next, desc-next, block-turn, blocks_end, blocks-fit}
@@ -23,7 +23,7 @@ invariant-loop copy file₀ buffer₀ report₀ n next₀ b₀ file buffer repor
     × (length buffer ≡ length buffer₀)
     × (length report ≡ length report₀)
     × (run (walking next₀ file₀ buffer₀ report₀) (met next₀.session.desc copy)
-    ≡ run (walking next file buffer report) (metFrom next₀.session.desc copy (b + 1) (n - b)))
+    ≡ run (walking next file buffer report) (met_from next₀.session.desc copy (b + 1) (n - b)))
 
 abbrev decreases-loop : tie.decreases-loop
 decreases-loop copy file₀ buffer₀ report₀ n next₀ b₀ file buffer report next b = n - b

@@ -5,8 +5,8 @@ use Prim.Native.Nat.{◌+◌, ◌*◌, ◌-◌, ◌≤◌}
 use native.Mathlib.Omega.{arith}
 use borrow.Author.Rules.{rules}
 use lib.ListN.{length}
-use Rattle.drum.specs.Params.{goodParams}
-use Rattle.salvage.specs.Met.{places, recordsIn, rows_from}
+use Rattle.drum.specs.Params.{good_params}
+use Rattle.salvage.specs.Met.{places, records_in, rows_from}
 use Rattle.salvage.specs.Salvage.{run}
 use Rattle.salvage.specs.Promise.{walking, Spare}
 use Rattle.salvage.proofs.Walks.{text-some, marked-least, block-small, desc-good, count-few, rows-within, records-spare, records-first}
@@ -20,14 +20,14 @@ invariant-loop text file₀ buffer₀ report₀ b wpr count next₀ i₀ at₀ f
     × (count ≤ 4096)
     × (b ≤ 262143)
     × (wpr ≡ next₀.session.desc.wpr)
-    × (goodParams next₀.session.desc ≡ true)
+    × (good_params next₀.session.desc ≡ true)
     × (next.session.desc ≡ next₀.session.desc)
     × (at + (count - i) * wpr ≤ length text)
     × Spare next (count - i) (length report₀)
     × (length file ≡ length file₀)
     × (length buffer ≡ length buffer₀)
     × (length report ≡ length report₀)
-    × (run (walking next₀ file₀ buffer₀ report₀) (places b 1 (recordsIn next₀.session.desc text))
+    × (run (walking next₀ file₀ buffer₀ report₀) (places b 1 (records_in next₀.session.desc text))
     ≡ run (walking next file buffer report) (places b (i + 1) (rows_from wpr at (count - i) text)))
 
 abbrev decreases-loop : tie.decreases-loop

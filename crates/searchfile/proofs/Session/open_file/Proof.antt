@@ -1,6 +1,6 @@
 -- `searchfile::Session::open_file` meets its contract: each return is one way through OPEN.
 use borrow.Author.Rules.{rules}
-use Rattle.searchfile.proofs.Opening.{open-sizes, open-marks, open_twice, open-bad, open_done, inspect-fit}
+use Rattle.searchfile.proofs.Opening.{open-sizes, open-marks, open_twice, open-bad, open_done_lem, inspect-fit}
 use Rattle.searchfile.proofs.Session.open_file.Statement.{statement}
 use Rattle.searchfile.proofs.Session.open_file.Tie as tie
 
@@ -21,4 +21,4 @@ open-file-spec =
     (λ c. search open-bad)
     (λ c κs. search rules)
     (λ c. search rules)
-    (λ c. search open_done))
+    (λ c. search open_done_lem))

@@ -4,8 +4,8 @@ use Prim.Native.Nat.{◌+◌, ◌-◌, ◌≤◌}
 use native.Mathlib.Omega.{arith}
 use lib.ListN.{length, drop}
 use Rattle.drum.specs.Params.{start}
-use Rattle.layout.proofs.TurnedSteps.{leftToTurn}
-use Rattle.turn.specs.Fits.{blocksTurned}
+use Rattle.layout.proofs.TurnedSteps.{left_to_turn}
+use Rattle.turn.specs.Fits.{blocks_turned}
 use Rattle.turn.proofs.Steps.{first-turn, turn-ready, turn-next, rest-next, turn_end}
 use Rattle.turn.proofs.blocks.turn_blocks.Statement.{statement}
 use Rattle.turn.proofs.blocks.turn_blocks.Tie as tie
@@ -13,7 +13,7 @@ use Rattle.turn.proofs.blocks.turn_blocks.Tie as tie
 abbrev invariant-loop : tie.invariant-loop
 invariant-loop p file₀ marks b₀ file b =
     (b ≤ length marks)
-    × (blocksTurned p marks file₀ ≡ leftToTurn p file marks b)
+    × (blocks_turned p marks file₀ ≡ left_to_turn p file marks b)
     × (drop (start p (b + 1)) file ≡ drop (start p (b + 1)) file₀)
     × (length file ≡ length file₀)
 

@@ -3,13 +3,13 @@ use mathlib.Core.Path.{◌≡◌, refl}
 use Prim.Native.Nat.{◌-◌, ◌≤◌}
 use native.Mathlib.Omega.{arith}
 use lib.ListN.{length, length-set}
-use Rattle.layout.specs.Turned.{indexMarked}
+use Rattle.layout.specs.Turned.{index_marked}
 use Rattle.turn.proofs.Marks.{some_words, turn-fit, turn-few, mark-none, names-some, names-within, mark-next, mark-all}
 use Rattle.turn.proofs.marking.mark_indexes.Statement.{statement}
 use Rattle.turn.proofs.marking.mark_indexes.Tie as tie
 
 abbrev invariant-loop : tie.invariant-loop
-invariant-loop p f marks₀ n i₀ marks i = (i ≤ n) × (marks ≡ indexMarked p f i marks₀) × (length marks ≡ length marks₀)
+invariant-loop p f marks₀ n i₀ marks i = (i ≤ n) × (marks ≡ index_marked p f i marks₀) × (length marks ≡ length marks₀)
 
 abbrev decreases-loop : tie.decreases-loop
 decreases-loop p f marks₀ n i₀ marks i = n - i

@@ -4,7 +4,7 @@ use mathlib.Core.List.{◌++◌}
 use Prim.Native.Nat.{◌-◌, ◌≤◌}
 use native.Mathlib.Omega.{arith}
 use lib.ListN.{length, take, drop, length-set}
-use Rattle.layout.specs.Turned.{indexUnmarked}
+use Rattle.layout.specs.Turned.{index_unmarked}
 use Rattle.turn.proofs.Marks.{unmark-none, unmark-next, unmark-all}
 use borrow.Author.Rules.{rules}
 use Rattle.turn.proofs.marking.restore.Statement.{statement}
@@ -12,7 +12,7 @@ use Rattle.turn.proofs.marking.restore.Tie as tie
 
 abbrev invariant-loop : tie.invariant-loop
 invariant-loop marks₀ i₀ marks i =
-    (i ≤ length marks₀) × (indexUnmarked marks₀ ≡ take i marks ++ indexUnmarked (drop i marks)) × (length marks ≡ length marks₀)
+    (i ≤ length marks₀) × (index_unmarked marks₀ ≡ take i marks ++ index_unmarked (drop i marks)) × (length marks ≡ length marks₀)
 
 abbrev decreases-loop : tie.decreases-loop
 decreases-loop marks₀ i₀ marks i = length marks - i

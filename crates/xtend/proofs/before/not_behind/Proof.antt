@@ -1,5 +1,5 @@
 -- The key found, another bound, and the last key, in this order.
-use Rattle.nsert.proofs.Planning.{text-some, rows_in, key-narrow, key_in}
+use Rattle.nsert.proofs.Planning.{text-some, rows_in_lem, key-narrow, key_in_lem}
 use Rattle.xtend.proofs.Behind.{came-records, behind-found, behind-other, behind-last}
 use borrow.Author.Rules.{rules}
 use Rattle.xtend.proofs.before.not_behind.Statement.{statement}
@@ -12,7 +12,7 @@ not-behind-spec =
     (λ c κs. search rules)
     (λ c κs. search text-some)
     (λ c κs. search rules)
-    (λ c κs. (search rows_in, search key-narrow, search key_in))
+    (λ c κs. (search rows_in_lem, search key-narrow, search key_in_lem))
     (λ c. search behind-found)
     (λ c κs. search rules)
     (λ c. search behind-other)
