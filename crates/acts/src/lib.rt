@@ -1,4 +1,5 @@
 // What the calls do once they are planned: a flagged buffer written, blocks brought and reached, a record given, the master's free words set.
+#![tactic(auto)]
 ghost use Rattle.std.specs.Prelude.{◌≡◌, true, false, ◌+◌, ◌≤◌, length, []};
 ghost use Rattle.table.specs.Tables.{place, row};
 ghost use Rattle.drum.specs.Params.{detail_shape};
@@ -15,7 +16,7 @@ use drum::Description;
 use rules::{Done, Held, Way};
 
 // A block reached: the transfers made for it, and the current block and flag then.
-#[derive(Drop)]
+#[derive(Clone, Copy)]
 pub struct Arrived {
     pub transfers: usize,
     pub current: usize,

@@ -1,4 +1,6 @@
 // ADV, once the session and the workspace are checked.
+#![tactic(auto)]
+
 mod deeds;
 mod plan;
 

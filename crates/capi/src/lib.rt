@@ -1,5 +1,7 @@
 // The calls for programs in other languages. A session is lent as 73 or 74 words (module `session`), every slice is a pointer and a length, and
 // a call's answer is one number: its transfers times 2^32, plus its number. A session slice that is none answers 020007 and changes nothing.
+#![tactic(auto)]
+
 mod copying;
 mod names;
 pub mod place;

@@ -1,4 +1,6 @@
 // Files copied under another CONTROL: that of the fifteen calls, one whose master is made even, and one of 4,200 sections.
+#![tactic(auto)]
+
 mod even;
 mod fifteen;
 mod many;

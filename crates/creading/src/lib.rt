@@ -1,5 +1,7 @@
 // The reading set's calls for programs in other languages, in an archive of their own: shapes and answers are those of the full set's calls, the file is
 // lent to be read alone.
+#![tactic(auto)]
+
 mod session;
 
 ghost use Rattle.std.specs.Prelude.{◌≡◌, []};

@@ -1,4 +1,6 @@
 // DLETE, once the session and the workspace are checked.
+#![tactic(auto)]
+
 mod deeds;
 mod plan;
 

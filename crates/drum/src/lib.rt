@@ -1,5 +1,7 @@
 // The lower layer: the file description, blocks moved between file and buffer, and blocks changed where they lie. Only this crate knows where
 // a block lies in a file.
+#![tactic(auto)]
+
 pub mod inside;
 pub mod kinds;
 
@@ -13,7 +15,7 @@ ghost use Rattle.words.specs.Slices.{was, became};
 use table::Shape;
 
 // The parameters of a search file. Set up field by field, each step handing the description on.
-#[derive(Drop)]
+#[derive(Clone, Copy)]
 pub struct Description {
     pub wpb: usize,
     pub wpr: usize,

@@ -1,5 +1,7 @@
 // What is wrong with a line that ends a session, or with its parameters, and the sentence that says it. Document 01 fixes standard output alone;
 // this is for standard error.
+#![tactic(auto)]
+
 mod figures;
 mod first;
 mod nearest;
@@ -19,7 +21,7 @@ pub use sentence::put_sentence;
 pub use watch::{Watch, look};
 
 // The parameters of a first line.
-#[derive(Drop)]
+#[derive(Clone, Copy)]
 pub enum Parameter {
     Wpb,
     Wpr,
@@ -30,7 +32,7 @@ pub enum Parameter {
 }
 
 // What is wrong: with a line of calls; with a line of either kind (word number `word`; a number above the greatest); with a first line.
-#[derive(Drop)]
+#[derive(Clone, Copy)]
 pub enum Fault {
     Empty,
     NotPlayed,

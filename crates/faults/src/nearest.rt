@@ -9,7 +9,7 @@ use lines::Named;
 use rules::Call;
 
 // A call, the length of its name, and how much the word is like it.
-#[derive(Drop)]
+#[derive(Clone, Copy)]
 pub struct Near {
     pub call: Call,
     pub size: usize,

@@ -7,7 +7,7 @@ use lines::{is_blank, is_digit};
 
 // Whether the first word is a name; whether a word is being read; how many words have begun; which was the first with a byte that is no digit, a
 // name left out (0: none).
-#[derive(Drop)]
+#[derive(Clone, Copy)]
 pub struct Watch {
     pub named: bool,
     pub inside: bool,

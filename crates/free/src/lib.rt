@@ -1,5 +1,7 @@
 // New blocks: the chain's head first, then the lowest never used, each tested against the other blocks of the call. The number that tells
 // whether any is left. And the file made ready for them.
+#![tactic(auto)]
+
 mod ready;
 
 ghost use Rattle.std.specs.Prelude.{◌≡◌, true, not, ◌&&◌, ◌+◌, ◌≤◌, eqb, length};
@@ -14,19 +16,19 @@ use numbers::NONE_FREE;
 pub use ready::prepare;
 use rules::{Held, Pair, Path, Taken};
 
-#[derive(Drop)]
+#[derive(Clone, Copy)]
 pub enum Grant {
     Bad,
     Got(Taken),
 }
 
-#[derive(Drop)]
+#[derive(Clone, Copy)]
 pub enum Grants {
     Bad,
     Got(Pair),
 }
 
-#[derive(Drop)]
+#[derive(Clone, Copy)]
 pub enum Number {
     Bad,
     Is(u32),

@@ -1,4 +1,6 @@
 // A finished list read on a handset: the list is made by XTEND, read by the reading set's calls, and other files are offered to it.
+#![tactic(auto)]
+
 mod said;
 
 use drum::Description;

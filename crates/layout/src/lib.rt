@@ -1,4 +1,6 @@
 // What a good file is: the words of a new one, and the inspection behind OPEN, with its marks. One walk; the first fault ends it.
+#![tactic(auto)]
+
 mod blocks;
 mod marking;
 mod rows;

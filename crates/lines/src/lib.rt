@@ -1,4 +1,6 @@
 // Lines of a session, read byte by byte: what a line says is kept in a few numbers and two lent slices, so a line may be of any length.
+#![tactic(auto)]
+
 mod bytes;
 mod names;
 
@@ -16,7 +18,7 @@ use rules::Call;
 
 // What is kept of the bytes of a line: whether there were any; whether a word is being read; whether it is a number so far, and its value;
 // how many words were no numbers (2 stands for more), how many were, and how many bytes of the first one are kept.
-#[derive(Drop)]
+#[derive(Clone, Copy)]
 pub struct Reading {
     pub begun: bool,
     pub inside: bool,
@@ -28,7 +30,7 @@ pub struct Reading {
 }
 
 // How far a part of the input was read: the place behind it, and whether a line ended there.
-#[derive(Drop)]
+#[derive(Clone, Copy)]
 pub struct Taken {
     pub reading: Reading,
     pub at: usize,
@@ -36,14 +38,14 @@ pub struct Taken {
 }
 
 // The call that a word names.
-#[derive(Drop)]
+#[derive(Clone, Copy)]
 pub enum Named {
     Nothing,
     Kind { call: Call },
 }
 
 // The parameters that a line gives.
-#[derive(Drop)]
+#[derive(Clone, Copy)]
 pub enum Parameters {
     Nothing,
     Given { p: Description },

@@ -1,5 +1,6 @@
 // What a call looks at before it stores anything: ways to blocks, and where a key is. Every number on the way is checked, in current
 // texts; the places come back beside the block numbers.
+#![tactic(auto)]
 ghost use Rattle.std.specs.Prelude.{◌≡◌, true, [], ◌+◌, ◌≤◌, ◌<◌, length};
 ghost use Rattle.numbers.specs.Checked.{passed};
 ghost use Rattle.words.specs.Words.{part};
@@ -16,19 +17,19 @@ use drum::Description;
 use rules::{Entry, Held, Look, Path, Way, Which};
 use table::{Shape, Want};
 
-#[derive(Drop)]
+#[derive(Clone, Copy)]
 pub enum Pick {
     Bad,
     At(Entry),
 }
 
-#[derive(Drop)]
+#[derive(Clone, Copy)]
 pub enum Route {
     Bad,
     To(Path),
 }
 
-#[derive(Drop)]
+#[derive(Clone, Copy)]
 pub enum Test {
     Bad,
     No,

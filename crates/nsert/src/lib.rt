@@ -1,4 +1,6 @@
 // NSERT: a record put in. What it will do is decided first, from current texts alone; then it is done.
+#![tactic(auto)]
+
 pub mod deeds;
 pub mod plan;
 mod splits;

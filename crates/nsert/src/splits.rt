@@ -15,7 +15,7 @@ use rules::{Held, Path, Taken, Way};
 use split::Cut;
 
 // A full block at the end of a path, the place in it of the record that is put in, and its new block, with words 1 and 2 of the master then.
-#[derive(Drop)]
+#[derive(Clone, Copy)]
 pub struct Overflow {
     pub path: Path,
     pub place: usize,

@@ -1,4 +1,6 @@
 // Document 01, "Numbers returned (octal)": what a call answers.
+#![tactic(auto)]
+
 ghost use Rattle.std.specs.Prelude.{◌≡◌};
 ghost use Rattle.numbers.specs.Numbers.{accepted};
 

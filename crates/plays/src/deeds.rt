@@ -3,7 +3,7 @@ use super::shown::{print_line, print_turned, print_words, told, words_of};
 use searchfile::{Answer, Session};
 
 // The calls, then what no call does.
-#[derive(Drop)]
+#[derive(Clone, Copy)]
 pub enum Deed {
     Create,
     Open,
@@ -27,7 +27,7 @@ pub enum Deed {
 }
 
 // A line: what its first word means, the bytes of that word, and the words that follow; so many were given, the others are 0.
-#[derive(Drop)]
+#[derive(Clone, Copy)]
 pub struct Line {
     pub deed: Deed,
     pub name: [u8; 8],

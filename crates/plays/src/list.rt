@@ -9,7 +9,7 @@ use rules::Call;
 use searchfile::Session;
 
 // A line, and how many bytes it takes.
-#[derive(Drop)]
+#[derive(Clone, Copy)]
 struct Taking {
     line: Line,
     size: usize,

@@ -5,6 +5,8 @@
 //   SHORT, a SEEK with a workspace that is too short; and what no call does, to make up words and sessions that no call would leave:
 //   FILE place word                  BUFFER place word                  CURRENT block flag            POSITION given word
 // A line that begins with # says something to its reader.
+#![tactic(auto)]
+
 mod deeds;
 mod list;
 mod shown;

@@ -1,5 +1,6 @@
 // The printed session, line by line: what a line does, and the bytes that it prints. Whoever reads and writes calls these, and nothing else
 // decides what is printed.
+#![tactic(auto)]
 ghost use Rattle.std.specs.Prelude.{◌≡◌, ◌+◌, ◌*◌, ◌≤◌, length};
 ghost use Rattle.std.proofs.Math.Option.{none};
 ghost use Rattle.words.specs.Words.{part, put};
@@ -18,7 +19,7 @@ use rules::Call;
 use searchfile::Session;
 
 // What the first line makes of the program.
-#[derive(Drop)]
+#[derive(Clone, Copy)]
 pub enum Start {
     BadLine,
     OutOfRange,
@@ -27,14 +28,14 @@ pub enum Start {
 }
 
 // A line with parameters out of range: whether it ends the program, and the place behind what it printed.
-#[derive(Drop)]
+#[derive(Clone, Copy)]
 pub struct Told {
     pub over: bool,
     pub at: usize,
 }
 
 // A line of calls: the same, and the session to go on with.
-#[derive(Drop)]
+#[derive(Clone, Copy)]
 pub struct Turn {
     pub over: bool,
     pub at: usize,

@@ -1,5 +1,7 @@
 // The reading set: a session that finds, steps and looks, on a finished file of one section. The file is lent to be read alone, in every call, and the
 // session has no write flag; so no word of the file changes, and what a handset links has no altering code.
+#![tactic(auto)]
+
 mod calls;
 mod finished;
 mod steps;
@@ -16,7 +18,7 @@ use drum::Description;
 use rules::Done;
 
 // The parameters, open or closed, the current block (0 none), and the position: a key in its first K words, which means nothing unless `placed`.
-#[derive(Drop)]
+#[derive(Clone, Copy)]
 pub struct ReadingSession {
     pub desc: Description,
     pub opened: bool,
@@ -26,7 +28,7 @@ pub struct ReadingSession {
 }
 
 // What a call answers: its number (crate `numbers`), the transfers it made, and the session to go on with.
-#[derive(Drop)]
+#[derive(Clone, Copy)]
 pub struct Answer {
     pub number: u32,
     pub transfers: usize,

@@ -1,5 +1,7 @@
 // The name register: names entered raw, romanised once, held and freed, over the routine's session by its promises alone. Every call takes
 // the session by value and hands it back in its answer; no call has a condition on what it is given.
+#![tactic(auto)]
+
 mod checks;
 mod moves;
 

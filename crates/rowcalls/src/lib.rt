@@ -1,5 +1,7 @@
 // PUT and GET with a row of seven words, for programs in other languages: the row says layout, place and how many are left, and the place
 // and what is left are written back. Words that are no row answer 020007 and change nothing.
+#![tactic(auto)]
+
 mod row;
 
 ghost use Rattle.std.specs.Prelude.{◌≡◌};

@@ -1,4 +1,6 @@
 // Records in a row, played: lists put and read back, and places and words that no call would leave. Blocks have six words, one of them a leader word.
+#![tactic(auto)]
+
 mod shown;
 
 use shown::{print_bytes, print_told, print_words};

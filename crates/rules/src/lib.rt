@@ -1,12 +1,13 @@
 // The types that the definitions in specs/ and the code of the calls share: ways to blocks, what a lookup comes to, new blocks, and
 // what each call that changes the file will do.
 
+#![tactic(auto)]
 ghost use Rattle.std.specs.Prelude.{◌≡◌, false};
 
 use drum::Description;
 
 // Which entry of a table is wanted: the first, the last, the one at a place, or the first whose bound is not below the key.
-#[derive(Drop)]
+#[derive(Clone, Copy)]
 pub enum Which {
     First,
     Last,
@@ -15,14 +16,14 @@ pub enum Which {
 }
 
 // An entry: its place in its table, and the block that it names.
-#[derive(Drop)]
+#[derive(Clone, Copy)]
 pub struct Entry {
     pub place: usize,
     pub block: usize,
 }
 
 // The way to a detail block: place in the master, index block, place in the index block, detail block.
-#[derive(Drop)]
+#[derive(Clone, Copy)]
 pub struct Path {
     pub section: usize,
     pub index: usize,
@@ -31,14 +32,14 @@ pub struct Path {
 }
 
 // How a block comes to the buffer: it is there, or it is brought along a path.
-#[derive(Drop)]
+#[derive(Clone, Copy)]
 pub enum Way {
     Here,
     By(Path),
 }
 
 // What a lookup comes to: the record's place in the block, or the block that would hold it.
-#[derive(Drop)]
+#[derive(Clone, Copy)]
 pub enum Look {
     Bad,
     Found(Way, usize),
@@ -46,7 +47,7 @@ pub enum Look {
 }
 
 // What ADV comes to: the record's place in a block, or in the next block (the second path) when the first path's has nothing greater.
-#[derive(Drop)]
+#[derive(Clone, Copy)]
 pub enum Step {
     Bad,
     At(Way, usize),
@@ -54,7 +55,7 @@ pub enum Step {
 }
 
 // A new block (0: none is free), and words 1 and 2 of the master then. Word 2 may be any word while the chain is not empty.
-#[derive(Drop)]
+#[derive(Clone, Copy)]
 pub struct Taken {
     pub block: usize,
     pub head: usize,
@@ -63,14 +64,14 @@ pub struct Taken {
 
 // Two new blocks, the detail block before the index block, whose words 1 and 2 are the master's then (detail 0: too few are free, or no
 // section is left).
-#[derive(Drop)]
+#[derive(Clone, Copy)]
 pub struct Pair {
     pub detail: usize,
     pub index: Taken,
 }
 
 // What NSERT will do, with its number: stop after the lookup; store at a place of the block; split the block; split the index block too.
-#[derive(Drop)]
+#[derive(Clone, Copy)]
 pub enum Insert {
     Bad,
     Stop(Way, u32),
@@ -81,7 +82,7 @@ pub enum Insert {
 
 // What DLETE will do: stop after the lookup; take the record out; empty the block, whose link becomes the given head of the chain; empty
 // its index block too.
-#[derive(Drop)]
+#[derive(Clone, Copy)]
 pub enum Delete {
     Bad,
     Stop(Path),
@@ -92,7 +93,7 @@ pub enum Delete {
 
 // What XTEND will do, with its number: stop, or store in the last block (the index block that was read for it, or 0); start a new block;
 // start a new index block and section too; or, from a last block with only the end record, do what NSERT does on another path, or stop there.
-#[derive(Drop)]
+#[derive(Clone, Copy)]
 pub enum Extend {
     Bad,
     Stop(Way, usize, u32),
@@ -103,7 +104,7 @@ pub enum Extend {
 }
 
 // What a call works with beside the lent words: the description, the current block and the flag.
-#[derive(Drop)]
+#[derive(Clone, Copy)]
 pub struct Held {
     pub desc: Description,
     pub current: usize,
@@ -111,7 +112,7 @@ pub struct Held {
 }
 
 // What a call has done: its number and count, the current block and flag it leaves, and whether position is the workspace's key now.
-#[derive(Drop)]
+#[derive(Clone, Copy)]
 pub struct Done {
     pub number: u32,
     pub transfers: usize,
@@ -121,7 +122,7 @@ pub struct Done {
 }
 
 // A call as its kind; `at` is where its key or record begins in the array of words kept beside it.
-#[derive(Drop)]
+#[derive(Clone, Copy)]
 pub enum Call {
     Create,
     Open,

@@ -2,6 +2,8 @@
 // which every number occurs that the program can answer with good parameters; `range` has parameters out of range, where only a line's first
 // word is looked at; `large` asks for a file above 8,192 words; `empty` is no input at all; the others have a bad line of each kind, or one that
 // is just not bad.
+#![tactic(auto)]
+
 fn play_named(i: usize) {
     let mut path = io::buffer();
     let length = os::arg(i, &mut path);

@@ -1,5 +1,7 @@
 // Salvage: the records of a broken copy put into a fresh file, and a report of what was not. The copy's blocks say what they are, as in the second block form;
 // its master and its index blocks are not believed. The copy is only read; each record is lent to NSERT where it lies.
+#![tactic(auto)]
+
 mod texts;
 mod walk;
 
@@ -16,7 +18,7 @@ use searchfile::Session;
 use walk::every_block;
 
 // What the walk hands on: the session on the fresh file, the lines written and the transfers made.
-#[derive(Drop)]
+#[derive(Clone, Copy)]
 pub struct Going {
     pub session: Session,
     pub lines: usize,
@@ -24,7 +26,7 @@ pub struct Going {
 }
 
 // What the call answers: its number, the transfers of its NSERTs and of its CLOSE, and the lines of the report.
-#[derive(Drop)]
+#[derive(Clone, Copy)]
 pub struct Salvaged {
     pub number: u32,
     pub transfers: usize,

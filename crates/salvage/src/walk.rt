@@ -16,14 +16,14 @@ const SECOND_COPY: usize = 5;
 const LACKED_ROOM: usize = 6;
 
 // Where a line points: a block and a place in it, 0 for the block itself.
-#[derive(Drop)]
+#[derive(Clone, Copy)]
 pub struct Place {
     pub block: usize,
     pub place: usize,
 }
 
 // What an NSERT answered, and what goes on after it.
-#[derive(Drop)]
+#[derive(Clone, Copy)]
 pub struct Tried {
     pub number: u32,
     pub going: Going,

@@ -1,5 +1,7 @@
 // Copies salvaged: one with each kind of damage, in both forms of the fresh file; one with a record that lacks room, whose other copies are reported as such;
 // a good file that lacks room, and the same padded; a report that is too short.
+#![tactic(auto)]
+
 mod said;
 
 use drum::Description;

@@ -1,5 +1,7 @@
 // The routine's face: a session on one search file. Every call takes the session by value and hands it back in its answer; no call has a
 // condition on what it is given. What is refused, and by which number, is document 01's table "Numbers returned".
+#![tactic(auto)]
+
 mod copying;
 mod files;
 mod records;
@@ -16,7 +18,7 @@ use rules::Done;
 
 // "A value handed in and back": the parameters, open or closed, the current block (0 none), the write flag, and the position: a key in its
 // first K words, which means nothing unless `placed`.
-#[derive(Drop)]
+#[derive(Clone, Copy)]
 pub struct Session {
     pub desc: Description,
     pub opened: bool,
@@ -27,7 +29,7 @@ pub struct Session {
 }
 
 // What a call answers: its number (crate `numbers`), the transfers it made, and the session to go on with.
-#[derive(Drop)]
+#[derive(Clone, Copy)]
 pub struct Answer {
     pub number: u32,
     pub transfers: usize,

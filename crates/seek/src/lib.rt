@@ -1,4 +1,5 @@
 // SEEK and UPDAT, once the session and the workspace are checked.
+#![tactic(auto)]
 ghost use Rattle.std.specs.Prelude.{◌≡◌, length};
 ghost use Rattle.drum.specs.Blocks.{Fitting};
 ghost use Rattle.rules.specs.Fits.{LookFits};

@@ -1,5 +1,7 @@
 // Records in a row: sequential blocks, each some leader words and then a data area with fixed or variable records. PUT lays a record at a
 // place, GET reads the one there; both give back the place behind it.
+#![tactic(auto)]
+
 mod plan;
 
 ghost use Rattle.std.specs.Prelude.{◌≡◌, ◌+◌, ◌≤◌, length};
@@ -12,14 +14,14 @@ use numbers::DONE;
 use plan::{plan_get, plan_put, word_of};
 
 // The kind of a file's records: all of these words, or each led by its own length in words.
-#[derive(Drop)]
+#[derive(Clone, Copy)]
 pub enum Kind {
     Fixed(usize),
     Variable,
 }
 
 // The form of a file of sequential blocks: words of a block, leader words among them, and the kind of its records.
-#[derive(Drop)]
+#[derive(Clone, Copy)]
 pub struct Layout {
     pub wpb: usize,
     pub leaders: usize,
@@ -27,35 +29,35 @@ pub struct Layout {
 }
 
 // A place in such a file: a block, counted from 0, and a word of its data area.
-#[derive(Drop)]
+#[derive(Clone, Copy)]
 pub struct Place {
     pub block: usize,
     pub at: usize,
 }
 
 // Where a record lies, and its words.
-#[derive(Drop)]
+#[derive(Clone, Copy)]
 pub struct Row {
     pub place: Place,
     pub words: usize,
 }
 
 // What is decided before a word moves: a refusal, or where the record lies.
-#[derive(Drop)]
+#[derive(Clone, Copy)]
 pub enum Spot {
     No(u32),
     At(Row),
 }
 
 // PUT's number, and the place behind what is put so far.
-#[derive(Drop)]
+#[derive(Clone, Copy)]
 pub struct PutAnswer {
     pub number: u32,
     pub place: Place,
 }
 
 // GET's number, the place behind what is read so far, and how many of those put are still to be read.
-#[derive(Drop)]
+#[derive(Clone, Copy)]
 pub struct GetAnswer {
     pub number: u32,
     pub place: Place,

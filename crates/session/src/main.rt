@@ -1,4 +1,5 @@
 // One session, printed: parameters and calls from standard input, a line for each call on standard output, and on standard error why a line ends it.
+#![tactic(auto)]
 use terminal::Ending;
 
 // How the session ended, for a caller that asks: a program has no exit status of its own.

@@ -1,5 +1,6 @@
 // A full table split in two, and an entry that becomes two in the table above: detail block and index block, index block and master,
 // alike.
+#![tactic(auto)]
 ghost use Rattle.std.specs.Prelude.{◌≡◌, [], ◌∷◌, ◌++◌, ◌+◌, ◌-◌, ◌≤◌, ◌<◌, length};
 ghost use Rattle.words.specs.Words.{part};
 ghost use Rattle.table.specs.Tables.{place, replaced, laid};
@@ -13,7 +14,7 @@ use drum::Description;
 use table::Shape;
 
 // A full block of `rows` rows, and a row more that is put in at a place: the lower rows stay in block old, the others go to block new.
-#[derive(Drop)]
+#[derive(Clone, Copy)]
 pub struct Cut {
     pub desc: Description,
     pub shape: Shape,

@@ -1,5 +1,6 @@
 // Tables in slices of words: rows of `stride` words from word `base` on, each beginning with a key of `width` words, their count in
 // word 0 after the tag of their kind. Master, index block and detail block are such tables, so one function serves all three.
+#![tactic(auto)]
 ghost use Rattle.std.specs.Prelude.{◌≡◌, ◌+◌, ◌*◌, ◌≤◌, ◌<◌, length};
 ghost use Rattle.words.specs.Words.{part};
 ghost use Rattle.table.specs.declared.Want.TheVariants.{Equal};
@@ -8,7 +9,7 @@ ghost use Rattle.words.specs.Slices.{was, became};
 
 use words::Order;
 
-#[derive(Drop)]
+#[derive(Clone, Copy)]
 pub struct Shape {
     pub base: usize,
     pub stride: usize,
@@ -17,7 +18,7 @@ pub struct Shape {
 }
 
 // What a search looks for: a row whose key equals the one sought, is not below it, or is above it.
-#[derive(Drop)]
+#[derive(Clone, Copy)]
 pub enum Want {
     Equal,
     NotBelow,

@@ -8,7 +8,7 @@ use lines::Reading;
 
 // Which file is read; its bytes from `at` to `end` are here and not read yet; `filled` bytes of the output are not written yet; so many lines
 // were read; whether reading or writing failed.
-#[derive(Drop)]
+#[derive(Clone, Copy)]
 pub struct Place {
     pub fd: i32,
     pub at: usize,
@@ -19,7 +19,7 @@ pub struct Place {
 }
 
 // A line as far as it is read, with the first bytes of its first word; whether there is one.
-#[derive(Drop)]
+#[derive(Clone, Copy)]
 pub struct Found {
     pub place: Place,
     pub reading: Reading,

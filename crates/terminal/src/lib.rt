@@ -1,6 +1,8 @@
 // The printed session read from one file and written to standard output: lines are taken off the input, and what `printed` makes of them is
 // written before more input is waited for. What `faults` says of a line that ends it goes to standard error. No contract can speak of what is
 // read or written; all that decides stands in `lines`, `printed` and `faults`.
+#![tactic(auto)]
+
 mod input;
 mod output;
 mod refused;
@@ -20,7 +22,7 @@ use told::tell_first;
 use turns::play_calls;
 
 // How a session ended: the input ended; a line was bad or the file too large; reading or writing failed.
-#[derive(Drop)]
+#[derive(Clone, Copy)]
 pub enum Ending {
     Well,
     Wrong,

@@ -11,7 +11,7 @@ use printed::Turn;
 use searchfile::Session;
 
 // What was kept of a line of calls; `filled` bytes are not written yet; and the session that it is played in.
-#[derive(Drop)]
+#[derive(Clone, Copy)]
 struct Here {
     name: [u8; 8],
     filled: usize,

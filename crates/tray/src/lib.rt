@@ -1,5 +1,6 @@
 // A tray of records put in by one call: NSERT of each, by its promise alone, up to the first that is not stored. Each record is lent to NSERT
 // where it lies in the tray; nothing is copied, and no workspace is needed.
+#![tactic(auto)]
 ghost use Rattle.std.specs.Prelude.{◌≡◌, true, [], ◌+◌, ◌*◌, length};
 ghost use Rattle.numbers.specs.Numbers.{done};
 ghost use Rattle.drum.specs.Params.{good_params};
@@ -14,7 +15,7 @@ use numbers::{DONE, IS_CLOSED, WRONG_SIZE, is_accepted};
 use searchfile::Session;
 
 // What a tray comes to: how many records were stored, the number of the last NSERT, the transfers of all, and the session to go on with.
-#[derive(Drop)]
+#[derive(Clone, Copy)]
 pub struct Trayed {
     pub stored: usize,
     pub number: u32,

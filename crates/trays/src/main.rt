@@ -1,4 +1,6 @@
 // Trays played: a file of four blocks filled by one call, trays that are stopped or refused, and trays on a closed session.
+#![tactic(auto)]
+
 mod said;
 
 use drum::Description;

@@ -1,5 +1,7 @@
 // The turning call: a file from one block form to the other, where it lies. Nothing is written before the sizes, the session and the file are found right.
 // The marks say what each block is: while the file is turned an index block's is 3.
+#![tactic(auto)]
+
 mod blocks;
 mod marking;
 
@@ -18,7 +20,7 @@ use marking::{mark_indexes, restore};
 use numbers::{ALREADY_OPEN, BAD_FILE, DONE, WRONG_SIZE};
 
 // What the call answers: its number, and the parameters that its session then has.
-#[derive(Drop)]
+#[derive(Clone, Copy)]
 pub struct Turned {
     pub number: u32,
     pub desc: Description,

@@ -1,11 +1,13 @@
 // Words in slices of u32: copied, moved, cleared, tested and compared. Every contract is one equation between lists.
+#![tactic(auto)]
+
 ghost use Rattle.std.specs.Prelude.{◌≡◌, ◌+◌, ◌≤◌, ◌<◌, length, get_or, set};
 ghost use Rattle.words.specs.Words.{part, put, zeros, all_are, all_words};
 ghost use Rattle.words.specs.Keys.{order, key_lt, same_key};
 ghost use Rattle.words.specs.Slices.{was, became};
 
 // How one key stands to another.
-#[derive(Drop)]
+#[derive(Clone, Copy)]
 pub enum Order {
     Below,
     Same,

@@ -16,7 +16,7 @@ use numbers::BAD_FILE;
 use rules::{Done, Extend, Held, Path, Taken, Way};
 
 // A block that the end record starts: the way to the last block, the path to it, and the new block.
-#[derive(Drop)]
+#[derive(Clone, Copy)]
 pub struct Start {
     pub way: Way,
     pub path: Path,

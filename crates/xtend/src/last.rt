@@ -19,7 +19,7 @@ use lookup::{Route, Test};
 use rules::{Held, Way, Which};
 
 // The way to the last block.
-#[derive(Drop)]
+#[derive(Clone, Copy)]
 pub enum Last {
     Bad,
     At(Way),

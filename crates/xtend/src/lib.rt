@@ -1,4 +1,6 @@
 // XTEND: a record put in behind all others, before the end record. What it will do is planned first, from current texts alone; then it is done.
+#![tactic(auto)]
+
 mod before;
 mod deeds;
 mod index;

@@ -1,0 +1,10 @@
+-- The current block's text is in the buffer already; any other's is read from the file.
+use Rattle.acts.proofs.Carried.{loaded-already, loaded-now}
+use borrow.Author.Rules.{rules}
+use Rattle.acts.proofs.load.Goals as goal
+
+pub returns-then-b-current : goal.returns-then-b-current
+returns-then-b-current c = search loaded-already
+
+pub returns : goal.returns
+returns c = search loaded-now

@@ -1,0 +1,7 @@
+-- The fields are those of `reach`.
+use Rattle.acts.proofs.Carried.{stop-told}
+use borrow.Author.Rules.{rules}
+use Rattle.acts.proofs.stop.Goals as goal
+
+pub returns : goal.returns
+returns c = search stop-told

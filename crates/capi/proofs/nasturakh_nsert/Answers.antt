@@ -1,0 +1,18 @@
+-- `capi::nasturakh_nsert` meets its contract: the words are no session's, or the session call's promise is told in words.
+use Rattle.rules.specs.NsertDone.{nsert}
+use Rattle.capi.proofs.Outcomes.{nsert-telling}
+use Rattle.capi.proofs.Told.{asked-whole, called-none, call-called, tellable}
+use borrow.Author.Rules.{rules}
+use Rattle.capi.proofs.nasturakh_nsert.Goals as goal
+
+pub returns-then-not-is_session : goal.returns-then-not-is_session
+returns-then-not-is_session c = search called-none
+
+pub session_of-requires : goal.session_of-requires
+session_of-requires c = search asked-whole
+
+pub told-requires : goal.told-requires
+told-requires c = search (tellable nsert nsert-telling)
+
+pub returns : goal.returns
+returns c = search call-called

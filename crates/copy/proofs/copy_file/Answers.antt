@@ -1,0 +1,22 @@
+-- `copy::copy_file` meets its contract: each return is one way through the call.
+use Rattle.copy.proofs.Ways.{way-wrong, way-already, way-fit, way-marks, way-bad, way-fits, way-done}
+use borrow.Author.Rules.{rules}
+use Rattle.copy.proofs.copy_file.Goals as goal
+
+pub returns-then-not-is_sized : goal.returns-then-not-is_sized
+returns-then-not-is_sized c = search way-wrong
+
+pub returns-then-opened : goal.returns-then-opened
+returns-then-opened c = search way-already
+
+pub inspect-requires : goal.inspect-requires
+inspect-requires c = (search way-fit, search way-marks)
+
+pub returns-then-not-inspect : goal.returns-then-not-inspect
+returns-then-not-inspect c = search way-bad
+
+pub lay_copy-requires : goal.lay_copy-requires
+lay_copy-requires c = search way-fits
+
+pub returns : goal.returns
+returns c = search way-done

@@ -1,0 +1,19 @@
+-- The words are no reading session's, or the reading call's promise is told in words.
+use Rattle.rules.specs.Close.{close}
+use Rattle.reading.specs.Reading.{read_close}
+use Rattle.capi.proofs.Outcomes.{close-telling}
+use Rattle.creading.proofs.Told.{asked-whole, asked-off, called-none, call-told, can-tell, profile-telling}
+use borrow.Author.Rules.{rules}
+use Rattle.creading.proofs.nasturakh_reading_close.Goals as goal
+
+pub returns-then-not-is_reading : goal.returns-then-not-is_reading
+returns-then-not-is_reading c = search called-none
+
+pub reading_of-requires : goal.reading_of-requires
+reading_of-requires c = (search asked-whole, search asked-off)
+
+pub told_reading-requires : goal.told_reading-requires
+told_reading-requires c = search (can-tell read_close (profile-telling close close-telling))
+
+pub returns : goal.returns
+returns c = search call-told

@@ -1,0 +1,10 @@
+-- `first::most_space` meets its contract.
+use borrow.Author.Rules.{rules}
+use Rattle.faults.proofs.Ranges.{space-details, space-entries}
+use Rattle.faults.proofs.first.most_space.Goals as goal
+
+pub returns-then-d-i : goal.returns-then-d-i
+returns-then-d-i c = search space-details
+
+pub returns : goal.returns
+returns c = search space-entries

@@ -1,0 +1,12 @@
+-- `first::words_fault` meets its contract.
+use Rattle.faults.proofs.Cases.{first-odd, first_count, first_above}
+use Rattle.faults.proofs.first.words_fault.Goals as goal
+
+pub returns-then-w-ne0 : goal.returns-then-w-ne0
+returns-then-w-ne0 c = search first-odd
+
+pub returns-then-w-ne6 : goal.returns-then-w-ne6
+returns-then-w-ne6 c = search first_count
+
+pub returns : goal.returns
+returns c = search first_above

@@ -1,0 +1,7 @@
+-- `nearest::alike` meets its contract.
+use Rattle.faults.proofs.Cases.{alike-sum}
+use borrow.Author.Rules.{rules}
+use Rattle.faults.proofs.nearest.alike.Goals as goal
+
+pub returns : goal.returns
+returns c = search alike-sum

@@ -1,0 +1,13 @@
+-- `nearest::nearest` meets its contract.
+use borrow.Author.Tests.{lt-ltb, le-ltb}
+use Rattle.faults.specs.Nearest.{meant, nearest}
+use borrow.Author.Rules.{rules}
+use Rattle.faults.proofs.nearest.nearest.Goals as goal
+
+pub returns-then-lacking-gt1 : goal.returns-then-lacking-gt1
+unfolding nearest meant
+returns-then-lacking-gt1 c = rw (← c.nearest_near-near.ensures, ← c.lacking.ensures, lt-ltb _ _ c.if-lacking-gt1.true)
+
+pub returns : goal.returns
+unfolding nearest meant
+returns c = rw (← c.nearest_near-near.ensures, ← c.lacking.ensures, le-ltb _ _ c.if-lacking-gt1.false)

@@ -1,0 +1,15 @@
+-- The marks passed are 0, the others as they were.
+use mathlib.Core.Path.{◌≡◌, refl}
+use mathlib.Core.List.{◌++◌}
+use Prim.Native.Nat.{◌-◌, ◌≤◌}
+use native.Mathlib.Omega.{arith}
+use borrow.Author.Fill.{fill_none}
+use lib.ListN.{length, drop, replicate, length-set}
+use Rattle.layout.proofs.CodeMarks.{clear_next, cleared}
+use Rattle.layout.proofs.marking.clear.Given as goal
+
+abbrev pub invariant-loop-i : goal.invariant-loop-i
+invariant-loop-i l = (l.i ≤ length l.initial.marks) × (l.marks ≡ replicate l.i 0 ++ drop l.i l.initial.marks) × (length l.marks ≡ length l.initial.marks)
+
+abbrev pub decreases-loop-i : goal.decreases-loop-i
+decreases-loop-i l = length l.marks - l.i

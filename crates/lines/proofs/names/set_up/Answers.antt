@@ -1,0 +1,16 @@
+-- `names::set_up` meets its contract: six numbers read, each step handing the description on.
+use mathlib.Core.Path.{ap}
+use Rattle.drum.specs.declared.Description.{Description}
+use Rattle.drum.proofs.Setup.{set-up}
+use Rattle.lines.proofs.Turns.{described-by}
+use borrow.Author.Rules.{rules}
+use Rattle.lines.proofs.names.set_up.Goals as goal
+
+-- the description after the last step, and before it the steps and the words read
+pub returns : goal.returns
+returns c =
+    let steps =
+    set-up c.new.result _ _ _ _ _ _ _ _ _ _ _ _ c.with_n.ensures c.with_control.ensures c.with_space.ensures
+    c.with_k.ensures c.with_wpr.ensures c.with_wpb.ensures in
+    described-by _ _ _ _ _ _ _ _ _ steps (ap (λ (d : Description). d.form) c.new.ensures) c.word_at-wpb.ensures c.word_at-wpr.ensures c.word_at-k.ensures c.word_at-space.ensures
+    c.word_at-control.ensures c.word_at-n.ensures

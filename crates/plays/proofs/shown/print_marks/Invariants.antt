@@ -1,0 +1,11 @@
+-- `plays::shown::print_marks` is safe and ends: the index stays within the marks.
+use Prim.Native.Nat.{◌≤◌, ◌-◌}
+use native.Mathlib.Omega.{arith}
+use lib.ListN.{length}
+use Rattle.plays.proofs.shown.print_marks.Given as goal
+
+abbrev pub invariant-loop-i : goal.invariant-loop-i
+invariant-loop-i l = i ≤ length l.marks
+
+abbrev pub decreases-loop-i : goal.decreases-loop-i
+decreases-loop-i l = length l.marks - i

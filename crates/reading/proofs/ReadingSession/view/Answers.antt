@@ -1,0 +1,13 @@
+-- An empty part, or the block's part where it is shown.
+use Rattle.reading.proofs.Viewed.{view-none, shown-fitting, shown-least, shown-most, view-shown}
+use borrow.Author.Rules.{rules}
+use Rattle.reading.proofs.ReadingSession.view.Goals as goal
+
+pub returns-then-not-shows : goal.returns-then-not-shows
+returns-then-not-shows c = search view-none
+
+pub text_part-requires : goal.text_part-requires
+text_part-requires c = (search shown-fitting, (search shown-least, search shown-most))
+
+pub returns : goal.returns
+returns c = search view-shown

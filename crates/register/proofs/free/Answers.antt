@@ -1,0 +1,7 @@
+-- `register::free` meets its contract: it is the move with its states.
+use borrow.Author.Rules.{rules}
+use Rattle.register.proofs.Moving.{free-is}
+use Rattle.register.proofs.free.Goals as goal
+
+pub returns : goal.returns
+returns c = search free-is

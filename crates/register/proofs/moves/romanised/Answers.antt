@@ -1,0 +1,32 @@
+-- `register::romanised` meets its contract: SEEK and the state, the new record, UPDAT.
+use native.Mathlib.Omega.{arith}
+use borrow.Author.Rules.{rules}
+use Rattle.register.proofs.Moving.{state-of-spelled, found-few, move-missed, romanised-done}
+use Rattle.register.proofs.moves.romanised.Goals as goal
+
+pub sought-found-requires : goal.sought-found-requires
+sought-found-requires c = search state-of-spelled
+
+pub returns-then-found-ne-DONE : goal.returns-then-found-ne-DONE
+returns-then-found-ne-DONE c = search move-missed
+
+pub overflow_add-k : goal.overflow_add-k
+overflow_add-k c = c.requires.state in omega arith
+
+pub copy_words-requires : goal.copy_words-requires
+copy_words-requires c = c.requires.as_long in (omega arith, omega arith)
+
+pub put_word-requires : goal.put_word-requires
+put_word-requires c = c.requires.state in (omega arith, omega arith)
+
+pub stored-requires : goal.stored-requires
+stored-requires c = search found-few
+
+pub shape_of-file : goal.shape_of-file
+shape_of-file c = c.sought-found.auto in omega arith
+
+pub shape_of-buffer : goal.shape_of-buffer
+shape_of-buffer c = c.sought-found.auto in omega arith
+
+pub returns : goal.returns
+returns c = c.sought-found.auto in omega arith)

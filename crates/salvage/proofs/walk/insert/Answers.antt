@@ -1,0 +1,10 @@
+-- `salvage::walk::insert` meets its contract.
+use borrow.Author.Rules.{rules}
+use Rattle.salvage.proofs.Steps.{sum_fits, insert-told}
+use Rattle.salvage.proofs.walk.insert.Goals as goal
+
+pub overflow_add-next : goal.overflow_add-next
+overflow_add-next c = search sum_fits
+
+pub returns : goal.returns
+returns c = search insert-told

@@ -1,0 +1,33 @@
+-- `salvage::walk::take_records` meets its contract: what is done and what is left come to what all the records come to.
+use mathlib.Core.Path.{◌≡◌, refl}
+use mathlib.Core.Bool.{true}
+use Prim.Native.Nat.{◌+◌, ◌*◌, ◌-◌, ◌≤◌}
+use native.Mathlib.Omega.{arith}
+use borrow.Author.Rules.{rules}
+use lib.ListN.{length}
+use Rattle.drum.specs.Params.{good_params}
+use Rattle.salvage.specs.Met.{places, records_in, rows_from}
+use Rattle.salvage.specs.Salvage.{run}
+use Rattle.salvage.specs.Promise.{walking, Spare}
+use Rattle.salvage.proofs.Walks.{text-some, marked-least, block-small, desc-good, count-few, rows-within, records-spare, records-first}
+use Rattle.salvage.proofs.Walks.{record-end, end_fits, rows-after, key-lent, spare-one, record-spare, record-desc, record-turn, records-end}
+use Rattle.salvage.proofs.walk.take_records.Given as goal
+
+abbrev pub invariant-loop-i : goal.invariant-loop-i
+invariant-loop-i l =
+    (l.i ≤ l.count)
+    × (l.count ≤ 4096)
+    × (l.b ≤ 262143)
+    × (l.wpr ≡ l.initial.next.session.desc.wpr)
+    × (good_params l.initial.next.session.desc ≡ true)
+    × (l.next.session.desc ≡ l.initial.next.session.desc)
+    × (l.at + (l.count - l.i) * l.wpr ≤ length l.text)
+    × Spare l.next (l.count - l.i) (length l.initial.report)
+    × (length l.file ≡ length l.initial.file)
+    × (length l.buffer ≡ length l.initial.buffer)
+    × (length l.report ≡ length l.initial.report)
+    × (run (walking l.initial.next l.initial.file l.initial.buffer l.initial.report) (places l.b 1 (records_in l.initial.next.session.desc l.text))
+    ≡ run (walking l.next l.file l.buffer l.report) (places l.b (l.i + 1) (rows_from l.wpr l.at (l.count - l.i) l.text)))
+
+abbrev pub decreases-loop-i : goal.decreases-loop-i
+decreases-loop-i l = l.count - l.i

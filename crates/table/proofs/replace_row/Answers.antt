@@ -1,0 +1,8 @@
+-- The copied words are the row.
+use Rattle.table.specs.Tables.{replaced}
+use borrow.Author.Rules.{rules}
+use Rattle.table.proofs.replace_row.Goals as goal
+
+pub returns : goal.returns
+unfolding replaced
+returns c = c.copy_words.ensures

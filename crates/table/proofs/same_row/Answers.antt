@@ -1,0 +1,76 @@
+-- A row passed differs from the key in one word.
+use mathlib.Core.Path.{◌≡◌, sym, ap, ◌∙◌}
+use mathlib.Core.Logic.{⊎_elim}
+use mathlib.Core.Bool.{false}
+use Prim.Native.Nat.{ℕ, ◌+◌, ◌-◌, ◌<◌}
+use native.Mathlib.Nat.{not-suc-le-zero, add-zero}
+use native.Mathlib.Omega.{arith}
+use borrow.Author.Rules.{rules}
+use borrow.Author.Count.{below_more}
+use lib.ListN.{length, get_or}
+use Rattle.words.specs.Words.{part}
+use Rattle.table.specs.declared.Want.TheVariants.{Equal}
+use Rattle.table.specs.Tables.{fits, key_at}
+use Rattle.table.proofs.Differs.{other_word, told_below, told-other}
+use Rattle.table.proofs.Turns.{RowAt, Passed, shaped, row-next-at, key-inside, word-inside, word_fits, word-scaled, row_fits}
+use Rattle.table.proofs.Turns.{told-inside, told-fits, told-scaled, found-any, found-same, found_none}
+use Rattle.table.proofs.same_row.Goals as goal
+
+-- after a row that is passed: which word to look at, what the key has there, and that the row is not wanted
+passed : (c : tie.Joined2 invariant-loop decreases-loop) → let a = c.before.before.before.before.before.before.before.before.args in (c.if2.m < a.h.width)
+    × (c.if2.word ≡ get_or a.key.now (a.at + c.if2.m) 0)
+    × (fits Equal (shaped a.h.base a.h.stride a.h.width) (part a.at a.h.width a.key.now) a.t.now c.before.before.before.loop.i
+    ≡ false)
+unfolding fits key_at
+passed c =
+    let a = c.before.before.before.before.before.before.before.before.args in
+    let l = c.before.before.before.loop in
+    let e = l.invariant.0.here in
+    ⊎_elim
+    (λ x.
+    let b = told_below a.t.now l.row a.key.now a.at a.h.width _ x.1.ensures x.2.left in
+    let o = told-other a.t.now l.row a.key.now a.at a.h.width _ x.1.ensures x.2.left in
+    (rw x.4 b, x.5 ∙ ap (λ (m : ℕ). get_or a.key.now (a.at + m) 0) (sym x.4), rw e at o))
+    (λ x.
+    let o = other_word a.t.now l.row a.key.now a.at a.h.width l.m l.invariant.1 (λ q. x.0.left (q ∙ sym l.invariant.2)) in
+    (rw x.1 l.invariant.1, x.2 ∙ l.invariant.2 ∙ ap (λ (m : ℕ). get_or a.key.now (a.at + m) 0) (sym x.1), rw e at o))
+    c.if2.branch
+
+pub returns-then-width-eq0 : goal.returns-then-width-eq0
+returns-then-width-eq0 c = search found-any
+
+pub loop-i-init : goal.loop-i-init
+loop-i-init c = (omega arith, omega arith, simp add-zero, λ j h. absurd (not-suc-le-zero h))
+
+pub overflow_add-row : goal.overflow_add-row
+overflow_add-row c = search word_fits
+
+pub offset_bounds-t-row : goal.offset_bounds-t-row
+offset_bounds-t-row c = search word-scaled
+
+pub bounds-t-row : goal.bounds-t-row
+bounds-t-row c = search word-inside
+
+pub same_words-m-requires : goal.same_words-m-requires
+same_words-m-requires c = (search key-inside, search)
+
+pub returns-then-m-width : goal.returns-then-m-width
+returns-then-m-width c = search found-same
+
+pub overflow_add-word : goal.overflow_add-word
+overflow_add-word c = search told-fits
+
+pub offset_bounds-key-at-then-t-row : goal.offset_bounds-key-at-then-t-row
+offset_bounds-key-at-then-t-row c = search told-scaled
+
+pub bounds-key-at-then-t-row : goal.bounds-key-at-then-t-row
+bounds-key-at-then-t-row c = search told-inside
+
+pub overflow_add-row-in-loop-i : goal.overflow_add-row-in-loop-i
+overflow_add-row-in-loop-i c = search (row_fits, c.loop-i.invariant.0, c.loop-i-test.true)
+
+pub loop-i-preserved : goal.loop-i-preserved
+loop-i-preserved c = (search row-next-at, (passed c).0, (passed c).1, below_more _ _ c.loop-i.invariant.3 (passed c).2)
+
+pub returns : goal.returns
+returns c = search found_none

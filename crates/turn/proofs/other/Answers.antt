@@ -1,0 +1,11 @@
+-- `turn::other` meets its contract.
+use native.Mathlib.Omega.{arith}
+use Rattle.turn.proofs.Sizes.{form-few, other-is}
+use borrow.Author.Rules.{rules}
+use Rattle.turn.proofs.other.Goals as goal
+
+pub overflow_sub-p : goal.overflow_sub-p
+overflow_sub-p c = omega (arith, form-few)
+
+pub returns : goal.returns
+returns c = search other-is

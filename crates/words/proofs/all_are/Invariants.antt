@@ -1,0 +1,14 @@
+-- `words::all_are` meets its contract.
+use mathlib.Core.Path.{◌≡◌, sym, ◌∙◌}
+use Prim.Native.Nat.{◌+◌, ◌-◌, ◌≤◌}
+use native.Mathlib.Nat.{sub-zero, add-zero}
+use native.Mathlib.Omega.{arith}
+use Rattle.words.specs.Words.{part, all_are}
+use Rattle.words.proofs.Turns.{all-next, all-stop, all_done}
+use Rattle.words.proofs.all_are.Given as goal
+
+abbrev pub invariant-loop-i : goal.invariant-loop-i
+invariant-loop-i l = (l.i ≤ l.n) × (all_are l.x (part l.a l.n l.t) ≡ all_are l.x (part (l.a + l.i) (l.n - l.i) l.t))
+
+abbrev pub decreases-loop-i : goal.decreases-loop-i
+decreases-loop-i l = l.n - l.i

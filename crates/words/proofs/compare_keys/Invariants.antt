@@ -1,0 +1,15 @@
+-- `words::compare_keys` meets its contract.
+use mathlib.Core.Path.{◌≡◌, sym, ◌∙◌}
+use Prim.Native.Nat.{◌+◌, ◌-◌, ◌≤◌}
+use native.Mathlib.Nat.{sub-zero, add-zero}
+use native.Mathlib.Omega.{arith}
+use Rattle.words.specs.Words.{part}
+use Rattle.words.specs.Keys.{order}
+use Rattle.words.proofs.Turns.{order_below, order-above, order-next, order-done}
+use Rattle.words.proofs.compare_keys.Given as goal
+
+abbrev pub invariant-loop-m : goal.invariant-loop-m
+invariant-loop-m l = (l.m ≤ l.k) × (order (part l.i l.k l.a) (part l.j l.k l.b) ≡ order (part (l.i + l.m) (l.k - l.m) l.a) (part (l.j + l.m) (l.k - l.m) l.b))
+
+abbrev pub decreases-loop-m : goal.decreases-loop-m
+decreases-loop-m l = l.k - l.m

@@ -1,0 +1,15 @@
+-- `words::zero_words` meets its contract.
+use mathlib.Core.Path.{◌≡◌, refl}
+use Prim.Native.Nat.{◌-◌, ◌≤◌}
+use native.Mathlib.Omega.{arith}
+use lib.ListN.{length, length-set, replicate}
+use Rattle.words.specs.Words.{put}
+use Rattle.words.proofs.Parts.{put-none}
+use Rattle.words.proofs.Turns.{zero_turn}
+use Rattle.words.proofs.zero_words.Given as goal
+
+abbrev pub invariant-loop-i : goal.invariant-loop-i
+invariant-loop-i l = (l.i ≤ l.n) × (l.t ≡ put l.initial.t l.at (replicate l.i 0)) × (length l.t ≡ length l.initial.t)
+
+abbrev pub decreases-loop-i : goal.decreases-loop-i
+decreases-loop-i l = l.n - l.i
