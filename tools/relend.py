@@ -46,8 +46,9 @@ def turned(text):
         if m.start() < last:
             continue
         types, behind = parameters(text, m.end())
-        end = re.compile(r"^[ \t]*\{|;|\{[ \t]*$", re.M).search(text, behind)
-        stop = end.start() if end else len(text)
+        line = text.index("\n", behind)
+        end = re.compile(r"^[ \t]*\{", re.M).search(text, line)
+        stop = line if text[behind:line].endswith("{") else end.start() if end else len(text)
         out += [text[last:behind], clauses(text[behind:stop], types)]
         last = stop
     text = "".join(out) + text[last:]

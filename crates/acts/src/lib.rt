@@ -10,7 +10,6 @@ ghost use Rattle.numbers.specs.Checked.{passed};
 ghost use Rattle.rules.specs.Free.{with_free};
 ghost use Rattle.rules.specs.Fits.{FlushFits, WayFits};
 ghost use Rattle.acts.specs.Reach.{seen_by, come, came};
-ghost use Rattle.words.specs.Slices.{was, became};
 
 use drum::Description;
 use rules::{Done, Held, Way};
@@ -26,8 +25,8 @@ pub struct Arrived {
 // Writes the buffer over its block if it is flagged, and counts it.
 pub fn flush(at: Held, file: &mut [u32], buffer: &[u32]) -> usize
     requires { Fitting at.desc file.old buffer.now × FlushFits (seen_by at file.old buffer.now) at.flag }
-    ensures { (result ≡ length (flush_moves (seen_by at (was file) (was buffer)) at.flag))
-        × (became file ≡ written at.desc (flush_moves (seen_by at (was file) (was buffer)) at.flag) (was file)) }
+    ensures { (result ≡ length (flush_moves (seen_by at file.old buffer.now) at.flag))
+        × (file.new ≡ written at.desc (flush_moves (seen_by at file.old buffer.now) at.flag) file.old) }
 {
     if !at.flag {
         return 0;
@@ -39,7 +38,7 @@ pub fn flush(at: Held, file: &mut [u32], buffer: &[u32]) -> usize
 // Lets the file have the current text of block b.
 pub fn stage(p: Description, current: usize, file: &mut [u32], buffer: &[u32], b: usize)
     requires { Fitting p file.old buffer.now × Block p b }
-    ensures { became file ≡ put_block p (was file) b (text_of (at_entry p current file buffer) b) }
+    ensures { file.new ≡ put_block p file.old b (text_of (at_entry p current file.old buffer.now) b) }
 {
     if b != current {
         return;
@@ -50,7 +49,7 @@ pub fn stage(p: Description, current: usize, file: &mut [u32], buffer: &[u32], b
 // Brings the current text of block b into the buffer.
 pub fn load(p: Description, current: usize, file: &[u32], buffer: &mut [u32], b: usize)
     requires { Fitting p file.now buffer.old × Block p b }
-    ensures { became buffer ≡ text_of (at_entry p current file buffer) b }
+    ensures { buffer.new ≡ text_of (at_entry p current file.now buffer.old) b }
 {
     if b == current {
         return;
@@ -64,9 +63,9 @@ pub fn bring(at: Held, file: &mut [u32], buffer: &mut [u32], b: usize) -> usize
     requires { Fitting at.desc file.old buffer.old
         × FlushFits (seen_by at file.old buffer.old) at.flag
         × Block at.desc b }
-    ensures { (result ≡ length (flush_moves (seen_by at (was file) (was buffer)) at.flag))
-        × (became file ≡ written at.desc (flush_moves (seen_by at (was file) (was buffer)) at.flag) (was file))
-        × (became buffer ≡ text_of (seen_by at (was file) (was buffer)) b) }
+    ensures { (result ≡ length (flush_moves (seen_by at file.old buffer.old) at.flag))
+        × (file.new ≡ written at.desc (flush_moves (seen_by at file.old buffer.old) at.flag) file.old)
+        × (buffer.new ≡ text_of (seen_by at file.old buffer.old) b) }
 {
     let wrote = flush(at, file, buffer);
     load(at.desc, at.current, file, buffer, b);
@@ -76,7 +75,7 @@ pub fn bring(at: Held, file: &mut [u32], buffer: &mut [u32], b: usize) -> usize
 // Reaches the block at the end of the way.
 pub fn reach(at: Held, file: &mut [u32], buffer: &mut [u32], way: Way) -> Arrived
     requires { Fitting at.desc file.old buffer.old × WayFits (seen_by at file.old buffer.old) at.flag way }
-    ensures { came result (became file) (became buffer) ≡ come (reached (seen_by at (was file) (was buffer)) at.flag way) }
+    ensures { came result file.new buffer.new ≡ come (reached (seen_by at file.old buffer.old) at.flag way) }
 {
     match way {
         Way::Here => Arrived {
@@ -99,8 +98,8 @@ pub fn reach(at: Held, file: &mut [u32], buffer: &mut [u32], way: Way) -> Arrive
 // Follows the way without its block being brought: a flagged buffer is written, and the reads are counted.
 pub fn follow(at: Held, file: &mut [u32], buffer: &[u32], way: Way) -> usize
     requires { Fitting at.desc file.old buffer.now × WayFits (seen_by at file.old buffer.now) at.flag way }
-    ensures { (result ≡ length (reached (seen_by at (was file) (was buffer)) at.flag way).moves)
-        × (became file ≡ written at.desc (reached (seen_by at (was file) (was buffer)) at.flag way).moves (was file)) }
+    ensures { (result ≡ length (reached (seen_by at file.old buffer.now) at.flag way).moves)
+        × (file.new ≡ written at.desc (reached (seen_by at file.old buffer.now) at.flag way).moves file.old) }
 {
     match way {
         Way::Here => 0,
@@ -114,9 +113,9 @@ pub fn follow(at: Held, file: &mut [u32], buffer: &[u32], way: Way) -> usize
 // Reaches the block, and the call stops there with its number.
 pub fn stop(at: Held, file: &mut [u32], buffer: &mut [u32], way: Way, number: u32) -> Done
     requires { Fitting at.desc file.old buffer.old × WayFits (seen_by at file.old buffer.old) at.flag way }
-    ensures { gave result (became file) (became buffer) []
-        ≡ told (seen_by at (was file) (was buffer)) at.flag []
-        (passed (stopping number [] (reached (seen_by at (was file) (was buffer)) at.flag way))) }
+    ensures { gave result file.new buffer.new []
+        ≡ told (seen_by at file.old buffer.old) at.flag []
+        (passed (stopping number [] (reached (seen_by at file.old buffer.old) at.flag way))) }
 {
     let here = reach(at, file, buffer, way);
     Done {
@@ -139,7 +138,7 @@ pub fn land(
 ) -> Done
     requires { Fitting p file.now buffer.old × Block p b }
     ensures { (result ≡ record { number = number; transfers = transfers; current = b; flag = false; keyed = true })
-        × (became buffer ≡ block_at p (was file) b) }
+        × (buffer.new ≡ block_at p file.now b) }
 {
     drum::read_block(p, file, buffer, b);
     Done {
@@ -154,7 +153,7 @@ pub fn land(
 // Record i of the buffer to the workspace.
 pub fn give(p: Description, buffer: &[u32], work: &mut [u32], i: usize)
     requires { (place (detail_shape p) i + p.wpr ≤ length buffer.now) × (length work.old ≡ p.wpr) }
-    ensures { became work ≡ row (detail_shape p) (was buffer) i }
+    ensures { work.new ≡ row (detail_shape p) buffer.now i }
 {
     let wpr = p.wpr;
     words::copy_words(work, 0, buffer, 1 + i * wpr, wpr);
@@ -163,7 +162,7 @@ pub fn give(p: Description, buffer: &[u32], work: &mut [u32], i: usize)
 // Words 1 and 2 of the master.
 pub fn set_free(file: &mut [u32], head: usize, lowest: u32)
     requires { (3 ≤ length file.old) × (head ≤ 262143) }
-    ensures { became file ≡ with_free head lowest (was file) }
+    ensures { file.new ≡ with_free head lowest file.old }
 {
     words::put_word(file, 1, head);
     file[2] = lowest;

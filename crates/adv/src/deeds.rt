@@ -9,7 +9,6 @@ ghost use Rattle.rules.specs.Adv.{adv_reads, adv_done};
 ghost use Rattle.rules.specs.Told.{FollowsAt};
 ghost use Rattle.acts.specs.Reach.{seen_by};
 ghost use Rattle.adv.specs.Answers.{handed};
-ghost use Rattle.words.specs.Slices.{was, became};
 
 use acts::Arrived;
 use drum::Description;
@@ -31,7 +30,7 @@ pub fn reads_beyond(w: Path, x: Path) -> usize
 // The record i of the buffer to the workspace, with what was done before; the end record has its own number and leaves position.
 pub fn hand_over(p: Description, here: Arrived, buffer: &[u32], work: &mut [u32], i: usize) -> Done
     requires { (place (detail_shape p) i + p.wpr ≤ length buffer.now) × (length work.old ≡ p.wpr) × (p.k ≤ p.wpr) }
-    ensures { (result ≡ handed p (was buffer) i here) × (became work ≡ row (detail_shape p) (was buffer) i) }
+    ensures { (result ≡ handed p buffer.now i here) × (work.new ≡ row (detail_shape p) buffer.now i) }
 {
     acts::give(p, buffer, work, i);
     let end = words::all_are(buffer, 1 + i * p.wpr, p.k, TOP_WORD);

@@ -9,7 +9,6 @@ ghost use Rattle.words.specs.Words.{part};
 ghost use Rattle.drum.specs.Blocks.{Fitting};
 ghost use Rattle.rules.specs.Adv.{adv_steps};
 ghost use Rattle.rules.specs.Told.{FollowsAt};
-ghost use Rattle.words.specs.Slices.{was};
 
 pub use deeds::{hand_over, reads_beyond};
 pub use plan::plan_adv;
@@ -27,7 +26,7 @@ pub fn adv(
     requires { Fitting at.desc file.old buffer.old
         × (length work.old ≡ at.desc.wpr)
         × (at.desc.k ≤ length position.now) }
-    ensures { FollowsAt result (λ v flag work. adv_steps v flag placed (part 0 at.desc.k (was position))) at file buffer work }
+    ensures { FollowsAt result (λ v flag work. adv_steps v flag placed (part 0 at.desc.k position.now)) at file buffer work }
 {
     let s = plan::plan_adv(at, file, buffer, placed, position);
     deeds::do_adv(s, at, file, buffer, work)

@@ -11,7 +11,6 @@ ghost use Rattle.rules.specs.Adv.{next_row, next_in_buffer, next_path, adv_beyon
 ghost use Rattle.lookup.specs.Answers.{as_route, as_test};
 ghost use Rattle.acts.specs.Reach.{seen_by};
 ghost use Rattle.adv.specs.Answers.{as_step};
-ghost use Rattle.words.specs.Slices.{was};
 
 use drum::Description;
 use lookup::{Route, Test};
@@ -21,7 +20,7 @@ use table::Want;
 // The first record of a detail block's text above position, or its first record while position is none; else the count.
 fn next_row(p: Description, placed: bool, position: &[u32], t: &[u32]) -> usize
     requires { (good_params p ≡ true) × (length t.now ≡ p.wpb) × (count (detail_shape p) t.now ≤ D p) × (p.k ≤ length position.now) }
-    ensures { result ≡ next_row (seen p 0 [] []) placed (part 0 p.k (was position)) (was t) }
+    ensures { result ≡ next_row (seen p 0 [] []) placed (part 0 p.k position.now) t.now }
 {
     if !placed {
         return 0;
@@ -38,8 +37,8 @@ fn spans(p: Description, position: &[u32], buffer: &[u32]) -> bool
         × (count (detail_shape p) buffer.now ≤ D p)
         × (p.k ≤ length position.now) }
     ensures { result
-        ≡ (key_le (key_at (detail_shape p) (was buffer) 0) (part 0 p.k (was position)) && key_lt
-        (part 0 p.k (was position)) (key_at (detail_shape p) (was buffer) (count (detail_shape p) (was buffer) - 1))) }
+        ≡ (key_le (key_at (detail_shape p) buffer.now 0) (part 0 p.k position.now) && key_lt
+        (part 0 p.k position.now) (key_at (detail_shape p) buffer.now (count (detail_shape p) buffer.now - 1))) }
 {
     let k = p.k;
     if words::key_below(position, 0, buffer, 1, k) {
@@ -52,7 +51,7 @@ fn spans(p: Description, position: &[u32], buffer: &[u32]) -> bool
 // Whether the next record is in the buffer.
 fn next_in_buffer(p: Description, current: usize, position: &[u32], buffer: &[u32]) -> Test
     requires { (good_params p ≡ true) × (length buffer.now ≡ p.wpb) × (p.k ≤ length position.now) }
-    ensures { as_test result ≡ next_in_buffer (seen p current [] (was buffer)) (part 0 p.k (was position)) }
+    ensures { as_test result ≡ next_in_buffer (seen p current [] buffer.now) (part 0 p.k position.now) }
 {
     let held = lookup::on_buffer(p, current, buffer);
     match held {
@@ -72,7 +71,7 @@ fn next_path<'a>(at: Held, file: &'a [u32], buffer: &'a [u32], position: &[u32],
     requires { Fitting at.desc file.now buffer.now
         × (at.desc.k ≤ length position.now)
         × PathFits (seen_by at file.now buffer.now) w }
-    ensures { as_route result ≡ next_path (seen_by at (was file) (was buffer)) w }
+    ensures { as_route result ≡ next_path (seen_by at file.now buffer.now) w }
 {
     let t = drum::text_of(at.desc, at.current, file, buffer, w.index);
     let n = drum::kinds::entries_in(at.desc, t);
@@ -98,7 +97,7 @@ fn adv_beyond<'a>(
         × (at.desc.k ≤ length position.now)
         × PathFits (seen_by at file.now buffer.now) w }
     ensures { as_step result
-        ≡ adv_beyond (seen_by at (was file) (was buffer)) placed (part 0 at.desc.k (was position)) w }
+        ≡ adv_beyond (seen_by at file.now buffer.now) placed (part 0 at.desc.k position.now) w }
 {
     let p = at.desc;
     let current = at.current;
@@ -130,7 +129,7 @@ fn adv_at<'a>(
         × (at.desc.k ≤ length position.now)
         × PathFits (seen_by at file.now buffer.now) w }
     ensures { as_step result
-        ≡ adv_at (seen_by at (was file) (was buffer)) at.flag placed (part 0 at.desc.k (was position)) w }
+        ≡ adv_at (seen_by at file.now buffer.now) at.flag placed (part 0 at.desc.k position.now) w }
 {
     let p = at.desc;
     if !lookup::can_flush(p, at.current, at.flag) {
@@ -165,7 +164,7 @@ fn adv_outside<'a>(
 ) -> Step
     requires { Fitting at.desc file.now buffer.now × (at.desc.k ≤ length position.now) }
     ensures { as_step result
-        ≡ adv_outside (seen_by at (was file) (was buffer)) at.flag placed (part 0 at.desc.k (was position)) }
+        ≡ adv_outside (seen_by at file.now buffer.now) at.flag placed (part 0 at.desc.k position.now) }
 {
     let which = first_wanted(placed);
     let route = lookup::path_by(at, file, buffer, which, which, position);
@@ -185,7 +184,7 @@ pub fn plan_adv<'a>(
 ) -> Step
     requires { Fitting at.desc file.now buffer.now × (at.desc.k ≤ length position.now) }
     ensures { as_step result
-        ≡ adv_step (seen_by at (was file) (was buffer)) at.flag placed (part 0 at.desc.k (was position)) }
+        ≡ adv_step (seen_by at file.now buffer.now) at.flag placed (part 0 at.desc.k position.now) }
 {
     let p = at.desc;
     if !placed {

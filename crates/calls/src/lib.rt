@@ -3,7 +3,6 @@
 ghost use Rattle.std.specs.Prelude.{◌≡◌};
 ghost use Rattle.searchfile.specs.Promise.{given, counted_open};
 ghost use Rattle.calls.specs.Perform.{staged, staged_as, staged_for, done, performed_as};
-ghost use Rattle.words.specs.Slices.{was, became};
 
 use drum::Description;
 use numbers::WRONG_SIZE;
@@ -12,7 +11,7 @@ use searchfile::{Answer, Session};
 
 // Writes the n words of `words` from word `at` on over the first n of the workspace, if both have room for them.
 fn stage_words(words: &[u32], at: usize, n: usize, work: &mut [u32]) -> bool
-    ensures { staged_as result (became work) ≡ staged (was words) at n (was work) }
+    ensures { staged_as result work.new ≡ staged words.now at n work.old }
 {
     if work.len() < n {
         return false;
@@ -29,7 +28,7 @@ fn stage_words(words: &[u32], at: usize, n: usize, work: &mut [u32]) -> bool
 
 // Puts the key or record that the call carries into the workspace, if there is room for it.
 fn stage(call: Call, p: Description, words: &[u32], work: &mut [u32]) -> bool
-    ensures { staged_as result (became work) ≡ staged_for (was words) p (was work) call }
+    ensures { staged_as result work.new ≡ staged_for words.now p work.old call }
 {
     match call {
         Call::Create => true,
@@ -55,8 +54,8 @@ pub fn perform(
     work: &mut [u32],
     marks: &mut [u8],
 ) -> Answer
-    ensures { performed_as result (became file) (became buffer) (became work) (became marks)
-        ≡ counted_open (done (was words) (given s (was file) (was buffer) (was work)) (was marks) call) }
+    ensures { performed_as result file.new buffer.new work.new marks.new
+        ≡ counted_open (done words.now (given s file.old buffer.old work.old) marks.old call) }
 {
     if !stage(call, s.desc, words, work) {
         return Answer {

@@ -1,7 +1,6 @@
 // The copying call for programs in other languages.
 ghost use Rattle.std.specs.Prelude.{◌≡◌};
 ghost use Rattle.capi.specs.Copying.{returned_copy, called_copy};
-ghost use Rattle.words.specs.Slices.{was, became};
 
 use super::session::{is_session, packed, session_of};
 use numbers::WRONG_SIZE;
@@ -15,8 +14,8 @@ pub extern "C" fn nasturakh_copy(
     control: usize,
     marks: &mut [u8],
 ) -> u64
-    ensures { returned_copy result (was session) (was file) (became second) (became marks)
-        ≡ called_copy (was session) (was file) (was second) control (was marks) }
+    ensures { returned_copy result session.now file.now second.new marks.new
+        ≡ called_copy session.now file.now second.old control marks.old }
 {
     if !is_session(session) {
         return packed(0, WRONG_SIZE);

@@ -24,7 +24,6 @@ ghost use Rattle.searchfile.specs.Promise.{creating};
 ghost use Rattle.capi.specs.Calls.{returned, called, marked, called_open};
 ghost use Rattle.capi.specs.View.{viewed};
 ghost use Rattle.capi.specs.Plan.{most_in};
-ghost use Rattle.words.specs.Slices.{was, became};
 
 use numbers::WRONG_SIZE;
 use place::place_of;
@@ -34,7 +33,7 @@ use session::{is_session, packed, parameters_in, session_of, told};
 // CREATE with the session's parameters; the session stays as it is.
 #[unsafe(no_mangle)]
 pub extern "C" fn nasturakh_create(session: &[u32], file: &mut [u32]) -> u64
-    ensures { returned result (was session) (became file) [] [] ≡ called creating (was session) (was file) [] [] }
+    ensures { returned result session.now file.new [] [] ≡ called creating session.now file.old [] [] }
 {
     if !is_session(session) {
         return packed(0, WRONG_SIZE);
@@ -51,8 +50,8 @@ pub extern "C" fn nasturakh_open(
     buffer: &[u32],
     marks: &mut [u8],
 ) -> u64
-    ensures { marked (returned result (became session) (was file) (was buffer) []) (became marks)
-        ≡ called_open (was session) (was file) (was buffer) (was marks) }
+    ensures { marked (returned result session.new file.now buffer.now []) marks.new
+        ≡ called_open session.old file.now buffer.now marks.old }
 {
     if !is_session(session) {
         return packed(0, WRONG_SIZE);
@@ -64,8 +63,8 @@ pub extern "C" fn nasturakh_open(
 // CLOSE.
 #[unsafe(no_mangle)]
 pub extern "C" fn nasturakh_close(session: &mut [u32], file: &mut [u32], buffer: &[u32]) -> u64
-    ensures { returned result (became session) (became file) (was buffer) []
-        ≡ called close (was session) (was file) (was buffer) [] }
+    ensures { returned result session.new file.new buffer.now []
+        ≡ called close session.old file.old buffer.now [] }
 {
     if !is_session(session) {
         return packed(0, WRONG_SIZE);
@@ -82,8 +81,8 @@ pub extern "C" fn nasturakh_seek(
     buffer: &mut [u32],
     work: &mut [u32],
 ) -> u64
-    ensures { returned result (became session) (became file) (became buffer) (became work)
-        ≡ called seek (was session) (was file) (was buffer) (was work) }
+    ensures { returned result session.new file.new buffer.new work.new
+        ≡ called seek session.old file.old buffer.old work.old }
 {
     if !is_session(session) {
         return packed(0, WRONG_SIZE);
@@ -100,8 +99,8 @@ pub extern "C" fn nasturakh_adv(
     buffer: &mut [u32],
     work: &mut [u32],
 ) -> u64
-    ensures { returned result (became session) (became file) (became buffer) (became work)
-        ≡ called adv (was session) (was file) (was buffer) (was work) }
+    ensures { returned result session.new file.new buffer.new work.new
+        ≡ called adv session.old file.old buffer.old work.old }
 {
     if !is_session(session) {
         return packed(0, WRONG_SIZE);
@@ -118,8 +117,8 @@ pub extern "C" fn nasturakh_nsert(
     buffer: &mut [u32],
     work: &[u32],
 ) -> u64
-    ensures { returned result (became session) (became file) (became buffer) (was work)
-        ≡ called nsert (was session) (was file) (was buffer) (was work) }
+    ensures { returned result session.new file.new buffer.new work.now
+        ≡ called nsert session.old file.old buffer.old work.now }
 {
     if !is_session(session) {
         return packed(0, WRONG_SIZE);
@@ -136,8 +135,8 @@ pub extern "C" fn nasturakh_dlete(
     buffer: &mut [u32],
     work: &[u32],
 ) -> u64
-    ensures { returned result (became session) (became file) (became buffer) (was work)
-        ≡ called dlete (was session) (was file) (was buffer) (was work) }
+    ensures { returned result session.new file.new buffer.new work.now
+        ≡ called dlete session.old file.old buffer.old work.now }
 {
     if !is_session(session) {
         return packed(0, WRONG_SIZE);
@@ -154,8 +153,8 @@ pub extern "C" fn nasturakh_updat(
     buffer: &mut [u32],
     work: &[u32],
 ) -> u64
-    ensures { returned result (became session) (became file) (became buffer) (was work)
-        ≡ called updat (was session) (was file) (was buffer) (was work) }
+    ensures { returned result session.new file.new buffer.new work.now
+        ≡ called updat session.old file.old buffer.old work.now }
 {
     if !is_session(session) {
         return packed(0, WRONG_SIZE);
@@ -172,8 +171,8 @@ pub extern "C" fn nasturakh_xtend(
     buffer: &mut [u32],
     work: &[u32],
 ) -> u64
-    ensures { returned result (became session) (became file) (became buffer) (was work)
-        ≡ called xtend (was session) (was file) (was buffer) (was work) }
+    ensures { returned result session.new file.new buffer.new work.now
+        ≡ called xtend session.old file.old buffer.old work.now }
 {
     if !is_session(session) {
         return packed(0, WRONG_SIZE);
@@ -185,7 +184,7 @@ pub extern "C" fn nasturakh_xtend(
 // VIEW: where the current text of the block lies.
 #[unsafe(no_mangle)]
 pub extern "C" fn nasturakh_view(session: &[u32], file: &[u32], buffer: &[u32], block: usize) -> u64
-    ensures { result ≡ viewed (was session) (was file) (was buffer) block }
+    ensures { result ≡ viewed session.now file.now buffer.now block }
 {
     if !is_session(session) {
         return packed(0, WRONG_SIZE);
@@ -197,7 +196,7 @@ pub extern "C" fn nasturakh_view(session: &[u32], file: &[u32], buffer: &[u32], 
 // The most transfers that a planned session can cost; 2^64 - 1 where there is no session or no plan.
 #[unsafe(no_mangle)]
 pub extern "C" fn nasturakh_most_transfers(session: &[u32], plan: &[u32]) -> u64
-    ensures { result ≡ most_in (was session) (was plan) }
+    ensures { result ≡ most_in session.now plan.now }
 {
     if !is_session(session) {
         return NO_PLAN;

@@ -2,7 +2,6 @@
 ghost use Rattle.std.specs.Prelude.{◌≡◌};
 ghost use Rattle.register.specs.Register.{enter, ask, romanise, hold, free};
 ghost use Rattle.capi.specs.Calls.{returned, called};
-ghost use Rattle.words.specs.Slices.{was, became};
 
 use super::session::{is_session, packed, session_of, told};
 use numbers::WRONG_SIZE;
@@ -15,8 +14,8 @@ pub extern "C" fn nasturakh_enter(
     buffer: &mut [u32],
     work: &mut [u32],
 ) -> u64
-    ensures { returned result (became session) (became file) (became buffer) (became work)
-        ≡ called enter (was session) (was file) (was buffer) (was work) }
+    ensures { returned result session.new file.new buffer.new work.new
+        ≡ called enter session.old file.old buffer.old work.old }
 {
     if !is_session(session) {
         return packed(0, WRONG_SIZE);
@@ -33,8 +32,8 @@ pub extern "C" fn nasturakh_ask(
     buffer: &mut [u32],
     work: &mut [u32],
 ) -> u64
-    ensures { returned result (became session) (became file) (became buffer) (became work)
-        ≡ called ask (was session) (was file) (was buffer) (was work) }
+    ensures { returned result session.new file.new buffer.new work.new
+        ≡ called ask session.old file.old buffer.old work.old }
 {
     if !is_session(session) {
         return packed(0, WRONG_SIZE);
@@ -52,8 +51,8 @@ pub extern "C" fn nasturakh_romanise(
     work: &mut [u32],
     spelling: &[u32],
 ) -> u64
-    ensures { returned result (became session) (became file) (became buffer) (became work)
-        ≡ called (romanise (was spelling)) (was session) (was file) (was buffer) (was work) }
+    ensures { returned result session.new file.new buffer.new work.new
+        ≡ called (romanise spelling.now) session.old file.old buffer.old work.old }
 {
     if !is_session(session) {
         return packed(0, WRONG_SIZE);
@@ -70,8 +69,8 @@ pub extern "C" fn nasturakh_hold(
     buffer: &mut [u32],
     work: &mut [u32],
 ) -> u64
-    ensures { returned result (became session) (became file) (became buffer) (became work)
-        ≡ called hold (was session) (was file) (was buffer) (was work) }
+    ensures { returned result session.new file.new buffer.new work.new
+        ≡ called hold session.old file.old buffer.old work.old }
 {
     if !is_session(session) {
         return packed(0, WRONG_SIZE);
@@ -88,8 +87,8 @@ pub extern "C" fn nasturakh_free_name(
     buffer: &mut [u32],
     work: &mut [u32],
 ) -> u64
-    ensures { returned result (became session) (became file) (became buffer) (became work)
-        ≡ called free (was session) (was file) (was buffer) (was work) }
+    ensures { returned result session.new file.new buffer.new work.new
+        ≡ called free session.old file.old buffer.old work.old }
 {
     if !is_session(session) {
         return packed(0, WRONG_SIZE);

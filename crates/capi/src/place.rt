@@ -3,7 +3,6 @@ ghost use Rattle.std.specs.Prelude.{◌≡◌, true, [], ◌+◌, ◌≤◌};
 ghost use Rattle.drum.specs.Params.{good_params, start};
 ghost use Rattle.searchfile.specs.Promise.{given};
 ghost use Rattle.capi.specs.View.{in_file, place_of};
-ghost use Rattle.words.specs.Slices.{was};
 
 use drum::Description;
 use searchfile::Session;
@@ -22,7 +21,7 @@ fn in_file(p: Description, b: usize) -> u64
 
 // The number for block b as the session sees it: 0 where VIEW lends an empty part.
 pub fn place_of(s: Session, file: &[u32], buffer: &[u32], b: usize) -> u64
-    ensures { result ≡ place_of (given s (was file) (was buffer) []) b }
+    ensures { result ≡ place_of (given s file.now buffer.now []) b }
 {
     if !s.shows(file.len(), buffer.len(), b) {
         return 0;

@@ -1,7 +1,6 @@
 // A plan as eight words: how many calls of each kind, and how many records.
 ghost use Rattle.std.specs.Prelude.{◌≡◌, length};
 ghost use Rattle.capi.specs.Plan.{plan_in};
-ghost use Rattle.words.specs.Slices.{was};
 
 use demands::Plan;
 
@@ -13,7 +12,7 @@ pub const NO_PLAN: u64 = 18446744073709551615;
 // The plan that eight words are.
 pub fn plan_in(words: &[u32]) -> Plan
     requires { length words.now ≡ 8 }
-    ensures { result ≡ plan_in (was words) }
+    ensures { result ≡ plan_in words.now }
 {
     Plan {
         seeks: words[0],

@@ -2,7 +2,6 @@
 // words that are lent for them.
 ghost use Rattle.std.specs.Prelude.{◌≡◌};
 ghost use Rattle.capi.specs.Salvage.{returned_salvage, called_salvage};
-ghost use Rattle.words.specs.Slices.{was, became};
 
 use super::session::{is_session, parameters_in, wide};
 use numbers::WRONG_SIZE;
@@ -20,8 +19,8 @@ pub extern "C" fn nasturakh_salvage(
     report: &mut [u32],
     told: &mut [u64],
 ) -> u64
-    ensures { returned_salvage result (became fresh) (became buffer) (became report) (became told)
-        ≡ called_salvage (was session) (was copy) (was fresh) (was buffer) (was report) (was told) }
+    ensures { returned_salvage result fresh.new buffer.new report.new told.new
+        ≡ called_salvage session.now copy.now fresh.old buffer.old report.old told.old }
 {
     if !is_session(session) {
         return wide(WRONG_SIZE);

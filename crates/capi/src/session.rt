@@ -3,7 +3,6 @@ ghost use Rattle.std.specs.Prelude.{◌≡◌, ◌≤◌, length, get_or, set};
 ghost use Rattle.searchfile.specs.Promise.{held};
 ghost use Rattle.capi.specs.Words.{is_session, parameters_in, session_of, words_of, most_word, bit as bit_of, packed as packed_number};
 ghost use Rattle.capi.specs.Calls.{Writable, Tellable};
-ghost use Rattle.words.specs.Slices.{was, became};
 
 use drum::Description;
 use searchfile::{Answer, Session};
@@ -17,7 +16,7 @@ const FORM_PLACE: usize = 73;
 
 // Whether the words are a session's.
 pub fn is_session(words: &[u32]) -> bool
-    ensures { result ≡ is_session (was words) }
+    ensures { result ≡ is_session words.now }
 {
     if words.len() < SESSION_WORDS {
         return false;
@@ -36,7 +35,7 @@ pub fn is_session(words: &[u32]) -> bool
 
 // The block form; words without a place for it are of the first.
 fn form_in(words: &[u32]) -> usize
-    ensures { result ≡ get_or (was words) 73 1 }
+    ensures { result ≡ get_or words.now 73 1 }
 {
     if words.len() <= FORM_PLACE {
         return Description::FIRST;
@@ -47,7 +46,7 @@ fn form_in(words: &[u32]) -> usize
 // The parameters that stand in a session's words.
 pub fn parameters_in(words: &[u32]) -> Description
     requires { 73 ≤ length words.now }
-    ensures { result ≡ parameters_in (was words) }
+    ensures { result ≡ parameters_in words.now }
 {
     let wpb = words::word_at(words, 0);
     let wpr = words::word_at(words, 1);
@@ -69,7 +68,7 @@ pub fn parameters_in(words: &[u32]) -> Description
 // The session that the words are.
 pub fn session_of(words: &[u32]) -> Session
     requires { 73 ≤ length words.now }
-    ensures { held result ≡ session_of (was words) }
+    ensures { held result ≡ session_of words.now }
 {
     let mut position = [0; 63];
     words::copy_words(&mut position, 0, words, 10, 63);
@@ -93,7 +92,7 @@ fn bit(x: bool) -> u32
 // Writes a session over the words of one with the same parameters: these, the form too, stand there.
 pub fn put_session(words: &mut [u32], s: Session)
     requires { Writable words.old s }
-    ensures { became words ≡ words_of (was words) (held s) }
+    ensures { words.new ≡ words_of words.old (held s) }
 {
     let position = s.position;
     words::copy_words(words, 10, &position, 0, 63);
@@ -106,7 +105,7 @@ pub fn put_session(words: &mut [u32], s: Session)
 // Writes another block form.
 pub fn put_form(words: &mut [u32], form: usize)
     requires { (length words.old ≡ 74) × (form ≤ most_word) }
-    ensures { became words ≡ set (was words) 73 form }
+    ensures { words.new ≡ set words.old 73 form }
 {
     words[FORM_PLACE] = form as u32;
 }
@@ -128,7 +127,7 @@ pub fn packed(transfers: usize, number: u32) -> u64
 // Tells what a session call answered: its session over the words, its number and transfers as the result.
 pub fn told(words: &mut [u32], a: Answer) -> u64
     requires { Tellable words.old a }
-    ensures { (result ≡ packed_number a.transfers a.number) × (became words ≡ words_of (was words) (held a.session)) }
+    ensures { (result ≡ packed_number a.transfers a.number) × (words.new ≡ words_of words.old (held a.session)) }
 {
     put_session(words, a.session);
     packed(a.transfers, a.number)

@@ -2,7 +2,6 @@
 ghost use Rattle.std.specs.Prelude.{◌≡◌};
 ghost use Rattle.demands.specs.Space.{most_sections, most_blocks};
 ghost use Rattle.capi.specs.Space.{space_in};
-ghost use Rattle.words.specs.Slices.{was};
 
 use super::plan::NO_PLAN;
 use super::session::{is_session, parameters_in};
@@ -10,7 +9,7 @@ use super::session::{is_session, parameters_in};
 // The most blocks that so many names take, put in by NSERT in any order; 2^64 - 1 where there is no session.
 #[unsafe(no_mangle)]
 pub extern "C" fn nasturakh_most_blocks(session: &[u32], names: u32) -> u64
-    ensures { result ≡ space_in most_blocks (was session) names }
+    ensures { result ≡ space_in most_blocks session.now names }
 {
     if !is_session(session) {
         return NO_PLAN;
@@ -25,7 +24,7 @@ pub extern "C" fn nasturakh_most_blocks(session: &[u32], names: u32) -> u64
 // The most sections that they take; 2^64 - 1 where there is no session.
 #[unsafe(no_mangle)]
 pub extern "C" fn nasturakh_most_sections(session: &[u32], names: u32) -> u64
-    ensures { result ≡ space_in most_sections (was session) names }
+    ensures { result ≡ space_in most_sections session.now names }
 {
     if !is_session(session) {
         return NO_PLAN;

@@ -2,7 +2,6 @@
 // returned alone and the two figures go to words that are lent for them.
 ghost use Rattle.std.specs.Prelude.{◌≡◌};
 ghost use Rattle.capi.specs.Tray.{returned_tray, called_tray};
-ghost use Rattle.words.specs.Slices.{was, became};
 
 use super::session::{is_session, put_session, session_of, wide};
 use numbers::WRONG_SIZE;
@@ -18,8 +17,8 @@ pub extern "C" fn nasturakh_nsert_tray(
     tray: &[u32],
     told: &mut [u64],
 ) -> u64
-    ensures { returned_tray result (became session) (became file) (became buffer) (became told)
-        ≡ called_tray (was session) (was file) (was buffer) (was tray) (was told) }
+    ensures { returned_tray result session.new file.new buffer.new told.new
+        ≡ called_tray session.old file.old buffer.old tray.now told.old }
 {
     if !is_session(session) {
         return wide(WRONG_SIZE);

@@ -1,7 +1,6 @@
 // The turning call for programs in other languages.
 ghost use Rattle.std.specs.Prelude.{◌≡◌};
 ghost use Rattle.capi.specs.Turning.{returned_turn, called_turn};
-ghost use Rattle.words.specs.Slices.{was, became};
 
 use super::session::{FORM_WORDS, is_session, packed, put_form, session_of};
 use numbers::WRONG_SIZE;
@@ -9,8 +8,8 @@ use numbers::WRONG_SIZE;
 // Turns the session's file to the other block form; all else of the session stays as it is. Words without a place for the form are refused.
 #[unsafe(no_mangle)]
 pub extern "C" fn nasturakh_turn(session: &mut [u32], file: &mut [u32], marks: &mut [u8]) -> u64
-    ensures { returned_turn result (became session) (became file) (became marks)
-        ≡ called_turn (was session) (was file) (was marks) }
+    ensures { returned_turn result session.new file.new marks.new
+        ≡ called_turn session.old file.old marks.old }
 {
     if !is_session(session) {
         return packed(0, WRONG_SIZE);

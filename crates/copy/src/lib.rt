@@ -7,7 +7,6 @@ ghost use Rattle.drum.specs.Blocks.{sections};
 ghost use Rattle.layout.specs.Inspected.{Fit};
 ghost use Rattle.layout.specs.Copied.{under_control, entries_end, copied};
 ghost use Rattle.rules.specs.Copy.{copy_left, copy_sizes, copy};
-ghost use Rattle.words.specs.Slices.{was, became};
 ghost use Rattle.copy.specs.Fits.{CopyFits};
 
 use drum::Description;
@@ -25,7 +24,7 @@ fn is_file(p: Description, file: usize) -> bool
 
 // Whether parameters, lengths and the new CONTROL are right. Word 0 of the file is taken as it stands: nobody has inspected the file yet.
 fn is_sized(p: Description, control: usize, file: &[u32], second: usize, marks: usize) -> bool
-    ensures { result ≡ copy_sizes p control (was file) second marks }
+    ensures { result ≡ copy_sizes p control file.now second marks }
 {
     if !is_file(p, file.len()) {
         return false;
@@ -48,7 +47,7 @@ fn is_sized(p: Description, control: usize, file: &[u32], second: usize, marks: 
 fn entries_end(p: Description, file: &[u32]) -> usize
     requires fit { Fit p file.now }
     requires file_bound { sections file.now ≤ p.control }
-    ensures { result ≡ entries_end p (was file) }
+    ensures { result ≡ entries_end p file.now }
 {
     let sections = words::word_at(file, 0);
     3 + sections * (p.k + 1)
@@ -74,7 +73,7 @@ fn new_master(p: Description, control: usize) -> usize
 // Writes a master of `new` words: the `used` words of the file's, and zeros behind them.
 fn lay_master(second: &mut [u32], file: &[u32], used: usize, new: usize)
     requires { (used ≤ new) × (new ≤ length second.old) × (used ≤ length file.now) }
-    ensures { became second ≡ put (was second) 0 (part 0 used (was file) ++ zeros (new - used)) }
+    ensures { second.new ≡ put second.old 0 (part 0 used file.now ++ zeros (new - used)) }
 {
     words::copy_words(second, 0, file, 0, used);
     words::zero_words(second, used, new - used);
@@ -83,7 +82,7 @@ fn lay_master(second: &mut [u32], file: &[u32], used: usize, new: usize)
 // Writes the copy, every word of the second file: the new master, and the blocks, which lie behind it as they lay behind the old one.
 fn lay_copy(p: Description, control: usize, file: &[u32], second: &mut [u32])
     requires { CopyFits p control file.now second.old }
-    ensures { became second ≡ copied control p (was file) }
+    ensures { second.new ≡ copied control p file.now }
 {
     let used = entries_end(p, file);
     let old = master_of(p);
@@ -101,7 +100,7 @@ pub fn copy_file(
     second: &mut [u32],
     marks: &mut [u8],
 ) -> u32
-    ensures { copy_left result (became second) (became marks) ≡ copy p opened control (was file) (was second) (was marks) }
+    ensures { copy_left result second.new marks.new ≡ copy p opened control file.now second.old marks.old }
 {
     if !is_sized(p, control, file, second.len(), marks.len()) {
         return WRONG_SIZE;

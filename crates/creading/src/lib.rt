@@ -8,7 +8,6 @@ ghost use Rattle.std.specs.Prelude.{◌≡◌, []};
 ghost use Rattle.reading.specs.Reading.{read_close, read_seek, read_adv, read_alter};
 ghost use Rattle.capi.specs.Calls.{returned, marked};
 ghost use Rattle.creading.specs.Calls.{called_reading, called_reading_open, viewed_reading};
-ghost use Rattle.words.specs.Slices.{was, became};
 
 use capi::place::place_of;
 use capi::session::{packed, session_of};
@@ -23,8 +22,8 @@ pub extern "C" fn nasturakh_reading_open(
     buffer: &[u32],
     marks: &mut [u8],
 ) -> u64
-    ensures { marked (returned result (became session) (was file) (was buffer) []) (became marks)
-        ≡ called_reading_open (was session) (was file) (was buffer) (was marks) }
+    ensures { marked (returned result session.new file.now buffer.now []) marks.new
+        ≡ called_reading_open session.old file.now buffer.now marks.old }
 {
     if !is_reading(session) {
         return packed(0, WRONG_SIZE);
@@ -36,8 +35,8 @@ pub extern "C" fn nasturakh_reading_open(
 // CLOSE.
 #[unsafe(no_mangle)]
 pub extern "C" fn nasturakh_reading_close(session: &mut [u32], file: &[u32], buffer: &[u32]) -> u64
-    ensures { returned result (became session) (was file) (was buffer) []
-        ≡ called_reading read_close (was session) (was file) (was buffer) [] }
+    ensures { returned result session.new file.now buffer.now []
+        ≡ called_reading read_close session.old file.now buffer.now [] }
 {
     if !is_reading(session) {
         return packed(0, WRONG_SIZE);
@@ -54,8 +53,8 @@ pub extern "C" fn nasturakh_reading_seek(
     buffer: &mut [u32],
     work: &mut [u32],
 ) -> u64
-    ensures { returned result (became session) (was file) (became buffer) (became work)
-        ≡ called_reading read_seek (was session) (was file) (was buffer) (was work) }
+    ensures { returned result session.new file.now buffer.new work.new
+        ≡ called_reading read_seek session.old file.now buffer.old work.old }
 {
     if !is_reading(session) {
         return packed(0, WRONG_SIZE);
@@ -72,8 +71,8 @@ pub extern "C" fn nasturakh_reading_adv(
     buffer: &mut [u32],
     work: &mut [u32],
 ) -> u64
-    ensures { returned result (became session) (was file) (became buffer) (became work)
-        ≡ called_reading read_adv (was session) (was file) (was buffer) (was work) }
+    ensures { returned result session.new file.now buffer.new work.new
+        ≡ called_reading read_adv session.old file.now buffer.old work.old }
 {
     if !is_reading(session) {
         return packed(0, WRONG_SIZE);
@@ -90,8 +89,8 @@ pub extern "C" fn nasturakh_reading_nsert(
     buffer: &[u32],
     work: &[u32],
 ) -> u64
-    ensures { returned result (became session) (was file) (was buffer) (was work)
-        ≡ called_reading read_alter (was session) (was file) (was buffer) (was work) }
+    ensures { returned result session.new file.now buffer.now work.now
+        ≡ called_reading read_alter session.old file.now buffer.now work.now }
 {
     if !is_reading(session) {
         return packed(0, WRONG_SIZE);
@@ -108,8 +107,8 @@ pub extern "C" fn nasturakh_reading_dlete(
     buffer: &[u32],
     work: &[u32],
 ) -> u64
-    ensures { returned result (became session) (was file) (was buffer) (was work)
-        ≡ called_reading read_alter (was session) (was file) (was buffer) (was work) }
+    ensures { returned result session.new file.now buffer.now work.now
+        ≡ called_reading read_alter session.old file.now buffer.now work.now }
 {
     if !is_reading(session) {
         return packed(0, WRONG_SIZE);
@@ -126,8 +125,8 @@ pub extern "C" fn nasturakh_reading_updat(
     buffer: &[u32],
     work: &[u32],
 ) -> u64
-    ensures { returned result (became session) (was file) (was buffer) (was work)
-        ≡ called_reading read_alter (was session) (was file) (was buffer) (was work) }
+    ensures { returned result session.new file.now buffer.now work.now
+        ≡ called_reading read_alter session.old file.now buffer.now work.now }
 {
     if !is_reading(session) {
         return packed(0, WRONG_SIZE);
@@ -144,8 +143,8 @@ pub extern "C" fn nasturakh_reading_xtend(
     buffer: &[u32],
     work: &[u32],
 ) -> u64
-    ensures { returned result (became session) (was file) (was buffer) (was work)
-        ≡ called_reading read_alter (was session) (was file) (was buffer) (was work) }
+    ensures { returned result session.new file.now buffer.now work.now
+        ≡ called_reading read_alter session.old file.now buffer.now work.now }
 {
     if !is_reading(session) {
         return packed(0, WRONG_SIZE);
@@ -162,7 +161,7 @@ pub extern "C" fn nasturakh_reading_view(
     buffer: &[u32],
     block: usize,
 ) -> u64
-    ensures { result ≡ viewed_reading (was session) (was file) (was buffer) block }
+    ensures { result ≡ viewed_reading session.now file.now buffer.now block }
 {
     if !is_reading(session) {
         return packed(0, WRONG_SIZE);

@@ -4,7 +4,6 @@ ghost use Rattle.reading.specs.Reading.{as_session};
 ghost use Rattle.capi.specs.Words.{session_of, words_of, packed};
 ghost use Rattle.capi.specs.Calls.{Tellable};
 ghost use Rattle.creading.specs.Calls.{is_reading, whole_answer};
-ghost use Rattle.words.specs.Slices.{was, became};
 
 use capi::session::{is_session, session_of, told};
 use reading::ReadingSession;
@@ -12,7 +11,7 @@ use searchfile::Session;
 
 // Whether the words are a reading session's.
 pub fn is_reading(words: &[u32]) -> bool
-    ensures { result ≡ is_reading (was words) }
+    ensures { result ≡ is_reading words.now }
 {
     if !is_session(words) {
         return false;
@@ -23,7 +22,7 @@ pub fn is_reading(words: &[u32]) -> bool
 // The reading session that the words are.
 pub fn reading_of(words: &[u32]) -> ReadingSession
     requires { (73 ≤ length words.now) × (get_or words.now 8 0 ≡ 0) }
-    ensures { as_session result ≡ session_of (was words) }
+    ensures { as_session result ≡ session_of words.now }
 {
     let s = session_of(words);
     let desc = s.desc;
@@ -40,7 +39,7 @@ pub fn reading_of(words: &[u32]) -> ReadingSession
 // Tells what a reading call answered, as the full set's answers are told: the flag is off.
 pub fn told_reading(words: &mut [u32], a: reading::Answer) -> u64
     requires { Tellable words.old (whole_answer a) }
-    ensures { (result ≡ packed a.transfers a.number) × (became words ≡ words_of (was words) (as_session a.session)) }
+    ensures { (result ≡ packed a.transfers a.number) × (words.new ≡ words_of words.old (as_session a.session)) }
 {
     let s = a.session;
     let desc = s.desc;

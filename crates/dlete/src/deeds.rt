@@ -12,7 +12,6 @@ ghost use Rattle.rules.specs.Told.{gave, told};
 ghost use Rattle.acts.specs.Reach.{seen_by};
 ghost use Rattle.dlete.specs.Fits.{HasEntry, EntryIn, RemoveFits, EmptyFits, OneFits, DeleteFits};
 ghost use Rattle.dlete.specs.Freed.{handed, freed};
-ghost use Rattle.words.specs.Slices.{was, became};
 
 use drum::Description;
 use numbers::{BAD_FILE, DONE, NOT_FOUND};
@@ -21,7 +20,7 @@ use rules::{Delete, Done, Held, Path, Way};
 // If entry j is the last of an index block's text, the one before takes its bound.
 fn hand_bound(p: Description, t: &mut [u32], j: usize)
     requires { HasEntry p t.old j }
-    ensures { became t ≡ handed p j (was t) }
+    ensures { t.new ≡ handed p j t.old }
 {
     let n = drum::kinds::entries_in(p, t);
     if j + 1 != n {
@@ -34,7 +33,7 @@ fn hand_bound(p: Description, t: &mut [u32], j: usize)
 // Takes entry j out of an index block's text.
 fn entry_gone(p: Description, t: &mut [u32], j: usize)
     requires { HasEntry p t.old j }
-    ensures { became t ≡ entry_gone p j (was t) }
+    ensures { t.new ≡ entry_gone p j t.old }
 {
     hand_bound(p, t, j);
     table::remove_row(p.index_shape(), t, j);
@@ -43,7 +42,7 @@ fn entry_gone(p: Description, t: &mut [u32], j: usize)
 // The same in index block b of the file, by way of the buffer.
 fn gone_in(p: Description, file: &mut [u32], buffer: &mut [u32], b: usize, j: usize)
     requires { EntryIn p file.old b j × (length buffer.old ≡ p.wpb) }
-    ensures { became file ≡ put_block p (was file) b (entry_gone p j (block_at p (was file) b)) }
+    ensures { file.new ≡ put_block p file.old b (entry_gone p j (block_at p file.old b)) }
 {
     drum::read_block(p, file, buffer, b);
     entry_gone(p, buffer, j);
@@ -54,8 +53,8 @@ fn gone_in(p: Description, file: &mut [u32], buffer: &mut [u32], b: usize, j: us
 // block with its link.
 fn free_detail(at: Held, file: &mut [u32], buffer: &[u32], way: Way, w: Path, link: usize) -> usize
     requires { Fitting at.desc file.old buffer.now × EmptyFits (seen_by at file.old buffer.now) at.flag way w link }
-    ensures { (result ≡ length (reached (seen_by at (was file) (was buffer)) at.flag way).moves)
-        × (became file ≡ freed (seen_by at (was file) (was buffer)) at.flag way w link) }
+    ensures { (result ≡ length (reached (seen_by at file.old buffer.now) at.flag way).moves)
+        × (file.new ≡ freed (seen_by at file.old buffer.now) at.flag way w link) }
 {
     let moved = acts::follow(at, file, buffer, way);
     acts::stage(at.desc, at.current, file, buffer, w.index);
@@ -73,8 +72,8 @@ fn empty_one(
     head: usize,
 ) -> usize
     requires { Fitting at.desc file.old buffer.old × OneFits (seen_by at file.old buffer.old) at.flag way w head }
-    ensures { (result ≡ length (empty_all (seen_by at (was file) (was buffer)) at.flag way w head))
-        × (became file ≡ empty_file (seen_by at (was file) (was buffer)) at.flag way w head) }
+    ensures { (result ≡ length (empty_all (seen_by at file.old buffer.old) at.flag way w head))
+        × (file.new ≡ empty_file (seen_by at file.old buffer.old) at.flag way w head) }
 {
     let moved = free_detail(at, file, buffer, way, w, head);
     words::put_word(file, 1, w.detail);
@@ -85,8 +84,8 @@ fn empty_one(
 // The block and its index block are left empty: the index block is made the chain's head after the block, and its master entry goes.
 fn empty_both(at: Held, file: &mut [u32], buffer: &[u32], way: Way, w: Path, head: usize) -> usize
     requires { Fitting at.desc file.old buffer.now × EmptyFits (seen_by at file.old buffer.now) at.flag way w head }
-    ensures { (result ≡ length (both_all (seen_by at (was file) (was buffer)) at.flag way w head))
-        × (became file ≡ both_file (seen_by at (was file) (was buffer)) at.flag way w head) }
+    ensures { (result ≡ length (both_all (seen_by at file.old buffer.now) at.flag way w head))
+        × (file.new ≡ both_file (seen_by at file.old buffer.now) at.flag way w head) }
 {
     let p = at.desc;
     let moved = free_detail(at, file, buffer, way, w, head);
@@ -99,7 +98,7 @@ fn empty_both(at: Held, file: &mut [u32], buffer: &[u32], way: Way, w: Path, hea
 // What is left when the block was emptied: "buffer zeroed, current 0, flag off".
 fn none_held(buffer: &mut [u32], transfers: usize) -> Done
     ensures { (result ≡ record { number = done; transfers = transfers; current = 0; flag = false; keyed = true })
-        × (became buffer ≡ zeros (length (was buffer))) }
+        × (buffer.new ≡ zeros (length buffer.old)) }
 {
     let size = buffer.len();
     words::zero_words(buffer, 0, size);
@@ -115,10 +114,10 @@ fn none_held(buffer: &mut [u32], transfers: usize) -> Done
 // The record is taken out of its block, which is not left empty.
 fn remove_record(at: Held, file: &mut [u32], buffer: &mut [u32], way: Way, i: usize) -> Done
     requires { Fitting at.desc file.old buffer.old × RemoveFits (seen_by at file.old buffer.old) at.flag way i }
-    ensures { gave result (became file) (became buffer) []
-        ≡ told (seen_by at (was file) (was buffer)) at.flag []
-        (passed (storing done [] (reached (seen_by at (was file) (was buffer)) at.flag way)
-        (removed (detail_shape at.desc) i (reached (seen_by at (was file) (was buffer)) at.flag way).buffer))) }
+    ensures { gave result file.new buffer.new []
+        ≡ told (seen_by at file.old buffer.old) at.flag []
+        (passed (storing done [] (reached (seen_by at file.old buffer.old) at.flag way)
+        (removed (detail_shape at.desc) i (reached (seen_by at file.old buffer.old) at.flag way).buffer))) }
 {
     let p = at.desc;
     let here = acts::reach(at, file, buffer, way);
@@ -135,9 +134,9 @@ fn remove_record(at: Held, file: &mut [u32], buffer: &mut [u32], way: Way, i: us
 // Does what was planned.
 pub fn do_dlete(deed: Delete, at: Held, file: &mut [u32], buffer: &mut [u32]) -> Done
     requires { Fitting at.desc file.old buffer.old × DeleteFits (seen_by at file.old buffer.old) at.flag deed }
-    ensures { gave result (became file) (became buffer) []
-        ≡ told (seen_by at (was file) (was buffer)) at.flag []
-        (delete_done (seen_by at (was file) (was buffer)) at.flag [] deed) }
+    ensures { gave result file.new buffer.new []
+        ≡ told (seen_by at file.old buffer.old) at.flag []
+        (delete_done (seen_by at file.old buffer.old) at.flag [] deed) }
 {
     match deed {
         Delete::Bad => Done::refused(BAD_FILE, at.current, at.flag),

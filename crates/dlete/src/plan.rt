@@ -7,7 +7,6 @@ ghost use Rattle.rules.specs.Dlete.{empty_deed, delete_after, delete_deed};
 ghost use Rattle.rules.specs.declared.Way.TheVariants as way-is;
 ghost use Rattle.rules.specs.declared.Look.TheVariants as look_is;
 ghost use Rattle.dlete.specs.Answers.{as_delete};
-ghost use Rattle.words.specs.Slices.{was};
 
 use drum::Description;
 use lookup::Route;
@@ -23,7 +22,7 @@ fn empty_deed<'a>(
     w: Path,
 ) -> Delete
     requires { Fitting p file.now buffer.now × PathFits (seen p current file.now buffer.now) w }
-    ensures { as_delete result ≡ empty_deed (at_entry p current file buffer) way w }
+    ensures { as_delete result ≡ empty_deed (at_entry p current file.now buffer.now) way w }
 {
     let head = words::word_at(file, 1);
     if p.n < head {
@@ -40,7 +39,7 @@ fn empty_deed<'a>(
 fn delete_here<'a>(at: Held, file: &'a [u32], buffer: &'a [u32], key: &[u32], i: usize) -> Delete
     requires { Fitting at.desc file.now buffer.now × (at.desc.k ≤ length key.now) }
     ensures { as_delete result
-        ≡ delete_after (at_entry at.desc at.current file buffer) (part 0 at.desc.k (was key)) (look_is.Found way-is.Here i) }
+        ≡ delete_after (at_entry at.desc at.current file.now buffer.now) (part 0 at.desc.k key.now) (look_is.Found way-is.Here i) }
 {
     let p = at.desc;
     let current = at.current;
@@ -69,7 +68,7 @@ fn delete_by<'a>(
     i: usize,
 ) -> Delete
     requires { Fitting p file.now buffer.now × PathFits (seen p current file.now buffer.now) w }
-    ensures { as_delete result ≡ delete_after (at_entry p current file buffer) [] (look_is.Found (way-is.By w) i) }
+    ensures { as_delete result ≡ delete_after (at_entry p current file.now buffer.now) [] (look_is.Found (way-is.By w) i) }
 {
     let t = drum::text_of(p, current, file, buffer, w.detail);
     if drum::kinds::records_in(p, t) != 1 {
@@ -88,7 +87,7 @@ pub fn plan_dlete<'a>(
     key: &[u32],
 ) -> Delete
     requires { Fitting p file.now buffer.now × (p.k ≤ length key.now) }
-    ensures { as_delete result ≡ delete_deed (at_entry p current file buffer) flag (part 0 p.k (was key)) }
+    ensures { as_delete result ≡ delete_deed (at_entry p current file.now buffer.now) flag (part 0 p.k key.now) }
 {
     let at = Held {
         desc: p,

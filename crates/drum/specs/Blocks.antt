@@ -1,7 +1,6 @@
 -- Blocks of the file, transfers, and current texts. Document 01, "Parameters", "The session", "The calls and their transfers".
 use Rattle.std.specs.Prelude.{ℕ, ◌≤◌, ◌≡◌, Bool, true, false, cond, ◌||◌, List, [], ◌∷◌, eqb, length, get_or, set}
 use Rattle.words.specs.Words.{part, put}
-use Rattle.words.specs.Slices.{Slice, was}
 use Rattle.table.specs.Tables.{laid}
 use Rattle.drum.specs.declared.Description.{Description}
 use Rattle.drum.specs.Params.{start, file_size, good_params, second, tag_of, free_kind}
@@ -71,8 +70,8 @@ abbrev pub seen : Description → ℕ → List ℕ → List ℕ → Texts
 seen p cur f b = record { desc = p; current = cur; file = f; buffer = b }
 
 -- the same of lent words, as they were when a function was called
-abbrev pub at_entry : Description → ℕ → Slice → Slice → Texts
-at_entry p current file buffer = seen p current (was file) (was buffer)
+abbrev pub at_entry : Description → ℕ → List ℕ → List ℕ → Texts
+at_entry p current file buffer = seen p current file buffer
 
 -- "Current text of a block: the buffer if it is the current block, else the file." [S4, T5]
 unfoldable pub text_of : Texts → ℕ → List ℕ

@@ -1,7 +1,6 @@
 // Blocks changed where they lie in the file. Each change is that of a table's words, and the file is then the same but for that block.
 ghost use Rattle.std.specs.Prelude.{◌≡◌, ◌+◌, ◌≤◌, ◌<◌, [], length, set};
 ghost use Rattle.words.specs.Words.{part};
-ghost use Rattle.words.specs.Slices.{was, became};
 ghost use Rattle.table.specs.Tables.{count, place, inserted, replaced, laid};
 ghost use Rattle.table.specs.Splits.{renamed};
 ghost use Rattle.drum.specs.Params.{index_shape};
@@ -14,7 +13,7 @@ use table::Shape;
 // Writes block b anew: a count, rows, and zeros.
 pub fn lay_block(p: Description, file: &mut [u32], b: usize, count: usize, rows: &[u32])
     requires { HasBlock p file.old b × (1 + length rows.now ≤ p.wpb) × (count ≤ 262143) }
-    ensures { became file ≡ put_block p (was file) b (laid p.wpb count (was rows)) }
+    ensures { file.new ≡ put_block p file.old b (laid p.wpb count rows.now) }
 {
     let start = p.start(b);
     let end = start + p.wpb;
@@ -24,7 +23,7 @@ pub fn lay_block(p: Description, file: &mut [u32], b: usize, count: usize, rows:
 // Writes block b as a free block: its kind where the form has one, its link, and zeros.
 pub fn free_block(p: Description, file: &mut [u32], b: usize, link: usize)
     requires { HasBlock p file.old b × (link ≤ 262143) }
-    ensures { became file ≡ put_block p (was file) b (free_text p link) }
+    ensures { file.new ≡ put_block p file.old b (free_text p link) }
 {
     let start = p.start(b);
     let end = start + p.wpb;
@@ -36,7 +35,7 @@ pub fn free_block(p: Description, file: &mut [u32], b: usize, link: usize)
 // A kind, a link at its place, and zeros, over all words of a text.
 fn lay_free(t: &mut [u32], kind: usize, place: usize, link: usize)
     requires { (place < length t.old) × (kind ≤ 262143) × (link ≤ 262143) }
-    ensures { became t ≡ set (laid (length (was t)) kind []) place link }
+    ensures { t.new ≡ set (laid (length t.old) kind []) place link }
 {
     let n = t.len();
     words::zero_words(t, 0, n);
@@ -47,7 +46,7 @@ fn lay_free(t: &mut [u32], kind: usize, place: usize, link: usize)
 // A count, rows, and zeros, over all words of a text.
 fn lay_rows(t: &mut [u32], count: usize, rows: &[u32])
     requires { (1 + length rows.now ≤ length t.old) × (count ≤ 262143) }
-    ensures { became t ≡ laid (length (was t)) count (was rows) }
+    ensures { t.new ≡ laid (length t.old) count rows.now }
 {
     let n = rows.len();
     words::put_word(t, 0, count);
@@ -59,8 +58,8 @@ fn lay_rows(t: &mut [u32], count: usize, rows: &[u32])
 // Puts a row in before row i of block b, and counts it.
 pub fn insert_in(p: Description, file: &mut [u32], b: usize, h: Shape, i: usize, row: &[u32])
     requires { HasBlock p file.old b × Takes h i (block_at p file.old b) × (h.stride ≤ length row.now) }
-    ensures { became file
-        ≡ put_block p (was file) b (inserted h i (part 0 h.stride (was row)) (block_at p (was file) b)) }
+    ensures { file.new
+        ≡ put_block p file.old b (inserted h i (part 0 h.stride row.now) (block_at p file.old b)) }
 {
     let start = p.start(b);
     let end = start + p.wpb;
@@ -70,7 +69,7 @@ pub fn insert_in(p: Description, file: &mut [u32], b: usize, h: Shape, i: usize,
 // Writes a key over that of row i of block b.
 pub fn set_key_in(p: Description, file: &mut [u32], b: usize, h: Shape, i: usize, key: &[u32])
     requires { HasBlock p file.old b × (place h i + h.width ≤ p.wpb) × (h.width ≤ length key.now) }
-    ensures { became file ≡ put_block p (was file) b (replaced h i (part 0 h.width (was key)) (block_at p (was file) b)) }
+    ensures { file.new ≡ put_block p file.old b (replaced h i (part 0 h.width key.now) (block_at p file.old b)) }
 {
     let start = p.start(b);
     let end = start + p.wpb;
@@ -80,7 +79,7 @@ pub fn set_key_in(p: Description, file: &mut [u32], b: usize, h: Shape, i: usize
 // Lets entry i of block b name block x.
 pub fn set_name_in(p: Description, file: &mut [u32], b: usize, h: Shape, i: usize, x: usize)
     requires { HasBlock p file.old b × (place h i + h.width < p.wpb) × (x ≤ 262143) }
-    ensures { became file ≡ put_block p (was file) b (renamed h i x (block_at p (was file) b)) }
+    ensures { file.new ≡ put_block p file.old b (renamed h i x (block_at p file.old b)) }
 {
     let start = p.start(b);
     let end = start + p.wpb;
@@ -91,7 +90,7 @@ pub fn set_name_in(p: Description, file: &mut [u32], b: usize, h: Shape, i: usiz
 // How many entries index block b says that it has.
 pub fn entries_of(p: Description, file: &[u32], b: usize) -> usize
     requires { HasBlock p file.now b }
-    ensures { result ≡ count (index_shape p) (block_at p (was file) b) }
+    ensures { result ≡ count (index_shape p) (block_at p file.now b) }
 {
     kinds::less(words::word_at(file, p.start(b)), p.tag(Description::INDEX))
 }

@@ -10,7 +10,6 @@ ghost use Rattle.drum.specs.Params.{D, I, FD, FI, master_size, file_size, size_i
 ghost use Rattle.drum.specs.Params.{every, good_params, most_sections, sized, tag_of, master_shape, index_shape, detail_shape};
 ghost use Rattle.drum.specs.Blocks.{link_place, block_at, put_block, Fitting, Block, text_of, at_entry};
 ghost use Rattle.drum.specs.Parts.{part_of, text_part};
-ghost use Rattle.words.specs.Slices.{was, became};
 
 use table::Shape;
 
@@ -361,7 +360,7 @@ fn has_room(p: Description) -> bool
 // Brings block b of the file into the buffer.
 pub fn read_block(p: Description, file: &[u32], buffer: &mut [u32], b: usize)
     requires { Fitting p file.now buffer.old × Block p b }
-    ensures { became buffer ≡ block_at p (was file) b }
+    ensures { buffer.new ≡ block_at p file.now b }
 {
     let wpb = p.wpb;
     let start = p.start(b);
@@ -371,7 +370,7 @@ pub fn read_block(p: Description, file: &[u32], buffer: &mut [u32], b: usize)
 // Writes the buffer over block b of the file.
 pub fn write_block(p: Description, file: &mut [u32], buffer: &[u32], b: usize)
     requires { Fitting p file.old buffer.now × Block p b }
-    ensures { became file ≡ put_block p (was file) b (was buffer) }
+    ensures { file.new ≡ put_block p file.old b buffer.now }
 {
     let wpb = p.wpb;
     let start = p.start(b);
@@ -407,7 +406,7 @@ pub fn text_of<'a>(
     b: usize,
 ) -> &'a [u32]
     requires { Fitting p file.now buffer.now × Block p b }
-    ensures { result.now ≡ text_of (at_entry p current file buffer) b }
+    ensures { result.now ≡ text_of (at_entry p current file.now buffer.now) b }
 {
     text_part(p, current, file, buffer, b)
 }

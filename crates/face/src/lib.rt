@@ -3,7 +3,6 @@
 ghost use Rattle.std.specs.Prelude.{◌≡◌, true, ◌≤◌};
 ghost use Rattle.drum.specs.Params.{good_params};
 ghost use Rattle.face.specs.Checks.{refusing, plain_checks, keyed_checks};
-ghost use Rattle.words.specs.Slices.{was};
 
 use drum::Description;
 use numbers::{IS_CLOSED, WRONG_KEY, WRONG_SIZE};
@@ -34,7 +33,7 @@ pub fn refused_key(
     reads: usize,
 ) -> u32
     requires { good_params p ≡ true → reads ≤ p.wpr }
-    ensures { refusing result ≡ keyed_checks p opened file buffer (was work) reads }
+    ensures { refusing result ≡ keyed_checks p opened file buffer work.now reads }
 {
     let number = refused_plain(p, opened, file, buffer, work.len());
     if number != 0 {

@@ -2,7 +2,6 @@
 ghost use Rattle.std.specs.Prelude.{◌≡◌, ◌+◌, ◌≤◌, length};
 ghost use Rattle.faults.specs.Sentences.{visible as visible_of, visibles, figure, takes_text, is_text, suggestion};
 ghost use Rattle.faults.specs.Promise.{Wrote, room};
-ghost use Rattle.words.specs.Slices.{was};
 
 use super::Parameter;
 use lines::Named;
@@ -23,7 +22,7 @@ fn visible(b: u8) -> u8
 // A word that was read.
 pub fn put_visible(out: &mut [u8], at: usize, word: &[u8]) -> usize
     requires { at + length word.now ≤ length out.old }
-    ensures { Wrote result out at (visibles (was word)) (length (was word)) }
+    ensures { Wrote result out at (visibles word.now) (length word.now) }
 {
     let mut i = 0;
     while i < word.len() {
@@ -36,7 +35,7 @@ pub fn put_visible(out: &mut [u8], at: usize, word: &[u8]) -> usize
 // A number between two texts.
 pub fn put_figure(out: &mut [u8], at: usize, before: &[u8], n: usize, after: &[u8]) -> usize
     requires { at + room before.now after.now ≤ length out.old }
-    ensures { Wrote result out at (figure (was before) n (was after)) (room (was before) (was after)) }
+    ensures { Wrote result out at (figure before.now n after.now) (room before.now after.now) }
 {
     let text = texts::put_bytes(out, at, before);
     let number = texts::put_decimal(out, text, texts::count(n));

@@ -10,7 +10,6 @@ mod watch;
 
 ghost use Rattle.std.specs.Prelude.{◌≡◌};
 ghost use Rattle.faults.specs.Faults.{name_fault, numbers_fault, call_fault};
-ghost use Rattle.words.specs.Slices.{was};
 
 use drum::Description;
 pub use first::first_fault;
@@ -64,7 +63,7 @@ pub enum Fault {
 
 // A line whose first word, `word`, names no call.
 pub fn name_fault(w: Watch, word: &[u8]) -> Fault
-    ensures { result ≡ name_fault w (was word) }
+    ensures { result ≡ name_fault w word.now }
 {
     if w.words == 0 {
         return Fault::Empty;
@@ -96,7 +95,7 @@ fn numbers_fault(w: Watch, call: Call, takes: usize) -> Fault
 
 // A line of calls that is no such call.
 pub fn call_fault(p: Description, w: Watch, word: &[u8]) -> Fault
-    ensures { result ≡ call_fault p w (was word) }
+    ensures { result ≡ call_fault p w word.now }
 {
     let kind = lines::call_named(word, word.len());
     match kind {

@@ -3,7 +3,6 @@ ghost use Rattle.std.specs.Prelude.{◌≡◌, ◌≤◌, ◌-◌, length, drop}
 ghost use Rattle.faults.specs.Nearest.{upper as upper_of, same as same_letter, agreeing as agreeing_in, alike as alike_in};
 ghost use Rattle.faults.specs.Nearest.{nothing_near, nearer as nearer_of, nearest_in, nearest as nearest_to};
 ghost use Rattle.lines.specs.Lines.{kinds};
-ghost use Rattle.words.specs.Slices.{was};
 
 use lines::Named;
 use rules::Call;
@@ -41,7 +40,7 @@ fn same(a: u8, b: u8) -> usize
 
 // At how many places the bytes of `word` from a on agree with those of `text` from b on.
 fn agreeing(word: &[u8], a: usize, text: &[u8], b: usize) -> usize
-    ensures { (result ≡ agreeing_in (drop a (was word)) (drop b (was text))) × (result ≤ length (was text)) }
+    ensures { (result ≡ agreeing_in (drop a word.now) (drop b text.now)) × (result ≤ length text.now) }
 {
     let mut i = a;
     let mut j = b;
@@ -60,7 +59,7 @@ fn agreeing(word: &[u8], a: usize, text: &[u8], b: usize) -> usize
 // How much the word is like a text: as it stands, and with a letter left out or added in front.
 fn alike(word: &[u8], text: &[u8]) -> usize
     requires { length text.now ≤ 8 }
-    ensures { result ≡ alike_in (was word) (was text) }
+    ensures { result ≡ alike_in word.now text.now }
 {
     let whole = agreeing(word, 0, text, 0);
     let added = agreeing(word, 1, text, 0);
@@ -71,7 +70,7 @@ fn alike(word: &[u8], text: &[u8]) -> usize
 // The call whose name is `text`, where the word is more like it than like the one before.
 fn nearer(near: Near, word: &[u8], call: Call, text: &[u8]) -> Near
     requires { length text.now ≤ 8 }
-    ensures { result ≡ nearer_of (was word) near call (was text) }
+    ensures { result ≡ nearer_of word.now near call text.now }
 {
     let score = alike(word, text);
     if score <= near.score {
@@ -86,7 +85,7 @@ fn nearer(near: Near, word: &[u8], call: Call, text: &[u8]) -> Near
 
 // The call that the word is most like, the first of equals.
 fn nearest_near(word: &[u8]) -> Near
-    ensures { result ≡ nearest_in (was word) nothing_near kinds }
+    ensures { result ≡ nearest_in word.now nothing_near kinds }
 {
     let nothing = Near {
         call: Call::Create,
@@ -116,7 +115,7 @@ fn lacking(near: Near) -> usize
 
 // That call, if no more than one letter of its name is lacking.
 pub fn nearest(word: &[u8]) -> Named
-    ensures { result ≡ nearest_to (was word) }
+    ensures { result ≡ nearest_to word.now }
 {
     let near = nearest_near(word);
     if 1 < lacking(near) {

@@ -2,7 +2,6 @@
 ghost use Rattle.std.specs.Prelude.{◌+◌, ◌≤◌, length};
 ghost use Rattle.faults.specs.Sentences.{no_call_text, count_text, range_text, fault_text, sentence};
 ghost use Rattle.faults.specs.Promise.{Wrote};
-ghost use Rattle.words.specs.Slices.{was};
 
 use super::figures::{put_figure, put_is, put_suggestion, put_takes, put_visible};
 use super::{Fault, Parameter};
@@ -11,7 +10,7 @@ use rules::Call;
 
 fn put_no_call(out: &mut [u8], at: usize, word: &[u8], near: Named) -> usize
     requires { (at + 40 ≤ length out.old) × (length word.now ≤ 8) }
-    ensures { Wrote result out at (no_call_text (was word) near) 40 }
+    ensures { Wrote result out at (no_call_text word.now near) 40 }
 {
     let shown = put_visible(out, at, word);
     let said = texts::put_bytes(out, shown, b" is no call");
@@ -45,7 +44,7 @@ fn put_range(
 
 fn put_fault(out: &mut [u8], at: usize, word: &[u8], fault: Fault) -> usize
     requires { (at + 120 ≤ length out.old) × (length word.now ≤ 8) }
-    ensures { Wrote result out at (fault_text (was word) fault) 120 }
+    ensures { Wrote result out at (fault_text word.now fault) 120 }
 {
     match fault {
         Fault::Empty => texts::put_bytes(out, at, b"no word; a call is expected"),
@@ -82,7 +81,7 @@ fn put_fault(out: &mut [u8], at: usize, word: &[u8], fault: Fault) -> usize
 // The sentence about line number `line`, whose first word is `word`.
 pub fn put_sentence(out: &mut [u8], line: usize, word: &[u8], fault: Fault) -> usize
     requires { (160 ≤ length out.old) × (length word.now ≤ 8) }
-    ensures { Wrote result out 0 (sentence line (was word) fault) 160 }
+    ensures { Wrote result out 0 (sentence line word.now fault) 160 }
 {
     let placed = put_figure(out, 0, b"line", line, b": ");
     let said = put_fault(out, placed, word, fault);

@@ -1,7 +1,6 @@
 // What a fault is told by, beside what `lines` keeps of a line: how many words it has, and the first that is not all digits.
 ghost use Rattle.std.specs.Prelude.{◌≡◌, ◌≤◌, ◌-◌, length, drop};
 ghost use Rattle.faults.specs.Watching.{unwatched, words_with, odd_with, seen, watched};
-ghost use Rattle.words.specs.Slices.{was};
 
 use lines::{is_blank, is_digit};
 
@@ -95,7 +94,7 @@ impl Watch {
 // Looks at bytes from place `from` on, up to the first line feed.
 pub fn look(w: Watch, bytes: &[u8], from: usize) -> Watch
     requires { from ≤ length bytes.now }
-    ensures { result ≡ watched w (drop from (was bytes)) }
+    ensures { result ≡ watched w (drop from bytes.now) }
 {
     let mut seen = w;
     let mut at = from;

@@ -76,7 +76,7 @@ fn take_block<'a>(
     lowest: u32,
 ) -> Grant
     requires { Fitting p file.now buffer.now }
-    ensures { as_grant result ≡ granted (at_entry p current file buffer) head lowest }
+    ensures { as_grant result ≡ granted (at_entry p current file.now buffer.now) head lowest }
 {
     let n = p.n;
     if n < head {
@@ -119,7 +119,7 @@ fn is_new(current: usize, flag: bool, w: Path, b: usize) -> bool
 // One new block for a call with the path w, tested.
 pub fn take_one<'a>(at: Held, file: &'a [u32], buffer: &'a [u32], w: Path) -> Grant
     requires { Fitting at.desc file.now buffer.now }
-    ensures { as_grant result ≡ take_one (at_entry at.desc at.current file buffer) at.flag w }
+    ensures { as_grant result ≡ take_one (at_entry at.desc at.current file.now buffer.now) at.flag w }
 {
     let head = words::word_at(file, 1);
     let Grant::Got(d) = take_block(at.desc, at.current, file, buffer, head, file[2]) else {
@@ -137,7 +137,7 @@ pub fn take_one<'a>(at: Held, file: &'a [u32], buffer: &'a [u32], w: Path) -> Gr
 // Whether one of two new blocks is lacking, or a section.
 fn is_short<'a>(at: Held, file: &'a [u32], buffer: &'a [u32], d: usize, x: usize) -> bool
     requires { 1 ≤ length file.now }
-    ensures { result ≡ is_short (at_entry at.desc at.current file buffer) d x }
+    ensures { result ≡ is_short (at_entry at.desc at.current file.now buffer.now) d x }
 {
     if d == 0 {
         return true;
@@ -164,7 +164,7 @@ fn are_new(at: Held, w: Path, d: usize, x: usize) -> bool
 // Two new blocks for a call with the path w, the detail block first, and a section: tested, and not the same.
 pub fn take_two<'a>(at: Held, file: &'a [u32], buffer: &'a [u32], w: Path) -> Grants
     requires { Fitting at.desc file.now buffer.now }
-    ensures { as_grants result ≡ take_two (at_entry at.desc at.current file buffer) at.flag w }
+    ensures { as_grants result ≡ take_two (at_entry at.desc at.current file.now buffer.now) at.flag w }
 {
     let head = words::word_at(file, 1);
     let Grant::Got(d) = take_block(at.desc, at.current, file, buffer, head, file[2]) else {

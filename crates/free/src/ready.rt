@@ -3,7 +3,6 @@ ghost use Rattle.std.specs.Prelude.{◌≡◌, length};
 ghost use Rattle.drum.specs.Blocks.{Fitting, seen, at_entry};
 ghost use Rattle.rules.specs.Lookup.{reached, text_at};
 ghost use Rattle.free.specs.Readied.{ReadyFits, ready_file};
-ghost use Rattle.words.specs.Slices.{became};
 
 use rules::{Held, Path, Taken, Way};
 
@@ -12,9 +11,9 @@ use rules::{Held, Path, Taken, Way};
 pub fn prepare(at: Held, file: &mut [u32], buffer: &mut [u32], way: Way, w: Path, d: Taken) -> usize
     requires { Fitting at.desc file.old buffer.old
         × ReadyFits (seen at.desc at.current file.old buffer.old) at.flag way w d }
-    ensures { (result ≡ length (reached (at_entry at.desc at.current file buffer) at.flag way).moves)
-        × (became file ≡ ready_file (at_entry at.desc at.current file buffer) at.flag way w d)
-        × (became buffer ≡ text_at (at_entry at.desc at.current file buffer) way) }
+    ensures { (result ≡ length (reached (at_entry at.desc at.current file.old buffer.old) at.flag way).moves)
+        × (file.new ≡ ready_file (at_entry at.desc at.current file.old buffer.old) at.flag way w d)
+        × (buffer.new ≡ text_at (at_entry at.desc at.current file.old buffer.old) way) }
 {
     let p = at.desc;
     let current = at.current;

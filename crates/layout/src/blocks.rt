@@ -5,7 +5,6 @@ ghost use Rattle.drum.specs.Params.{start};
 ghost use Rattle.drum.specs.Blocks.{block_at};
 ghost use Rattle.layout.specs.Inspect.{through, detail_held, index_held, chain_held};
 ghost use Rattle.layout.specs.Inspected.{flagged, Fit};
-ghost use Rattle.words.specs.Slices.{was, became};
 
 use super::marking::mark;
 use super::rows::{last_row, records_ok, rows_in};
@@ -14,7 +13,7 @@ use drum::{Description, kinds};
 // Where block b begins in the file, in which it lies whole.
 fn start_of(p: Description, f: &[u32], b: usize) -> usize
     requires { Fit p f.now × (1 ≤ b) × (b ≤ p.n) }
-    ensures { (result ≡ start p b) × (result + p.wpb ≤ length (was f)) }
+    ensures { (result ≡ start p b) × (result + p.wpb ≤ length f.now) }
 {
     p.start(b)
 }
@@ -22,7 +21,7 @@ fn start_of(p: Description, f: &[u32], b: usize) -> usize
 // The words of block b.
 pub fn block_of<'a>(p: Description, f: &'a [u32], b: usize) -> &'a [u32]
     requires { Fit p f.now × (1 ≤ b) × (b ≤ p.n) }
-    ensures { (result.now ≡ block_at p (was f) b) × (length result.now ≡ p.wpb) }
+    ensures { (result.now ≡ block_at p f.now b) × (length result.now ≡ p.wpb) }
 {
     let s = start_of(p, f, b);
     let end = s + p.wpb;
@@ -33,7 +32,7 @@ pub fn block_of<'a>(p: Description, f: &'a [u32], b: usize) -> &'a [u32]
 pub fn detail_held(p: Description, f: &[u32], low: usize, e: usize, marks: &mut [u8]) -> bool
     requires fit { Fit p f.now }
     requires marks_len { (length marks.old ≡ p.n) × (low + p.k ≤ length f.now) × (e + (p.k + 1) ≤ length f.now) }
-    ensures { detail_held p (was f) low e (was marks) ≡ flagged result (became marks) }
+    ensures { detail_held p f.now low e marks.old ≡ flagged result marks.new }
 {
     let at = e + p.k;
     let b = words::word_at(f, at);
@@ -61,7 +60,7 @@ pub fn details_held(
 ) -> bool
     requires fit { Fit p f.now }
     requires marks_len { (length marks.old ≡ p.n) × (low + p.k ≤ length f.now) × (e + n * (p.k + 1) ≤ length f.now) }
-    ensures { through (detail_held p (was f)) (p.k + 1) low e n (was marks) ≡ flagged result (became marks) }
+    ensures { through (detail_held p f.now) (p.k + 1) low e n marks.old ≡ flagged result marks.new }
 {
     let mut before = low;
     let mut at = e;
@@ -81,7 +80,7 @@ pub fn details_held(
 pub fn index_held(p: Description, f: &[u32], low: usize, e: usize, marks: &mut [u8]) -> bool
     requires fit { Fit p f.now }
     requires marks_len { (length marks.old ≡ p.n) × (low + p.k ≤ length f.now) × (e + (p.k + 1) ≤ length f.now) }
-    ensures { index_held p (was f) low e (was marks) ≡ flagged result (became marks) }
+    ensures { index_held p f.now low e marks.old ≡ flagged result marks.new }
 {
     let k = p.k;
     let at = e + k;
@@ -107,7 +106,7 @@ pub fn index_held(p: Description, f: &[u32], low: usize, e: usize, marks: &mut [
 pub fn sections_held(p: Description, f: &[u32], n: usize, marks: &mut [u8]) -> bool
     requires fit { Fit p f.now }
     requires marks_len { (length marks.old ≡ p.n) × (3 + n * (p.k + 1) ≤ length f.now) }
-    ensures { through (index_held p (was f)) (p.k + 1) 0 3 n (was marks) ≡ flagged result (became marks) }
+    ensures { through (index_held p f.now) (p.k + 1) 0 3 n marks.old ≡ flagged result marks.new }
 {
     let mut before = 0;
     let mut at = 3;
@@ -127,7 +126,7 @@ pub fn sections_held(p: Description, f: &[u32], n: usize, marks: &mut [u8]) -> b
 pub fn chain_held(p: Description, f: &[u32], head: usize, marks: &mut [u8]) -> bool
     requires fit { Fit p f.now }
     requires marks_len { length marks.old ≡ p.n }
-    ensures { chain_held p (was f) p.n head (was marks) ≡ flagged result (became marks) }
+    ensures { chain_held p f.now p.n head marks.old ≡ flagged result marks.new }
 {
     let behind = p.link_place() + 1;
     let mut b = head;

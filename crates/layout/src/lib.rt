@@ -12,7 +12,6 @@ ghost use Rattle.drum.specs.Params.{good_params, file_size, tag_of, index_kind, 
 ghost use Rattle.layout.specs.Create.{created, master_on, index_on, detail_on};
 ghost use Rattle.layout.specs.Inspect.{rest_ok, master_ok, walked, layout_marks};
 ghost use Rattle.layout.specs.Inspected.{flagged, Fit, Ranged, left_marks};
-ghost use Rattle.words.specs.Slices.{was, became};
 
 pub use blocks::block_of;
 use blocks::{chain_held, sections_held};
@@ -25,7 +24,7 @@ use rows::last_row;
 pub fn inspect(p: Description, f: &[u32], marks: &mut [u8]) -> bool
     requires fit { Fit p f.now }
     requires marks_len { length marks.old ≡ p.n }
-    ensures { (layout_marks p (was f) ≡ flagged result (became marks)) × (became marks ≡ left_marks p.n (layout_marks p (was f))) }
+    ensures { (layout_marks p f.now ≡ flagged result marks.new) × (marks.new ≡ left_marks p.n (layout_marks p f.now)) }
 {
     clear(marks);
     if walk(p, f, marks) {
@@ -39,7 +38,7 @@ pub fn inspect(p: Description, f: &[u32], marks: &mut [u8]) -> bool
 fn walk(p: Description, f: &[u32], marks: &mut [u8]) -> bool
     requires fit { Fit p f.now }
     requires marks_value { marks.old ≡ zeros p.n }
-    ensures { layout_marks p (was f) ≡ flagged result (became marks) }
+    ensures { layout_marks p f.now ≡ flagged result marks.new }
 {
     if !words::all_words(f, 0, f.len()) {
         return false;
@@ -65,7 +64,7 @@ fn walk(p: Description, f: &[u32], marks: &mut [u8]) -> bool
 fn walk_on(p: Description, f: &[u32], marks: &mut [u8]) -> bool
     requires fit { Fit p f.now × Ranged p f.now }
     requires marks_value { marks.old ≡ zeros p.n }
-    ensures { walked p (was f) ≡ flagged result (became marks) }
+    ensures { walked p f.now ≡ flagged result marks.new }
 {
     let n = words::word_at(f, 0);
     let head = words::word_at(f, 1);
@@ -86,7 +85,7 @@ fn walk_on(p: Description, f: &[u32], marks: &mut [u8]) -> bool
 fn master_ok(p: Description, f: &[u32], n: usize) -> bool
     requires fit { Fit p f.now }
     requires le_n { (1 ≤ n) × (n ≤ p.control) }
-    ensures { result ≡ master_ok p (was f) n }
+    ensures { result ≡ master_ok p f.now n }
 {
     let k = p.k;
     let m = p.master_size();
@@ -101,7 +100,7 @@ fn master_ok(p: Description, f: &[u32], n: usize) -> bool
 fn rest_ok(p: Description, f: &[u32], lowest: usize, marks: &[u8]) -> bool
     requires fit { Fit p f.now }
     requires marks_len { (length marks.now ≡ p.n) × (1 ≤ lowest) × (lowest ≤ p.n + 1) }
-    ensures { result ≡ rest_ok p (was f) lowest (was marks) }
+    ensures { result ≡ rest_ok p f.now lowest marks.now }
 {
     if !all_set(marks, lowest - 1) {
         return false;
@@ -116,7 +115,7 @@ fn rest_ok(p: Description, f: &[u32], lowest: usize, marks: &[u8]) -> bool
 // Writes the words of a new file, every one of them.
 pub fn lay_out(p: Description, file: &mut [u32])
     requires { (good_params p ≡ true) × (length file.old ≡ file_size p) }
-    ensures { became file ≡ created p }
+    ensures { file.new ≡ created p }
 {
     let first = p.start(1);
     let second = p.start(2);
@@ -127,7 +126,7 @@ pub fn lay_out(p: Description, file: &mut [u32])
 // Writes 0 in every word, and then the master's that are not: one section, the lowest block never used, the section's entry.
 fn lay_master(t: &mut [u32], k: usize)
     requires { 4 + k ≤ length t.old }
-    ensures { became t ≡ master_on k (zeros (length (was t))) }
+    ensures { t.new ≡ master_on k (zeros (length t.old)) }
 {
     words::zero_words(t, 0, t.len());
     t[0] = 1;
@@ -138,8 +137,8 @@ fn lay_master(t: &mut [u32], k: usize)
 // Writes the words of the two blocks that are not 0: of the index block at word `first`, of the detail block at word `second`.
 fn lay_blocks(p: Description, t: &mut [u32], first: usize, second: usize)
     requires { (first + (2 + p.k) ≤ length t.old) × (second + (1 + p.k) ≤ length t.old) }
-    ensures { became t
-        ≡ detail_on second (tag_of p detail_kind + 1) p.k (index_on first (tag_of p index_kind + 1) p.k (was t)) }
+    ensures { t.new
+        ≡ detail_on second (tag_of p detail_kind + 1) p.k (index_on first (tag_of p index_kind + 1) p.k t.old) }
 {
     let k = p.k;
     lay_index(t, first, p.tag(Description::INDEX), k);
@@ -149,7 +148,7 @@ fn lay_blocks(p: Description, t: &mut [u32], first: usize, second: usize)
 // Writes the index block's, at word `at`: one entry, counted with the block's tag.
 fn lay_index(t: &mut [u32], at: usize, tag: usize, k: usize)
     requires { (at + (2 + k) ≤ length t.old) × (tag ≤ 4096) }
-    ensures { became t ≡ index_on at (tag + 1) k (was t) }
+    ensures { t.new ≡ index_on at (tag + 1) k t.old }
 {
     words::put_word(t, at, tag + 1);
     lay_entry(t, at + 1, k, 2);
@@ -158,7 +157,7 @@ fn lay_index(t: &mut [u32], at: usize, tag: usize, k: usize)
 // Writes the detail block's, at word `at`: the end record, counted with the block's tag.
 fn lay_detail(t: &mut [u32], at: usize, tag: usize, k: usize)
     requires { (at + (1 + k) ≤ length t.old) × (tag ≤ 8192) }
-    ensures { became t ≡ detail_on at (tag + 1) k (was t) }
+    ensures { t.new ≡ detail_on at (tag + 1) k t.old }
 {
     words::put_word(t, at, tag + 1);
     lay_ones(t, at + 1, k);
@@ -167,7 +166,7 @@ fn lay_detail(t: &mut [u32], at: usize, tag: usize, k: usize)
 // Writes an entry at word `at`: the bound ONES, and a block.
 fn lay_entry(t: &mut [u32], at: usize, k: usize, block: u32)
     requires { at + k + 1 ≤ length t.old }
-    ensures { became t ≡ put (was t) at (ones k ++ (block ∷ [])) }
+    ensures { t.new ≡ put t.old at (ones k ++ (block ∷ [])) }
 {
     lay_ones(t, at, k);
     t[at + k] = block;
@@ -176,7 +175,7 @@ fn lay_entry(t: &mut [u32], at: usize, k: usize, block: u32)
 // Writes the key ONES of k words at word `at`.
 fn lay_ones(t: &mut [u32], at: usize, k: usize)
     requires { at + k ≤ length t.old }
-    ensures { became t ≡ put (was t) at (ones k) }
+    ensures { t.new ≡ put t.old at (ones k) }
 {
     let mut i = 0;
     while i < k {

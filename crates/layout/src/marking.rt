@@ -3,11 +3,10 @@ ghost use Rattle.std.specs.Prelude.{◌≡◌, ◌≤◌, length, take, drop};
 ghost use Rattle.words.specs.Words.{zeros, all_are, none_is};
 ghost use Rattle.layout.specs.Inspect.{marked};
 ghost use Rattle.layout.specs.Inspected.{flagged};
-ghost use Rattle.words.specs.Slices.{was, became};
 
 // Marks block b with m, if it had no mark.
 pub fn mark(m: u8, b: usize, marks: &mut [u8]) -> bool
-    ensures { marked m b (was marks) ≡ flagged result (became marks) }
+    ensures { marked m b marks.old ≡ flagged result marks.new }
 {
     if b < 1 {
         return false;
@@ -25,7 +24,7 @@ pub fn mark(m: u8, b: usize, marks: &mut [u8]) -> bool
 // Whether the first n marks are all set.
 pub fn all_set(marks: &[u8], n: usize) -> bool
     requires { n ≤ length marks.now }
-    ensures { result ≡ none_is 0 (take n (was marks)) }
+    ensures { result ≡ none_is 0 (take n marks.now) }
 {
     let mut i = 0;
     while i < n {
@@ -39,7 +38,7 @@ pub fn all_set(marks: &[u8], n: usize) -> bool
 
 // Whether the marks from place a on are all 0.
 pub fn none_set(marks: &[u8], a: usize) -> bool
-    ensures { result ≡ all_are 0 (drop a (was marks)) }
+    ensures { result ≡ all_are 0 (drop a marks.now) }
 {
     let mut i = a;
     while i < marks.len() {
@@ -53,7 +52,7 @@ pub fn none_set(marks: &[u8], a: usize) -> bool
 
 // Puts 0 in every mark.
 pub fn clear(marks: &mut [u8])
-    ensures { became marks ≡ zeros (length (was marks)) }
+    ensures { marks.new ≡ zeros (length marks.old) }
 {
     let mut i = 0;
     while i < marks.len() {

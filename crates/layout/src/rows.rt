@@ -2,14 +2,13 @@
 ghost use Rattle.std.specs.Prelude.{◌≡◌, ◌+◌, ◌*◌, ◌≤◌, length};
 ghost use Rattle.layout.specs.Inspect.{above as is_above, ascends as ascending, end_ok, last_row, records_ok, rows_in};
 ghost use Rattle.layout.specs.Inspected.{counted, rows_of};
-ghost use Rattle.words.specs.Slices.{was};
 
 use drum::Description;
 
 // Where the last of the n rows from place a on begins.
 pub fn last_row(f: &[u32], a: usize, stride: usize, n: usize) -> usize
     requires { (1 ≤ n) × (a + n * stride ≤ length f.now) }
-    ensures { (result ≡ last_row a stride n) × (result + stride ≤ length (was f)) }
+    ensures { (result ≡ last_row a stride n) × (result + stride ≤ length f.now) }
 {
     a + (n - 1) * stride
 }
@@ -17,7 +16,7 @@ pub fn last_row(f: &[u32], a: usize, stride: usize, n: usize) -> usize
 // Whether the key at place a is above the one at low, if there is one.
 pub fn above(p: Description, f: &[u32], low: usize, a: usize) -> bool
     requires { (low + p.k ≤ length f.now) × (a + p.k ≤ length f.now) }
-    ensures { result ≡ is_above p (was f) low a }
+    ensures { result ≡ is_above p f.now low a }
 {
     if low == 0 {
         return true;
@@ -28,7 +27,7 @@ pub fn above(p: Description, f: &[u32], low: usize, a: usize) -> bool
 // Whether the keys of the n rows from place a on ascend, the first above the one at low.
 pub fn ascends(p: Description, f: &[u32], stride: usize, low: usize, a: usize, n: usize) -> bool
     requires { (low + p.k ≤ length f.now) × (p.k ≤ stride) × (a + n * stride ≤ length f.now) }
-    ensures { result ≡ ascending p (was f) stride low a n }
+    ensures { result ≡ ascending p f.now stride low a n }
 {
     let mut before = low;
     let mut at = a;
@@ -47,7 +46,7 @@ pub fn ascends(p: Description, f: &[u32], stride: usize, low: usize, a: usize, n
 // Whether the record at place r is the end record, if the bound at place e is ONES.
 pub fn end_ok(p: Description, f: &[u32], e: usize, r: usize) -> bool
     requires { (e + p.k ≤ length f.now) × (r + p.wpr ≤ length f.now) × (p.k ≤ p.wpr) }
-    ensures { result ≡ end_ok p (was f) e r }
+    ensures { result ≡ end_ok p f.now e r }
 {
     let k = p.k;
     if !words::all_are(f, e, k, 262143) {
@@ -66,7 +65,7 @@ pub fn records_ok(p: Description, f: &[u32], low: usize, e: usize, a: usize, n: 
         × (a + n * p.wpr ≤ length f.now)
         × (1 ≤ n)
         × (p.k ≤ p.wpr) }
-    ensures { result ≡ records_ok p (was f) low e a n }
+    ensures { result ≡ records_ok p f.now low e a n }
 {
     let wpr = p.wpr;
     if !ascends(p, f, wpr, low, a, n) {
@@ -83,7 +82,7 @@ pub fn records_ok(p: Description, f: &[u32], low: usize, e: usize, a: usize, n: 
 // lie in the file.
 pub fn rows_in(p: Description, f: &[u32], most: usize, stride: usize, tag: usize, s: usize) -> usize
     requires { (1 + most * stride ≤ p.wpb) × (s + p.wpb ≤ length f.now) }
-    ensures { (rows_in p (was f) most (rows_of p stride tag) s ≡ counted result) × (s + (1 + result * stride) ≤ length (was f)) }
+    ensures { (rows_in p f.now most (rows_of p stride tag) s ≡ counted result) × (s + (1 + result * stride) ≤ length f.now) }
 {
     let wpb = p.wpb;
     let n = drum::kinds::less(words::word_at(f, s), tag);

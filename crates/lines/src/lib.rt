@@ -8,7 +8,6 @@ ghost use Rattle.std.specs.Prelude.{◌≡◌, List, ℕ, ◌≤◌, length, dro
 ghost use Rattle.lines.specs.Reading.{unread, word_read, letter as letter_read, resting as resting_at};
 ghost use Rattle.lines.specs.Reading.{counted as word_counted, another, rested, step};
 ghost use Rattle.lines.specs.Promise.{took, read, to_line_feed};
-ghost use Rattle.words.specs.Slices.{was, became};
 
 pub use bytes::{is_blank, is_digit};
 use bytes::{long, wide};
@@ -107,7 +106,7 @@ impl Reading {
 
     // A byte of a word; those of the first word are kept, as far as there is room.
     fn letter(self, b: u8, name: &mut [u8]) -> Self
-        ensures { (numbers : List ℕ) → read result (became name) numbers ≡ letter_read (read self (was name) numbers) b }
+        ensures { (numbers : List ℕ) → read result name.new numbers ≡ letter_read (read self name.old numbers) b }
     {
         let mut next = self.with_byte(b);
         let spelled = self.spelled;
@@ -138,7 +137,7 @@ impl Reading {
 
     // The word that was read counts as a number, which is kept, or as another word.
     fn counted(self, numbers: &mut [u32]) -> Self
-        ensures { (name : List ℕ) → read result name (became numbers) ≡ word_counted (read self name (was numbers)) }
+        ensures { (name : List ℕ) → read result name numbers.new ≡ word_counted (read self name numbers.old) }
     {
         let at = self.numbers;
         if !self.number {
@@ -153,7 +152,7 @@ impl Reading {
 
     // A blank, or the line's end.
     pub fn rest(self, numbers: &mut [u32]) -> Self
-        ensures { (name : List ℕ) → read result name (became numbers) ≡ rested (read self name (was numbers)) }
+        ensures { (name : List ℕ) → read result name numbers.new ≡ rested (read self name numbers.old) }
     {
         if self.inside {
             return self.counted(numbers);
@@ -163,7 +162,7 @@ impl Reading {
 
     // A byte of the line.
     fn push(self, b: u8, name: &mut [u8], numbers: &mut [u32]) -> Self
-        ensures { read result (became name) (became numbers) ≡ step (read self (was name) (was numbers)) b }
+        ensures { read result name.new numbers.new ≡ step (read self name.old numbers.old) b }
     {
         if is_blank(b) {
             return self.rest(numbers);
@@ -175,8 +174,8 @@ impl Reading {
 // Reads bytes from place `from` on, up to and with the first line feed.
 pub fn take(r: Reading, bytes: &[u8], from: usize, name: &mut [u8], numbers: &mut [u32]) -> Taken
     requires { from ≤ length bytes.now }
-    ensures { took result (became name) (became numbers)
-        ≡ to_line_feed (read r (was name) (was numbers)) from (drop from (was bytes)) }
+    ensures { took result name.new numbers.new
+        ≡ to_line_feed (read r name.old numbers.old) from (drop from bytes.now) }
 {
     let mut reading = r;
     let mut at = from;

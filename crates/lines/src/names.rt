@@ -6,7 +6,6 @@ ghost use Rattle.words.specs.Keys.{same_key};
 ghost use Rattle.lines.specs.Lines.{kinds, named_in, named, described, carries as carried};
 ghost use Rattle.lines.specs.Reading.{call_of, parameters_in};
 ghost use Rattle.lines.specs.Promise.{named_as, given_as};
-ghost use Rattle.words.specs.Slices.{was};
 
 use crate::{Named, Parameters, Reading};
 use drum::Description;
@@ -15,7 +14,7 @@ use rules::Call;
 // Whether the first n bytes of name are those of text.
 pub fn is_name(name: &[u8], n: usize, text: &[u8]) -> bool
     requires { n ≤ length name.now }
-    ensures { result ≡ same_key (part 0 n (was name)) (was text) }
+    ensures { result ≡ same_key (part 0 n name.now) text.now }
 {
     if n != text.len() {
         return false;
@@ -40,7 +39,7 @@ fn kind(call: Call) -> Named
 // The call that the first n bytes of `name` name: the names are tried in their order, three by three.
 fn call_spelled(name: &[u8], n: usize) -> Named
     requires { n ≤ length name.now }
-    ensures { named_as result ≡ named (part 0 n (was name)) }
+    ensures { named_as result ≡ named (part 0 n name.now) }
 {
     if is_name(name, n, b"CREATE") {
         return kind(Call::Create);
@@ -57,7 +56,7 @@ fn call_spelled(name: &[u8], n: usize) -> Named
 // The same, of the names after the third.
 fn next_spelled(name: &[u8], n: usize) -> Named
     requires { n ≤ length name.now }
-    ensures { named_as result ≡ named_in (drop 3 kinds) (part 0 n (was name)) }
+    ensures { named_as result ≡ named_in (drop 3 kinds) (part 0 n name.now) }
 {
     if is_name(name, n, b"SEEK") {
         return kind(Call::Seek { at: 0 });
@@ -74,7 +73,7 @@ fn next_spelled(name: &[u8], n: usize) -> Named
 // The same, of the names after the sixth.
 fn last_spelled(name: &[u8], n: usize) -> Named
     requires { n ≤ length name.now }
-    ensures { named_as result ≡ named_in (drop 6 kinds) (part 0 n (was name)) }
+    ensures { named_as result ≡ named_in (drop 6 kinds) (part 0 n name.now) }
 {
     if is_name(name, n, b"DLETE") {
         return kind(Call::Dlete { at: 0 });
@@ -90,7 +89,7 @@ fn last_spelled(name: &[u8], n: usize) -> Named
 
 // The same, of all bytes of `name` if there are no n.
 pub fn call_named(name: &[u8], n: usize) -> Named
-    ensures { named_as result ≡ named (part 0 n (was name)) }
+    ensures { named_as result ≡ named (part 0 n name.now) }
 {
     if name.len() < n {
         return call_spelled(name, name.len());
@@ -117,7 +116,7 @@ pub fn carries(p: Description, call: Call) -> usize
 
 // The call that a line is, of what was kept of it.
 pub fn call_of(p: Description, r: Reading, name: &[u8]) -> Named
-    ensures { named_as result ≡ call_of p r (was name) }
+    ensures { named_as result ≡ call_of p r name.now }
 {
     let kind = call_named(name, r.spelled);
     match kind {
@@ -137,7 +136,7 @@ pub fn call_of(p: Description, r: Reading, name: &[u8]) -> Named
 // The description that the first six numbers are.
 fn set_up(numbers: &[u32]) -> Description
     requires { 6 ≤ length numbers.now }
-    ensures { result ≡ described (was numbers) }
+    ensures { result ≡ described numbers.now }
 {
     let wpb = words::word_at(numbers, 0);
     let wpr = words::word_at(numbers, 1);
@@ -157,7 +156,7 @@ fn set_up(numbers: &[u32]) -> Description
 // The parameters that a first line gives, of what was kept of it.
 pub fn parameters_of(r: Reading, numbers: &[u32]) -> Parameters
     requires { 6 ≤ length numbers.now }
-    ensures { given_as result ≡ parameters_in r (was numbers) }
+    ensures { given_as result ≡ parameters_in r numbers.now }
 {
     if r.others != 0 {
         return Parameters::Nothing;

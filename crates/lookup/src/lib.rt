@@ -11,7 +11,6 @@ ghost use Rattle.rules.specs.Lookup.{on_buffer, flush_ok, look_at, look_outside,
 ghost use Rattle.lookup.specs.Answers.{as_pick, as_route, as_test, as_look};
 ghost use Rattle.lookup.specs.Tables.{Entries, CountedRows};
 ghost use Rattle.rules.specs.Fits.{PathFits, BufferFits};
-ghost use Rattle.words.specs.Slices.{was};
 
 use drum::Description;
 use rules::{Entry, Held, Look, Path, Way, Which};
@@ -39,7 +38,7 @@ pub enum Test {
 // The place that is wanted in a table of n rows.
 fn place_of(which: Which, h: Shape, t: &[u32], n: usize, key: &[u32]) -> usize
     requires { CountedRows h t.now n key.now }
-    ensures { result ≡ chosen which h (part 0 h.width (was key)) (was t) }
+    ensures { result ≡ chosen which h (part 0 h.width key.now) t.now }
 {
     match which {
         Which::First => 0,
@@ -52,7 +51,7 @@ fn place_of(which: Which, h: Shape, t: &[u32], n: usize, key: &[u32]) -> usize
 // The block that row i, an entry, names.
 fn block_in(h: Shape, t: &[u32], i: usize) -> usize
     requires { place h i + h.width < length t.now }
-    ensures { result ≡ block_in h (was t) i }
+    ensures { result ≡ block_in h t.now i }
 {
     words::word_at(t, h.base + i * h.stride + h.width)
 }
@@ -60,7 +59,7 @@ fn block_in(h: Shape, t: &[u32], i: usize) -> usize
 // The entry that is wanted, of the master or of an index block.
 pub fn entry_of(p: Description, h: Shape, most: usize, which: Which, t: &[u32], key: &[u32]) -> Pick
     requires { Entries p h most t.now key.now }
-    ensures { as_pick result ≡ entry_of p h most which (part 0 p.k (was key)) (was t) }
+    ensures { as_pick result ≡ entry_of p h most which (part 0 p.k key.now) t.now }
 {
     let n = table::count_of(h, t);
     if n < 1 {
@@ -93,7 +92,7 @@ fn path_at<'a>(
     e: Entry,
 ) -> Route
     requires { Fitting p file.now buffer.now × Block p e.block }
-    ensures { as_route result ≡ path_at (at_entry p current file buffer) m e }
+    ensures { as_route result ≡ path_at (at_entry p current file.now buffer.now) m e }
 {
     let index = m.block;
     let detail = e.block;
@@ -126,7 +125,7 @@ fn path_under<'a>(
     m: Entry,
 ) -> Route
     requires { Fitting at.desc file.now buffer.now × (at.desc.k ≤ length key.now) × Block at.desc m.block }
-    ensures { as_route result ≡ path_under (at_entry at.desc at.current file buffer) which (part 0 at.desc.k (was key)) m }
+    ensures { as_route result ≡ path_under (at_entry at.desc at.current file.now buffer.now) which (part 0 at.desc.k key.now) m }
 {
     let p = at.desc;
     let current = at.current;
@@ -150,7 +149,7 @@ pub fn path_by<'a>(
     key: &[u32],
 ) -> Route
     requires { Fitting at.desc file.now buffer.now × (at.desc.k ≤ length key.now) }
-    ensures { as_route result ≡ path_by (at_entry at.desc at.current file buffer) top which (part 0 at.desc.k (was key)) }
+    ensures { as_route result ≡ path_by (at_entry at.desc at.current file.now buffer.now) top which (part 0 at.desc.k key.now) }
 {
     let p = at.desc;
     let h = p.master_shape();
@@ -164,7 +163,7 @@ pub fn path_by<'a>(
 // Whether a block is buffered, so that a test of its keys can be made.
 pub fn on_buffer(p: Description, current: usize, buffer: &[u32]) -> Test
     requires { 1 ≤ length buffer.now }
-    ensures { as_test result ≡ on_buffer (seen p current [] (was buffer)) true }
+    ensures { as_test result ≡ on_buffer (seen p current [] buffer.now) true }
 {
     if current == 0 {
         return Test::No;
@@ -207,7 +206,7 @@ fn look_at<'a>(
     requires { Fitting p file.now buffer.now
         × (p.k ≤ length key.now)
         × PathFits (seen p current file.now buffer.now) w }
-    ensures { as_look result ≡ passed (look_at (at_entry p current file buffer) (part 0 p.k (was key)) w) }
+    ensures { as_look result ≡ passed (look_at (at_entry p current file.now buffer.now) (part 0 p.k key.now) w) }
 {
     let t = drum::text_of(p, current, file, buffer, w.detail);
     let n = drum::kinds::records_in(p, t);
@@ -228,7 +227,7 @@ fn look_outside<'a>(
     key: &[u32],
 ) -> Look
     requires { Fitting p file.now buffer.now × (p.k ≤ length key.now) }
-    ensures { as_look result ≡ look_outside (at_entry p current file buffer) flag (part 0 p.k (was key)) }
+    ensures { as_look result ≡ look_outside (at_entry p current file.now buffer.now) flag (part 0 p.k key.now) }
 {
     let at = Held {
         desc: p,
@@ -259,7 +258,7 @@ fn look_buffered<'a>(
     requires { Fitting p file.now buffer.now
         × (p.k ≤ length key.now)
         × BufferFits (seen p current file.now buffer.now) }
-    ensures { as_look result ≡ looked (at_entry p current file buffer) flag (part 0 p.k (was key)) }
+    ensures { as_look result ≡ looked (at_entry p current file.now buffer.now) flag (part 0 p.k key.now) }
 {
     let n = drum::kinds::records_in(p, buffer);
     let i = table::find(Want::Equal, p.detail_shape(), buffer, n, key, 0);
@@ -279,7 +278,7 @@ pub fn look<'a>(
     key: &[u32],
 ) -> Look
     requires { Fitting p file.now buffer.now × (p.k ≤ length key.now) }
-    ensures { as_look result ≡ looked (at_entry p current file buffer) flag (part 0 p.k (was key)) }
+    ensures { as_look result ≡ looked (at_entry p current file.now buffer.now) flag (part 0 p.k key.now) }
 {
     let held = on_buffer(p, current, buffer);
     match held {

@@ -1,6 +1,5 @@
 // What NSERT does once it is planned.
 ghost use Rattle.std.specs.Prelude.{◌≡◌, true, false, ◌≤◌, length};
-ghost use Rattle.words.specs.Slices.{was, became};
 ghost use Rattle.table.specs.Tables.{inserted};
 ghost use Rattle.drum.specs.Params.{D, detail_shape};
 ghost use Rattle.drum.specs.Blocks.{Fitting, seen, at_entry, block_at};
@@ -45,7 +44,7 @@ fn land_half(
           flag = false;
           keyed = true;
         })
-        × (became buffer ≡ block_at p (was file) (half_of (D p) c.place c.path.detail c.new.block)) }
+        × (buffer.new ≡ block_at p file.now (half_of (D p) c.place c.path.detail c.new.block)) }
 {
     let w = c.path;
     let d = c.new;
@@ -58,11 +57,11 @@ fn put_in(at: Held, file: &mut [u32], buffer: &mut [u32], work: &[u32], w: Path,
     requires { Fitting at.desc file.old buffer.old
         × (length work.now ≡ at.desc.wpr)
         × RoomFits (seen at.desc at.current file.old buffer.old) at.flag w i }
-    ensures { (result ≡ length (reached (at_entry at.desc at.current file buffer) at.flag (way-is.By w)).moves)
-        × (became file ≡ (reached (at_entry at.desc at.current file buffer) at.flag (way-is.By w)).file)
-        × (became buffer
-        ≡ inserted (detail_shape at.desc) i (record_in at.desc (was work))
-        (reached (at_entry at.desc at.current file buffer) at.flag (way-is.By w)).buffer) }
+    ensures { (result ≡ length (reached (at_entry at.desc at.current file.old buffer.old) at.flag (way-is.By w)).moves)
+        × (file.new ≡ (reached (at_entry at.desc at.current file.old buffer.old) at.flag (way-is.By w)).file)
+        × (buffer.new
+        ≡ inserted (detail_shape at.desc) i (record_in at.desc work.now)
+        (reached (at_entry at.desc at.current file.old buffer.old) at.flag (way-is.By w)).buffer) }
 {
     let p = at.desc;
     let here = acts::reach(at, file, buffer, Way::By(w));

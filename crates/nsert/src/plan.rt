@@ -2,7 +2,6 @@
 // section), and the number that goes with it.
 ghost use Rattle.std.specs.Prelude.{◌≡◌, ◌≤◌, length};
 ghost use Rattle.words.specs.Words.{part};
-ghost use Rattle.words.specs.Slices.{was};
 ghost use Rattle.table.specs.Tables.{count, row_above};
 ghost use Rattle.drum.specs.Params.{detail_shape};
 ghost use Rattle.drum.specs.Blocks.{Fitting, Block, seen, text_of, at_entry};
@@ -18,7 +17,7 @@ use table::{Shape, Want};
 // The count of block b, a table of this shape, in its current text.
 fn count_of<'a>(at: Held, file: &'a [u32], buffer: &'a [u32], b: usize, h: Shape) -> usize
     requires { Fitting at.desc file.now buffer.now × Block at.desc b }
-    ensures { result ≡ count h (text_of (at_entry at.desc at.current file buffer) b) }
+    ensures { result ≡ count h (text_of (at_entry at.desc at.current file.now buffer.now) b) }
 {
     let t = drum::text_of(at.desc, at.current, file, buffer, b);
     table::count_of(h, t)
@@ -39,7 +38,7 @@ fn half_count(n: usize, i: usize) -> usize
 // The block has room: the number that goes with the record's place.
 fn room_deed<'a>(at: Held, file: &'a [u32], buffer: &'a [u32], w: Path, i: usize) -> Insert
     requires { Fitting at.desc file.now buffer.now × PathFits (seen at.desc at.current file.now buffer.now) w }
-    ensures { as_insert result ≡ room_deed (at_entry at.desc at.current file buffer) w i }
+    ensures { as_insert result ≡ room_deed (at_entry at.desc at.current file.now buffer.now) w i }
 {
     let n = count_of(at, file, buffer, w.detail, at.desc.detail_shape());
     let head = words::word_at(file, 1);
@@ -52,7 +51,7 @@ fn room_deed<'a>(at: Held, file: &'a [u32], buffer: &'a [u32], w: Path, i: usize
 // The block is full: one new block is needed.
 fn split_deed<'a>(at: Held, file: &'a [u32], buffer: &'a [u32], w: Path, i: usize) -> Insert
     requires { Fitting at.desc file.now buffer.now }
-    ensures { as_insert result ≡ split_deed (at_entry at.desc at.current file buffer) at.flag w i }
+    ensures { as_insert result ≡ split_deed (at_entry at.desc at.current file.now buffer.now) at.flag w i }
 {
     let Grant::Got(d) = free::take_one(at, file, buffer, w) else {
         return Insert::Bad;
@@ -70,7 +69,7 @@ fn split_deed<'a>(at: Held, file: &'a [u32], buffer: &'a [u32], w: Path, i: usiz
 // The index block is full too: two new blocks are needed, and a section.
 fn both_deed<'a>(at: Held, file: &'a [u32], buffer: &'a [u32], w: Path, i: usize) -> Insert
     requires { Fitting at.desc file.now buffer.now }
-    ensures { as_insert result ≡ both_deed (at_entry at.desc at.current file buffer) at.flag w i }
+    ensures { as_insert result ≡ both_deed (at_entry at.desc at.current file.now buffer.now) at.flag w i }
 {
     let Grants::Got(t) = free::take_two(at, file, buffer, w) else {
         return Insert::Bad;
@@ -89,7 +88,7 @@ fn both_deed<'a>(at: Held, file: &'a [u32], buffer: &'a [u32], w: Path, i: usize
 // The record goes to place i of the block at the end of the way.
 pub fn insert_at<'a>(at: Held, file: &'a [u32], buffer: &'a [u32], w: Path, i: usize) -> Insert
     requires { Fitting at.desc file.now buffer.now × PathFits (seen at.desc at.current file.now buffer.now) w }
-    ensures { as_insert result ≡ insert_at (at_entry at.desc at.current file buffer) at.flag w i }
+    ensures { as_insert result ≡ insert_at (at_entry at.desc at.current file.now buffer.now) at.flag w i }
 {
     if count_of(at, file, buffer, w.detail, at.desc.detail_shape()) < at.desc.d() {
         return room_deed(at, file, buffer, w, i);
@@ -106,8 +105,8 @@ pub fn place_of<'a>(at: Held, file: &'a [u32], buffer: &'a [u32], key: &[u32], w
         × (at.desc.k ≤ length key.now)
         × PathFits (seen at.desc at.current file.now buffer.now) w }
     ensures { result
-        ≡ row_above (detail_shape at.desc) (part 0 at.desc.k (was key))
-        (text_of (at_entry at.desc at.current file buffer) w.detail) }
+        ≡ row_above (detail_shape at.desc) (part 0 at.desc.k key.now)
+        (text_of (at_entry at.desc at.current file.now buffer.now) w.detail) }
 {
     let t = drum::text_of(at.desc, at.current, file, buffer, w.detail);
     let n = drum::kinds::records_in(at.desc, t);
@@ -118,7 +117,7 @@ pub fn place_of<'a>(at: Held, file: &'a [u32], buffer: &'a [u32], key: &[u32], w
 pub fn plan_nsert<'a>(at: Held, file: &'a [u32], buffer: &'a [u32], key: &[u32]) -> Insert
     requires { Fitting at.desc file.now buffer.now × (at.desc.k ≤ length key.now) }
     ensures { as_insert result
-        ≡ insert_deed (at_entry at.desc at.current file buffer) at.flag (part 0 at.desc.k (was key)) }
+        ≡ insert_deed (at_entry at.desc at.current file.now buffer.now) at.flag (part 0 at.desc.k key.now) }
 {
     let found = lookup::look(at.desc, at.current, at.flag, file, buffer, key);
     match found {

@@ -1,7 +1,6 @@
 // All that a split stores in the file.
 ghost use Rattle.std.specs.Prelude.{◌≡◌, ◌+◌, ◌≤◌, length};
 ghost use Rattle.words.specs.Words.{part};
-ghost use Rattle.words.specs.Slices.{was, became};
 ghost use Rattle.drum.specs.Blocks.{Fitting, seen, at_entry};
 ghost use Rattle.rules.specs.declared.Way.TheVariants as way-is;
 ghost use Rattle.rules.specs.Lookup.{reached};
@@ -34,10 +33,10 @@ fn cut(
     requires { Fitting at.desc file.old buffer.old
         × Lends at.desc work.now entry.old
         × CutFits (seen at.desc at.current file.old buffer.old) at.flag c }
-    ensures { (result ≡ length (reached (at_entry at.desc at.current file buffer) at.flag (way-is.By c.path)).moves)
-        × (became file ≡ cut_file (at_entry at.desc at.current file buffer) at.flag c (record_in at.desc (was work)))
-        × (part 0 (at.desc.k + 1) (became entry)
-        ≡ detail_entry (at_entry at.desc at.current file buffer) c.path c.place (record_in at.desc (was work))) }
+    ensures { (result ≡ length (reached (at_entry at.desc at.current file.old buffer.old) at.flag (way-is.By c.path)).moves)
+        × (file.new ≡ cut_file (at_entry at.desc at.current file.old buffer.old) at.flag c (record_in at.desc work.now))
+        × (part 0 (at.desc.k + 1) entry.new
+        ≡ detail_entry (at_entry at.desc at.current file.old buffer.old) c.path c.place (record_in at.desc work.now)) }
 {
     let p = at.desc;
     let w = c.path;
@@ -66,10 +65,10 @@ pub fn write_split(
     requires { Fitting at.desc file.old buffer.old
         × (length work.now ≡ at.desc.wpr)
         × SplitFits (seen at.desc at.current file.old buffer.old) at.flag c }
-    ensures { (result ≡ length (reached (at_entry at.desc at.current file buffer) at.flag (way-is.By c.path)).moves)
-        × (became file
-        ≡ split_file (at_entry at.desc at.current file buffer) at.flag c.path c.place
-        (record_in at.desc (was work)) c.new) }
+    ensures { (result ≡ length (reached (at_entry at.desc at.current file.old buffer.old) at.flag (way-is.By c.path)).moves)
+        × (file.new
+        ≡ split_file (at_entry at.desc at.current file.old buffer.old) at.flag c.path c.place
+        (record_in at.desc work.now) c.new) }
 {
     let mut entry = [0u32; 64];
     let w = c.path;
@@ -89,7 +88,7 @@ fn write_above(
     x: usize,
 )
     requires { Fitting p file.old buffer.old × AboveFits p file.old c x × (p.k + 1 ≤ length entry.now) }
-    ensures { became file ≡ above_file p c.path (part 0 (p.k + 1) (was entry)) c.new.block x (was file) }
+    ensures { file.new ≡ above_file p c.path (part 0 (p.k + 1) entry.now) c.new.block x file.old }
 {
     let mut above = [0u32; 64];
     let w = c.path;
@@ -118,10 +117,10 @@ pub fn write_both(
     requires { Fitting at.desc file.old buffer.old
         × (length work.now ≡ at.desc.wpr)
         × BothFits (seen at.desc at.current file.old buffer.old) at.flag c x }
-    ensures { (result ≡ length (reached (at_entry at.desc at.current file buffer) at.flag (way-is.By c.path)).moves)
-        × (became file
-        ≡ both_split_file (at_entry at.desc at.current file buffer) at.flag c.path c.place
-        (record_in at.desc (was work)) c.new.block (second_of c x)) }
+    ensures { (result ≡ length (reached (at_entry at.desc at.current file.old buffer.old) at.flag (way-is.By c.path)).moves)
+        × (file.new
+        ≡ both_split_file (at_entry at.desc at.current file.old buffer.old) at.flag c.path c.place
+        (record_in at.desc work.now) c.new.block (second_of c x)) }
 {
     let mut entry = [0u32; 64];
     let moved = cut(at, file, buffer, work, c, &mut entry);

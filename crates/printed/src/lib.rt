@@ -10,7 +10,6 @@ ghost use Rattle.lines.specs.Lines.{named};
 ghost use Rattle.lines.specs.Reading.{call_of, parsed_as, parameters_in};
 ghost use Rattle.printed.specs.Output.{start_with, start_of, start_text, played, refusal};
 ghost use Rattle.printed.specs.Promise.{told_line, shown, shown_at, said, said_at};
-ghost use Rattle.words.specs.Slices.{was, became};
 
 use drum::Description;
 use lines::{Named, Parameters, Reading};
@@ -57,7 +56,7 @@ fn start_with(p: Description) -> Start
 // The first line, of what was kept of it.
 pub fn start_of(r: Reading, numbers: &[u32]) -> Start
     requires { 6 ≤ length numbers.now }
-    ensures { result ≡ start_of (parameters_in r (was numbers)) }
+    ensures { result ≡ start_of (parameters_in r numbers.now) }
 {
     let given = lines::parameters_of(r, numbers);
     match given {
@@ -69,7 +68,7 @@ pub fn start_of(r: Reading, numbers: &[u32]) -> Start
 // What the first line prints.
 pub fn put_start(start: Start, out: &mut [u8], at: usize) -> usize
     requires { at + 16 ≤ length out.old }
-    ensures { (became out ≡ put (was out) at (start_text start)) × (result ≡ at + length (start_text start)) × (result ≤ at + 16) }
+    ensures { (out.new ≡ put out.old at (start_text start)) × (result ≡ at + length (start_text start)) × (result ≤ at + 16) }
 {
     match start {
         Start::BadLine => texts::put_bytes(out, at, b"BAD LINE\n"),
@@ -82,7 +81,7 @@ pub fn put_start(start: Start, out: &mut [u8], at: usize) -> usize
 // A line that ends the program.
 fn bad_line(out: &mut [u8], at: usize) -> Told
     requires { at + 16 ≤ length out.old }
-    ensures out_value { said result (became out) ≡ said_at (was out) at (refusal none) }
+    ensures out_value { said result out.new ≡ said_at out.old at (refusal none) }
     ensures at_bound { result.at ≤ at + 16 }
 {
     let end = texts::put_bytes(out, at, b"BAD LINE\n");
@@ -95,7 +94,7 @@ fn bad_line(out: &mut [u8], at: usize) -> Told
 // A line with parameters out of range, of what was kept of it.
 pub fn refuse_line(r: Reading, name: &[u8], out: &mut [u8], at: usize) -> Told
     requires { at + 16 ≤ length out.old }
-    ensures out_value { said result (became out) ≡ said_at (was out) at (refusal (named (part 0 r.spelled (was name)))) }
+    ensures out_value { said result out.new ≡ said_at out.old at (refusal (named (part 0 r.spelled name.now))) }
     ensures at_bound { result.at ≤ at + 16 }
 {
     let kind = lines::call_named(name, r.spelled);
@@ -131,9 +130,9 @@ fn shows(call: Call, number: u32) -> bool
 // The line of a call that was performed.
 fn tell(call: Call, number: u32, transfers: usize, work: &[u32], out: &mut [u8], at: usize) -> usize
     requires { at + 35 + 21 * length work.now ≤ length out.old }
-    ensures { (became out ≡ put (was out) at (told_line call number transfers (was work)))
-        × (result ≡ at + length (told_line call number transfers (was work)))
-        × (result ≤ at + 35 + 21 * length (was work)) }
+    ensures { (out.new ≡ put out.old at (told_line call number transfers work.now))
+        × (result ≡ at + length (told_line call number transfers work.now))
+        × (result ≤ at + 35 + 21 * length work.now) }
 {
     if shows(call, number) {
         return texts::put_result(out, at, call, number, transfers, work);
@@ -160,10 +159,10 @@ pub fn call_line(
         × (s.desc.wpr ≤ length work.old)
         × (length marks.old ≡ s.desc.n)
         × (at + 35 + 21 * length work.old ≤ length out.old) }
-    ensures out_value { shown result (became file) (became buffer) (became work) (became out)
-        ≡ shown_at (was out) at
-        (played (given s (was file) (was buffer) (was work)) (parsed_as s.desc (call_of s.desc r (was name)) (was numbers))) }
-    ensures desc_value { (result.session.desc ≡ s.desc) × (result.at ≤ at + 35 + 21 * length (was work)) }
+    ensures out_value { shown result file.new buffer.new work.new out.new
+        ≡ shown_at out.old at
+        (played (given s file.old buffer.old work.old) (parsed_as s.desc (call_of s.desc r name.now) numbers.now)) }
+    ensures desc_value { (result.session.desc ≡ s.desc) × (result.at ≤ at + 35 + 21 * length work.old) }
 {
     let parsed = lines::call_of(s.desc, r, name);
     match parsed {

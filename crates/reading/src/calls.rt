@@ -4,7 +4,6 @@ ghost use Rattle.drum.specs.Parts.{part_of};
 ghost use Rattle.face.specs.Counted.{counted, counted_open};
 ghost use Rattle.reading.specs.Reading.{as_session, given, answered, answered_open, read_open, read_close, read_seek, read_adv, read_alter};
 ghost use Rattle.reading.specs.Reading.{read_shown, read_part};
-ghost use Rattle.words.specs.Slices.{was, became};
 
 use super::{Answer, ReadingSession, finished, is_fitting, steps};
 use face::{refused_key, refused_plain};
@@ -14,8 +13,8 @@ use rules::Held;
 impl ReadingSession {
     // OPEN: the file is inspected, and every block marked: 1 reached from the master, 0 never used.
     pub fn open(self, file: &[u32], buffer: &[u32], marks: &mut [u8]) -> Answer
-        ensures { answered_open result (was file) (was buffer) (became marks)
-            ≡ counted_open (read_open (given self (was file) (was buffer) []) (was marks)) }
+        ensures { answered_open result file.now buffer.now marks.new
+            ≡ counted_open (read_open (given self file.now buffer.now []) marks.old) }
     {
         let p = self.desc;
         if !is_fitting(p, file.len(), buffer.len()) {
@@ -40,7 +39,7 @@ impl ReadingSession {
 
     // CLOSE: the session is closed; there is nothing to write.
     pub fn close(self, file: &[u32], buffer: &[u32]) -> Answer
-        ensures { answered result (was file) (was buffer) [] ≡ counted (read_close (given self (was file) (was buffer) [])) }
+        ensures { answered result file.now buffer.now [] ≡ counted (read_close (given self file.now buffer.now [])) }
     {
         if !is_fitting(self.desc, file.len(), buffer.len()) {
             return self.refused(WRONG_SIZE);
@@ -58,8 +57,8 @@ impl ReadingSession {
 
     // SEEK: the record with the workspace's key to the workspace.
     pub fn seek(self, file: &[u32], buffer: &mut [u32], work: &mut [u32]) -> Answer
-        ensures { answered result (was file) (became buffer) (became work)
-            ≡ counted (read_seek (given self (was file) (was buffer) (was work))) }
+        ensures { answered result file.now buffer.new work.new
+            ≡ counted (read_seek (given self file.now buffer.old work.old)) }
     {
         let p = self.desc;
         if p.control != 1 {
@@ -81,8 +80,8 @@ impl ReadingSession {
 
     // ADV: the record with the least key above position to the workspace.
     pub fn adv(self, file: &[u32], buffer: &mut [u32], work: &mut [u32]) -> Answer
-        ensures { answered result (was file) (became buffer) (became work)
-            ≡ counted (read_adv (given self (was file) (was buffer) (was work))) }
+        ensures { answered result file.now buffer.new work.new
+            ≡ counted (read_adv (given self file.now buffer.old work.old)) }
     {
         let p = self.desc;
         if p.control != 1 {
@@ -131,8 +130,8 @@ impl ReadingSession {
 
     // NSERT, DLETE, UPDAT and XTEND alike: none is made, whatever the workspace has.
     fn altering(self, file: &[u32], buffer: &[u32], work: &[u32]) -> Answer
-        ensures { answered result (was file) (was buffer) (was work)
-            ≡ counted (read_alter (given self (was file) (was buffer) (was work))) }
+        ensures { answered result file.now buffer.now work.now
+            ≡ counted (read_alter (given self file.now buffer.now work.now)) }
     {
         let p = self.desc;
         if p.control != 1 {
@@ -147,32 +146,32 @@ impl ReadingSession {
 
     // NSERT, refused.
     pub fn nsert(self, file: &[u32], buffer: &[u32], work: &[u32]) -> Answer
-        ensures { answered result (was file) (was buffer) (was work)
-            ≡ counted (read_alter (given self (was file) (was buffer) (was work))) }
+        ensures { answered result file.now buffer.now work.now
+            ≡ counted (read_alter (given self file.now buffer.now work.now)) }
     {
         self.altering(file, buffer, work)
     }
 
     // DLETE, refused.
     pub fn dlete(self, file: &[u32], buffer: &[u32], work: &[u32]) -> Answer
-        ensures { answered result (was file) (was buffer) (was work)
-            ≡ counted (read_alter (given self (was file) (was buffer) (was work))) }
+        ensures { answered result file.now buffer.now work.now
+            ≡ counted (read_alter (given self file.now buffer.now work.now)) }
     {
         self.altering(file, buffer, work)
     }
 
     // UPDAT, refused.
     pub fn updat(self, file: &[u32], buffer: &[u32], work: &[u32]) -> Answer
-        ensures { answered result (was file) (was buffer) (was work)
-            ≡ counted (read_alter (given self (was file) (was buffer) (was work))) }
+        ensures { answered result file.now buffer.now work.now
+            ≡ counted (read_alter (given self file.now buffer.now work.now)) }
     {
         self.altering(file, buffer, work)
     }
 
     // XTEND, refused.
     pub fn xtend(self, file: &[u32], buffer: &[u32], work: &[u32]) -> Answer
-        ensures { answered result (was file) (was buffer) (was work)
-            ≡ counted (read_alter (given self (was file) (was buffer) (was work))) }
+        ensures { answered result file.now buffer.now work.now
+            ≡ counted (read_alter (given self file.now buffer.now work.now)) }
     {
         self.altering(file, buffer, work)
     }

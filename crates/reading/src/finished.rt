@@ -6,14 +6,13 @@ ghost use Rattle.layout.specs.Inspect.{named};
 ghost use Rattle.layout.specs.Inspected.{Fit, flagged, left_marks};
 ghost use Rattle.reading.specs.Finished.{holds_fd, entry_ok, in_order, finished as is_finished, finished_marks};
 ghost use Rattle.reading.specs.Fits.{NamesBlocks, Inspected};
-ghost use Rattle.words.specs.Slices.{was, became};
 
 use drum::{Description, kinds};
 
 // Whether block b is the last one, with none behind it, or holds FD records.
 fn holds_fd(p: Description, file: &[u32], b: usize, behind: usize) -> bool
     requires { Fit p file.now × Block p b }
-    ensures { result ≡ holds_fd p (was file) b behind }
+    ensures { result ≡ holds_fd p file.now b behind }
 {
     if behind == 0 {
         return true;
@@ -26,7 +25,7 @@ fn holds_fd(p: Description, file: &[u32], b: usize, behind: usize) -> bool
 // Whether the entry at place e, behind which so many come, names block b, which is then looked at.
 fn entry_ok(p: Description, file: &[u32], e: usize, b: usize, behind: usize) -> bool
     requires { Fit p file.now × (e + (p.k + 1) ≤ length file.now) × Block p (named p file.now e) }
-    ensures { result ≡ entry_ok p (was file) e b behind }
+    ensures { result ≡ entry_ok p file.now e b behind }
 {
     let block = words::word_at(file, e + p.k);
     if block != b {
@@ -38,7 +37,7 @@ fn entry_ok(p: Description, file: &[u32], e: usize, b: usize, behind: usize) -> 
 // Whether the n entries from place e on name block 2, the next one, and so on, each with FD records but the last.
 fn in_order(p: Description, file: &[u32], e: usize, n: usize) -> bool
     requires { Fit p file.now × (n ≤ I p) × (e + n * (p.k + 1) ≤ length file.now) × NamesBlocks p file.now e n }
-    ensures { result ≡ in_order p (was file) e 2 n }
+    ensures { result ≡ in_order p file.now e 2 n }
 {
     let mut at = e;
     let mut b = 2;
@@ -57,7 +56,7 @@ fn in_order(p: Description, file: &[u32], e: usize, n: usize) -> bool
 // Whether a file that was inspected is finished.
 fn is_finished(p: Description, file: &[u32]) -> bool
     requires { Inspected p file.now }
-    ensures { result ≡ is_finished p (was file) }
+    ensures { result ≡ is_finished p file.now }
 {
     if words::word_at(file, 1) != 0 {
         return false;
@@ -73,7 +72,7 @@ fn is_finished(p: Description, file: &[u32]) -> bool
 // Whether the file is as under Layout and finished; the marks if so, and all 0 if not.
 pub fn inspect(p: Description, file: &[u32], marks: &mut [u8]) -> bool
     requires { Fit p file.now × (length marks.old ≡ p.n) }
-    ensures { (finished_marks p (was file) ≡ flagged result (became marks)) × (became marks ≡ left_marks p.n (finished_marks p (was file))) }
+    ensures { (finished_marks p file.now ≡ flagged result marks.new) × (marks.new ≡ left_marks p.n (finished_marks p file.now)) }
 {
     if !layout::inspect(p, file, marks) {
         return false;

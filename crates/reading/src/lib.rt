@@ -12,7 +12,6 @@ ghost use Rattle.drum.specs.Params.{sized};
 ghost use Rattle.rules.specs.State.{at_rest};
 ghost use Rattle.face.specs.Counted.{next};
 ghost use Rattle.reading.specs.Reading.{one_section, as_session};
-ghost use Rattle.words.specs.Slices.{was, became};
 
 use drum::Description;
 use rules::Done;
@@ -48,7 +47,7 @@ fn is_fitting(p: Description, file: usize, buffer: usize) -> bool
 // Writes the key of k words that stands first in the workspace over the first words of a position.
 fn put_key(position: &mut [u32; 63], work: &[u32], k: usize)
     requires { (k ≤ 63) × (k ≤ length work.now) }
-    ensures { became position ≡ put (was position) 0 (part 0 k (was work)) }
+    ensures { position.new ≡ put position.old 0 (part 0 k work.now) }
 {
     words::copy_words(position, 0, work, 0, k);
 }
@@ -95,7 +94,7 @@ impl ReadingSession {
         requires { (self.desc.k ≤ 63) × (self.desc.k ≤ length work.now) × (done.flag ≡ false) }
         ensures { (result.number ≡ done.number)
             × (result.transfers ≡ done.transfers)
-            × (as_session result.session ≡ next (as_session self) done (was work)) }
+            × (as_session result.session ≡ next (as_session self) done work.now) }
     {
         let k = self.desc.k;
         let mut next = Answer {

@@ -8,7 +8,6 @@ ghost use Rattle.rules.specs.Seek.{seek_done, seek_steps};
 ghost use Rattle.rules.specs.Adv.{adv_done, adv_steps};
 ghost use Rattle.rules.specs.Told.{Follows};
 ghost use Rattle.acts.specs.Reach.{seen_by, come, came};
-ghost use Rattle.words.specs.Slices.{was, became};
 
 use acts::Arrived;
 use numbers::{BAD_FILE, DONE, NOT_FOUND};
@@ -17,7 +16,7 @@ use rules::{Done, Held, Look, Step, Way};
 // Reaches the block at the end of the way.
 fn reach(at: Held, file: &[u32], buffer: &mut [u32], way: Way) -> Arrived
     requires { Fitting at.desc file.now buffer.old × WayFits (seen_by at file.now buffer.old) false way }
-    ensures { came result (was file) (became buffer) ≡ come (reached (seen_by at (was file) (was buffer)) false way) }
+    ensures { came result file.now buffer.new ≡ come (reached (seen_by at file.now buffer.old) false way) }
 {
     match way {
         Way::Here => Arrived {
@@ -116,7 +115,7 @@ pub fn adv(
         × Fitting at.desc file.now buffer.old
         × (length work.old ≡ at.desc.wpr)
         × (at.desc.k ≤ length position.now) }
-    ensures { Follows result (λ v flag work. adv_steps v flag placed (part 0 at.desc.k (was position)))
+    ensures { Follows result (λ v flag work. adv_steps v flag placed (part 0 at.desc.k position.now))
         at.desc at.current false file buffer work }
 {
     let s = adv::plan_adv(at, file, buffer, placed, position);

@@ -2,7 +2,6 @@
 ghost use Rattle.std.specs.Prelude.{◌≡◌};
 ghost use Rattle.face.specs.Checks.{refusing};
 ghost use Rattle.register.specs.Checks.{name_checks, spelled_checks};
-ghost use Rattle.words.specs.Slices.{was};
 
 use drum::Description;
 use face::refused_key;
@@ -22,7 +21,7 @@ pub fn refused(session: Session, number: u32) -> Answer
 
 // The first refusal of a call on a name, or 0: the routine's, of the sizes, the session and the key, and where a record has no data word.
 pub fn refused_name(p: Description, opened: bool, file: usize, buffer: usize, work: &[u32]) -> u32
-    ensures { refusing result ≡ name_checks p opened file buffer (was work) }
+    ensures { refusing result ≡ name_checks p opened file buffer work.now }
 {
     if p.wpr <= p.k {
         return WRONG_SIZE;
@@ -39,7 +38,7 @@ pub fn refused_spelled(
     work: &[u32],
     spelling: &[u32],
 ) -> u32
-    ensures { refusing result ≡ spelled_checks p opened file buffer (was work) (was spelling) }
+    ensures { refusing result ≡ spelled_checks p opened file buffer work.now spelling.now }
 {
     if p.wpr <= p.k {
         return WRONG_SIZE;

@@ -8,7 +8,6 @@ mod moves;
 ghost use Rattle.std.specs.Prelude.{◌≡◌};
 ghost use Rattle.searchfile.specs.Promise.{given, counted, answered};
 ghost use Rattle.register.specs.Register.{enter as entered, ask as asked, next as listed, romanise as spelled, hold as holding, free as freeing};
-ghost use Rattle.words.specs.Slices.{was, became};
 
 use checks::{refused, refused_name, refused_spelled};
 use moves::{romanised, turned};
@@ -23,8 +22,8 @@ pub const HELD: usize = 2;
 
 // "Entering adds a raw name, its spelling zero."
 pub fn enter(session: Session, file: &mut [u32], buffer: &mut [u32], work: &mut [u32]) -> Answer
-    ensures { answered result (became file) (became buffer) (became work)
-        ≡ counted (entered (given session (was file) (was buffer) (was work))) }
+    ensures { answered result file.new buffer.new work.new
+        ≡ counted (entered (given session file.old buffer.old work.old)) }
 {
     let p = session.desc;
     let number = refused_name(p, session.opened, file.len(), buffer.len(), work);
@@ -37,8 +36,8 @@ pub fn enter(session: Session, file: &mut [u32], buffer: &mut [u32], work: &mut 
 
 // The name's record to the workspace; no record is changed.
 pub fn ask(session: Session, file: &mut [u32], buffer: &mut [u32], work: &mut [u32]) -> Answer
-    ensures { answered result (became file) (became buffer) (became work)
-        ≡ counted (asked (given session (was file) (was buffer) (was work))) }
+    ensures { answered result file.new buffer.new work.new
+        ≡ counted (asked (given session file.old buffer.old work.old)) }
 {
     let p = session.desc;
     if p.wpr <= p.k {
@@ -49,8 +48,8 @@ pub fn ask(session: Session, file: &mut [u32], buffer: &mut [u32], work: &mut [u
 
 // The next name of the list to the workspace; no record is changed.
 pub fn next(session: Session, file: &mut [u32], buffer: &mut [u32], work: &mut [u32]) -> Answer
-    ensures { answered result (became file) (became buffer) (became work)
-        ≡ counted (listed (given session (was file) (was buffer) (was work))) }
+    ensures { answered result file.new buffer.new work.new
+        ≡ counted (listed (given session file.old buffer.old work.old)) }
 {
     let p = session.desc;
     if p.wpr <= p.k {
@@ -67,8 +66,8 @@ pub fn romanise(
     work: &mut [u32],
     spelling: &[u32],
 ) -> Answer
-    ensures { answered result (became file) (became buffer) (became work)
-        ≡ counted (spelled (was spelling) (given session (was file) (was buffer) (was work))) }
+    ensures { answered result file.new buffer.new work.new
+        ≡ counted (spelled spelling.now (given session file.old buffer.old work.old)) }
 {
     let number = refused_spelled(
         session.desc,
@@ -86,16 +85,16 @@ pub fn romanise(
 
 // Romanised to held.
 pub fn hold(session: Session, file: &mut [u32], buffer: &mut [u32], work: &mut [u32]) -> Answer
-    ensures { answered result (became file) (became buffer) (became work)
-        ≡ counted (holding (given session (was file) (was buffer) (was work))) }
+    ensures { answered result file.new buffer.new work.new
+        ≡ counted (holding (given session file.old buffer.old work.old)) }
 {
     turned(session, file, buffer, work, ROMANISED, HELD)
 }
 
 // Held to romanised.
 pub fn free(session: Session, file: &mut [u32], buffer: &mut [u32], work: &mut [u32]) -> Answer
-    ensures { answered result (became file) (became buffer) (became work)
-        ≡ counted (freeing (given session (was file) (was buffer) (was work))) }
+    ensures { answered result file.new buffer.new work.new
+        ≡ counted (freeing (given session file.old buffer.old work.old)) }
 {
     turned(session, file, buffer, work, HELD, ROMANISED)
 }

@@ -4,7 +4,6 @@ ghost use Rattle.searchfile.specs.Promise.{given, counted, answered};
 ghost use Rattle.register.specs.Register.{sought as sought_in, move, spelled, turned as own, turn};
 ghost use Rattle.register.specs.Checks.{StateFits, SpellingFits, stopped_by, after};
 ghost use Rattle.rules.specs.Seek.{updat};
-ghost use Rattle.words.specs.Slices.{was, became};
 
 use super::checks::{refused, refused_name};
 use super::{RAW, ROMANISED};
@@ -32,8 +31,8 @@ fn sought(
     from: usize,
 ) -> Answer
     requires { StateFits session.desc work.old }
-    ensures { answered result (became file) (became buffer) (became work)
-        ≡ counted (sought_in from (given session (was file) (was buffer) (was work))) }
+    ensures { answered result file.new buffer.new work.new
+        ≡ counted (sought_in from (given session file.old buffer.old work.old)) }
 {
     let k = session.desc.k;
     let found = session.seek(file, buffer, work);
@@ -49,8 +48,8 @@ fn sought(
 // UPDAT with the workspace, after the steps that found its record.
 fn stored(found: Answer, file: &mut [u32], buffer: &mut [u32], work: &[u32]) -> Answer
     requires { found.transfers ≤ 3 }
-    ensures { answered result (became file) (became buffer) (was work)
-        ≡ after found.transfers (updat (given found.session (was file) (was buffer) (was work))) }
+    ensures { answered result file.new buffer.new work.now
+        ≡ after found.transfers (updat (given found.session file.old buffer.old work.now)) }
 {
     let before = found.session;
     let done = before.updat(file, buffer, work);
@@ -71,8 +70,8 @@ pub fn romanised(
     spelling: &[u32],
 ) -> Answer
     requires { SpellingFits session.desc work.old spelling.now }
-    ensures { answered result (became file) (became buffer) (became work)
-        ≡ counted (move 0 (spelled session.desc (was spelling)) (given session (was file) (was buffer) (was work))) }
+    ensures { answered result file.new buffer.new work.new
+        ≡ counted (move 0 (spelled session.desc spelling.now) (given session file.old buffer.old work.old)) }
 {
     let k = session.desc.k;
     let found = sought(session, file, buffer, work, RAW);
@@ -96,8 +95,8 @@ fn kept(
 ) -> Answer
     requires state_fits { StateFits session.desc work.old }
     requires to_bound { to ≤ 262143 }
-    ensures { answered result (became file) (became buffer) (became work)
-        ≡ counted (move from (own session.desc to) (given session (was file) (was buffer) (was work))) }
+    ensures { answered result file.new buffer.new work.new
+        ≡ counted (move from (own session.desc to) (given session file.old buffer.old work.old)) }
 {
     let p = session.desc;
     let found = sought(session, file, buffer, work, from);
@@ -121,8 +120,8 @@ pub fn turned(
     to: usize,
 ) -> Answer
     requires { to ≤ 262143 }
-    ensures { answered result (became file) (became buffer) (became work)
-        ≡ counted (turn from to (given session (was file) (was buffer) (was work))) }
+    ensures { answered result file.new buffer.new work.new
+        ≡ counted (turn from to (given session file.old buffer.old work.old)) }
 {
     let number = refused_name(session.desc, session.opened, file.len(), buffer.len(), work);
     if number != 0 {

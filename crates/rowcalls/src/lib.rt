@@ -6,7 +6,6 @@ mod row;
 
 ghost use Rattle.std.specs.Prelude.{◌≡◌};
 ghost use Rattle.rowcalls.specs.Calls.{returned, put_called, get_called};
-ghost use Rattle.words.specs.Slices.{was, became};
 
 use numbers::WRONG_SIZE;
 use row::{is_row, layout_of, place_of, put_place, put_rest};
@@ -19,7 +18,7 @@ fn wide(x: u32) -> u64
 
 // PUT.
 pub fn put(row: &mut [u32], file: &mut [u32], work: &[u32]) -> u64
-    ensures { returned result (became row) (became file) (was work) ≡ put_called (was row) (was file) (was work) }
+    ensures { returned result row.new file.new work.now ≡ put_called row.old file.old work.now }
 {
     if !is_row(row, file.len()) {
         return wide(WRONG_SIZE);
@@ -31,7 +30,7 @@ pub fn put(row: &mut [u32], file: &mut [u32], work: &[u32]) -> u64
 
 // GET.
 pub fn get(row: &mut [u32], file: &[u32], work: &mut [u32]) -> u64
-    ensures { returned result (became row) (was file) (became work) ≡ get_called (was row) (was file) (was work) }
+    ensures { returned result row.new file.now work.new ≡ get_called row.old file.now work.old }
 {
     if !is_row(row, file.len()) {
         return wide(WRONG_SIZE);

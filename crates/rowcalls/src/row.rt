@@ -1,7 +1,6 @@
 // The row of seven words: what it says, and how it is written back.
 ghost use Rattle.std.specs.Prelude.{◌≡◌, ◌≤◌, length, get_or, set};
 ghost use Rattle.rowcalls.specs.Words.{is_row, kind_of, layout_of, place_of, at_place, most_word, Small};
-ghost use Rattle.words.specs.Slices.{was, became};
 
 use sequential::{Kind, Layout, Place};
 
@@ -9,7 +8,7 @@ const ROW_WORDS: usize = 7;
 
 // Whether the words are a row, for a file of so many words.
 pub fn is_row(row: &[u32], file: usize) -> bool
-    ensures { result ≡ is_row (was row) file }
+    ensures { result ≡ is_row row.now file }
 {
     if row.len() != ROW_WORDS {
         return false;
@@ -23,7 +22,7 @@ pub fn is_row(row: &[u32], file: usize) -> bool
 
 fn kind_of(row: &[u32]) -> Kind
     requires { length row.now ≡ 7 }
-    ensures { result ≡ kind_of (was row) }
+    ensures { result ≡ kind_of row.now }
 {
     if row[2] == 0 {
         return Kind::Fixed(words::word_at(row, 3));
@@ -34,7 +33,7 @@ fn kind_of(row: &[u32]) -> Kind
 // The layout that the row says.
 pub fn layout_of(row: &[u32]) -> Layout
     requires { length row.now ≡ 7 }
-    ensures { result ≡ layout_of (was row) }
+    ensures { result ≡ layout_of row.now }
 {
     Layout {
         wpb: words::word_at(row, 0),
@@ -46,7 +45,7 @@ pub fn layout_of(row: &[u32]) -> Layout
 // The place that the row says.
 pub fn place_of(row: &[u32]) -> Place
     requires { length row.now ≡ 7 }
-    ensures { result ≡ place_of (was row) }
+    ensures { result ≡ place_of row.now }
 {
     Place {
         block: words::word_at(row, 4),
@@ -57,7 +56,7 @@ pub fn place_of(row: &[u32]) -> Place
 // Writes a place into the row.
 pub fn put_place(row: &mut [u32], q: Place)
     requires { (length row.old ≡ 7) × Small q }
-    ensures { became row ≡ at_place (was row) q }
+    ensures { row.new ≡ at_place row.old q }
 {
     row[4] = q.block as u32;
     row[5] = q.at as u32;
@@ -66,7 +65,7 @@ pub fn put_place(row: &mut [u32], q: Place)
 // Writes a place and how many are left into the row.
 pub fn put_rest(row: &mut [u32], q: Place, left: usize)
     requires { (length row.old ≡ 7) × Small q × (left ≤ most_word) }
-    ensures { became row ≡ set (at_place (was row) q) 6 left }
+    ensures { row.new ≡ set (at_place row.old q) 6 left }
 {
     row[4] = q.block as u32;
     row[5] = q.at as u32;

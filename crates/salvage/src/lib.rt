@@ -6,7 +6,6 @@ mod texts;
 mod walk;
 
 ghost use Rattle.std.specs.Prelude.{◌≡◌, true, [], ◌+◌, ◌*◌, ◌≤◌, length};
-ghost use Rattle.words.specs.Slices.{was, became};
 ghost use Rattle.drum.specs.Params.{D, good_params, file_size};
 ghost use Rattle.salvage.specs.Met.{met};
 ghost use Rattle.salvage.specs.Salvage.{run, begun, ended, roomy, salvage as salvaged};
@@ -36,7 +35,7 @@ pub struct Salvaged {
 // CREATE, and what goes on after an OPEN of what it wrote.
 fn begin(desc: Description, fresh: &mut [u32]) -> Going
     requires { (good_params desc ≡ true) × (length fresh.old ≡ file_size desc) }
-    ensures { walking result (became fresh) [] [] ≡ begun desc [] [] }
+    ensures { walking result fresh.new [] [] ≡ begun desc [] [] }
 {
     layout::lay_out(desc, fresh);
     let mut session = Session::new(desc);
@@ -65,7 +64,7 @@ fn is_roomy(p: Description, copy: usize, fresh: usize, buffer: usize, report: us
 // CLOSE, and what the call answers.
 fn finish(going: Going, fresh: &mut [u32], buffer: &[u32]) -> Salvaged
     requires { going.transfers ≤ 1099511627776 }
-    ensures { answered_with result (became fresh) (was buffer) [] ≡ ended (walking going (was fresh) (was buffer) []) }
+    ensures { answered_with result fresh.new buffer.now [] ≡ ended (walking going fresh.old buffer.now []) }
 {
     let held = going.session;
     let answer = held.close(fresh, buffer);
@@ -86,8 +85,8 @@ fn carry_on(
 ) -> Salvaged
     requires { Copied first copy.now
         × Spare first (first.session.desc.n * (1 + D first.session.desc)) (length report.old) }
-    ensures { answered_with result (became fresh) (became buffer) (became report)
-        ≡ ended (run (walking first (was fresh) (was buffer) (was report)) (met first.session.desc (was copy))) }
+    ensures { answered_with result fresh.new buffer.new report.new
+        ≡ ended (run (walking first fresh.old buffer.old report.old) (met first.session.desc copy.now)) }
 {
     let last = every_block(first, copy, fresh, buffer, report);
     finish(last, fresh, buffer)
@@ -102,8 +101,8 @@ fn build(
     report: &mut [u32],
 ) -> Salvaged
     requires { Roomy desc (length copy.now) (length fresh.old) (length buffer.old) (length report.old) }
-    ensures { answered_with result (became fresh) (became buffer) (became report)
-        ≡ ended (run (begun desc (was buffer) (was report)) (met desc (was copy))) }
+    ensures { answered_with result fresh.new buffer.new report.new
+        ≡ ended (run (begun desc buffer.old report.old) (met desc copy.now)) }
 {
     let first = begin(desc, fresh);
     carry_on(first, copy, fresh, buffer, report)
@@ -117,8 +116,8 @@ pub fn salvage(
     buffer: &mut [u32],
     report: &mut [u32],
 ) -> Salvaged
-    ensures { answered_with result (became fresh) (became buffer) (became report)
-        ≡ salvaged desc (was copy) (was fresh) (was buffer) (was report) }
+    ensures { answered_with result fresh.new buffer.new report.new
+        ≡ salvaged desc copy.now fresh.old buffer.old report.old }
 {
     if !is_roomy(desc, copy.len(), fresh.len(), buffer.len(), report.len()) {
         return Salvaged {

@@ -2,7 +2,6 @@
 ghost use Rattle.std.specs.Prelude.{◌≡◌, true, ◌+◌, ◌*◌, ◌≤◌, ◌<◌, length, get_or};
 ghost use Rattle.drum.specs.Params.{good_params, detail_kind};
 ghost use Rattle.layout.specs.Holds.{ascending, keys_of};
-ghost use Rattle.words.specs.Slices.{was};
 ghost use Rattle.salvage.specs.Met.{count_in, rows_from, missed as first_missed};
 
 use drum::Description;
@@ -18,7 +17,7 @@ const BAD_ORDER: usize = 4;
 // How many records a text marked detail says that it has.
 pub fn count_in(t: &[u32]) -> usize
     requires { (0 < length t.now) × (detail_kind ≤ get_or t.now 0 0) }
-    ensures { result ≡ count_in (was t) }
+    ensures { result ≡ count_in t.now }
 {
     words::word_at(t, 0) - Description::DETAIL
 }
@@ -26,7 +25,7 @@ pub fn count_in(t: &[u32]) -> usize
 // Whether the keys of the n records of a text ascend, each below the next.
 fn keys_ascend(p: Description, t: &[u32], n: usize) -> bool
     requires { (p.k ≤ p.wpr) × (1 + n * p.wpr ≤ length t.now) }
-    ensures { result ≡ ascending (keys_of p (rows_from p.wpr 1 n (was t))) }
+    ensures { result ≡ ascending (keys_of p (rows_from p.wpr 1 n t.now)) }
 {
     let mut at = 1;
     let mut left = n;
@@ -44,7 +43,7 @@ fn keys_ascend(p: Description, t: &[u32], n: usize) -> bool
 // The first test that a text misses, 0 where it misses none.
 pub fn missed(p: Description, t: &[u32]) -> usize
     requires { (good_params p ≡ true) × (length t.now ≡ p.wpb) }
-    ensures { result ≡ first_missed p (was t) }
+    ensures { result ≡ first_missed p t.now }
 {
     let word = words::word_at(t, 0);
     if word < Description::DETAIL {

@@ -1,7 +1,6 @@
 // The walk through the copy: each block passed over or its records put in, and a line for each block and record that is not carried.
 ghost use Rattle.std.specs.Prelude.{◌≡◌, [], ◌∷◌, ◌+◌, ◌*◌, ◌≤◌, length};
 ghost use Rattle.words.specs.Words.{put};
-ghost use Rattle.words.specs.Slices.{was, became};
 ghost use Rattle.drum.specs.Params.{D};
 ghost use Rattle.drum.specs.Blocks.{block_at};
 ghost use Rattle.salvage.specs.Met.{found, places, records_in, met_in, met};
@@ -32,7 +31,7 @@ pub struct Tried {
 // Writes a line behind the n lines before it.
 fn put_line(report: &mut [u32], n: usize, at: Place, reason: usize)
     requires { (3 * (n + 1) ≤ length report.old) × (at.block ≤ 262143) × (at.place ≤ 262143) × (reason ≤ 262143) }
-    ensures { became report ≡ put (was report) (3 * n) (at.block ∷ at.place ∷ reason ∷ []) }
+    ensures { report.new ≡ put report.old (3 * n) (at.block ∷ at.place ∷ reason ∷ []) }
 {
     let a = 3 * n;
     words::put_word(report, a, at.block);
@@ -47,7 +46,7 @@ fn add_line(going: Going, report: &mut [u32], at: Place, reason: usize) -> Going
         × (at.place ≤ 262143)
         × (reason ≤ 262143) }
     ensures { (result ≡ record { session = going.session; lines = going.lines + 1; transfers = going.transfers })
-        × (became report ≡ put (was report) (3 * going.lines) (at.block ∷ at.place ∷ reason ∷ [])) }
+        × (report.new ≡ put report.old (3 * going.lines) (at.block ∷ at.place ∷ reason ∷ [])) }
 {
     let n = going.lines;
     put_line(report, n, at, reason);
@@ -69,8 +68,8 @@ fn why_not(number: u32) -> usize
 // NSERT of a record; its transfers are counted.
 fn insert(going: Going, file: &mut [u32], buffer: &mut [u32], row: &[u32]) -> Tried
     requires { going.transfers + 16 ≤ 1099511627776 }
-    ensures { tells result.number (walking result.going (became file) (became buffer) [])
-        ≡ inserted (was row) (walking going (was file) (was buffer) []) }
+    ensures { tells result.number (walking result.going file.new buffer.new [])
+        ≡ inserted row.now (walking going file.old buffer.old []) }
 {
     let held = going.session;
     let answer = held.nsert(file, buffer, row);
@@ -89,8 +88,8 @@ fn insert(going: Going, file: &mut [u32], buffer: &mut [u32], row: &[u32]) -> Tr
 // A line for a record that NSERT did not store.
 fn settle(tried: Tried, report: &mut [u32], at: Place) -> Going
     requires { (3 * (tried.going.lines + 1) ≤ length report.old) × (at.block ≤ 262143) × (at.place ≤ 262143) }
-    ensures { walking result [] [] (became report)
-        ≡ settled tried.number at.block at.place (walking tried.going [] [] (was report)) }
+    ensures { walking result [] [] report.new
+        ≡ settled tried.number at.block at.place (walking tried.going [] [] report.old) }
 {
     let number = tried.number;
     let going = tried.going;
@@ -113,8 +112,8 @@ fn one_record(
         × (going.session.desc.k ≤ length row.now)
         × (at.block ≤ 262143)
         × (at.place ≤ 262143) }
-    ensures { walking result (became file) (became buffer) (became report)
-        ≡ step (walking going (was file) (was buffer) (was report)) (found at.block at.place (was row)) }
+    ensures { walking result file.new buffer.new report.new
+        ≡ step (walking going file.old buffer.old report.old) (found at.block at.place row.now) }
 {
     let k = going.session.desc.k;
     if words::all_are(row, 0, k, 262143) {
@@ -134,8 +133,8 @@ fn take_records(
     b: usize,
 ) -> Going
     requires { Taken going text.now b (length report.old) }
-    ensures { walking result (became file) (became buffer) (became report)
-        ≡ run (walking going (was file) (was buffer) (was report)) (places b 1 (records_in going.session.desc (was text))) }
+    ensures { walking result file.new buffer.new report.new
+        ≡ run (walking going file.old buffer.old report.old) (places b 1 (records_in going.session.desc text.now)) }
 {
     let wpr = going.session.desc.wpr;
     let count = texts::count_in(text);
@@ -162,8 +161,8 @@ fn one_block(
     b: usize,
 ) -> Going
     requires { Ready going text.now b (length report.old) }
-    ensures { walking result (became file) (became buffer) (became report)
-        ≡ run (walking going (was file) (was buffer) (was report)) (met_in going.session.desc b (was text)) }
+    ensures { walking result file.new buffer.new report.new
+        ≡ run (walking going file.old buffer.old report.old) (met_in going.session.desc b text.now) }
 {
     let reason = texts::missed(going.session.desc, text);
     if reason != 0 {
@@ -186,8 +185,8 @@ fn block_of(
         × (1 ≤ b)
         × (b ≤ going.session.desc.n)
         × Spare going (1 + D going.session.desc) (length report.old) }
-    ensures { walking result (became file) (became buffer) (became report)
-        ≡ run (walking going (was file) (was buffer) (was report)) (met_in going.session.desc b (block_at going.session.desc (was copy) b)) }
+    ensures { walking result file.new buffer.new report.new
+        ≡ run (walking going file.old buffer.old report.old) (met_in going.session.desc b (block_at going.session.desc copy.now b)) }
 {
     let p = going.session.desc;
     let start = p.start(b);
@@ -205,8 +204,8 @@ pub fn every_block(
 ) -> Going
     requires { Copied going copy.now
         × Spare going (going.session.desc.n * (1 + D going.session.desc)) (length report.old) }
-    ensures { walking result (became file) (became buffer) (became report)
-        ≡ run (walking going (was file) (was buffer) (was report)) (met going.session.desc (was copy)) }
+    ensures { walking result file.new buffer.new report.new
+        ≡ run (walking going file.old buffer.old report.old) (met going.session.desc copy.now) }
 {
     let n = going.session.desc.n;
     let mut next = going;

@@ -3,7 +3,6 @@ ghost use Rattle.std.specs.Prelude.{◌≡◌, []};
 ghost use Rattle.rules.specs.Copy.{copy_file};
 ghost use Rattle.searchfile.specs.Promise.{given};
 ghost use Rattle.searchfile.specs.Copying.{counted_copy, answered_copy};
-ghost use Rattle.words.specs.Slices.{was, became};
 
 use super::{Answer, Session};
 
@@ -16,8 +15,8 @@ impl Session {
         control: usize,
         marks: &mut [u8],
     ) -> Answer
-        ensures { answered_copy result (was file) (became second) (became marks)
-            ≡ counted_copy (copy_file (given self (was file) [] []) (was second) control (was marks)) }
+        ensures { answered_copy result file.now second.new marks.new
+            ≡ counted_copy (copy_file (given self file.now [] []) second.old control marks.old) }
     {
         let p = self.desc;
         let number = copy::copy_file(p, self.opened, control, file, second, marks);

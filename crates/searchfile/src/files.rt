@@ -4,7 +4,6 @@ ghost use Rattle.rules.specs.Open.{open_file};
 ghost use Rattle.rules.specs.Close.{close as closed};
 ghost use Rattle.searchfile.specs.Promise.{held, given, counted, answered, creating, counted_open, answered_open};
 ghost use Rattle.searchfile.specs.Parts.{part_of, shown, view_part};
-ghost use Rattle.words.specs.Slices.{was, became};
 
 use super::{Answer, Session};
 use numbers::{ALREADY_OPEN, BAD_FILE, DONE, IS_CLOSED, WRONG_SIZE};
@@ -13,7 +12,7 @@ use rules::Held;
 impl Session {
     // CREATE: writes a new file with the session's parameters, every word of it. It has no session: whatever this one is, it stays so.
     pub fn create(self, file: &mut [u32]) -> Answer
-        ensures { answered result (became file) [] [] ≡ counted (creating (given self (was file) [] [])) }
+        ensures { answered result file.new [] [] ≡ counted (creating (given self file.old [] [])) }
     {
         let p = self.desc;
         if !p.is_good() {
@@ -32,8 +31,8 @@ impl Session {
 
     // OPEN: the file is inspected, and every block marked: 1 reached from the master, 2 chained, 0 never used.
     pub fn open_file(self, file: &[u32], buffer: &[u32], marks: &mut [u8]) -> Answer
-        ensures { answered_open result (was file) (was buffer) (became marks)
-            ≡ counted_open (open_file (given self (was file) (was buffer) []) (was marks)) }
+        ensures { answered_open result file.now buffer.now marks.new
+            ≡ counted_open (open_file (given self file.now buffer.now []) marks.old) }
     {
         let p = self.desc;
         if !p.is_sized(file.len(), buffer.len()) {
@@ -58,7 +57,7 @@ impl Session {
 
     // CLOSE: writes a flagged buffer to its block; the session is closed.
     pub fn close(self, file: &mut [u32], buffer: &[u32]) -> Answer
-        ensures { answered result (became file) (was buffer) [] ≡ counted (closed (given self (was file) (was buffer) [])) }
+        ensures { answered result file.new buffer.now [] ≡ counted (closed (given self file.old buffer.now [])) }
     {
         let p = self.desc;
         let current = self.current;

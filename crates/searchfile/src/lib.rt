@@ -11,7 +11,6 @@ ghost use Rattle.std.specs.Prelude.{◌≡◌, false, ◌≤◌, length, replica
 ghost use Rattle.words.specs.Words.{part, put};
 ghost use Rattle.rules.specs.State.{at_rest};
 ghost use Rattle.searchfile.specs.Promise.{held, next};
-ghost use Rattle.words.specs.Slices.{was, became};
 
 use drum::Description;
 use rules::Done;
@@ -39,7 +38,7 @@ pub struct Answer {
 // Writes the key of k words that stands first in the workspace over the first words of a position.
 fn put_key(position: &mut [u32; 63], work: &[u32], k: usize)
     requires { (k ≤ 63) × (k ≤ length work.now) }
-    ensures { became position ≡ put (was position) 0 (part 0 k (was work)) }
+    ensures { position.new ≡ put position.old 0 (part 0 k work.now) }
 {
     words::copy_words(position, 0, work, 0, k);
 }
@@ -91,7 +90,7 @@ impl Session {
         requires { (self.desc.k ≤ 63) × (self.desc.k ≤ length work.now) }
         ensures { (result.number ≡ done.number)
             × (result.transfers ≡ done.transfers)
-            × (held result.session ≡ next (held self) done (was work)) }
+            × (held result.session ≡ next (held self) done work.now) }
     {
         let k = self.desc.k;
         let mut next = Answer {

@@ -6,7 +6,6 @@ ghost use Rattle.rules.specs.Dlete.{dlete as deleted};
 ghost use Rattle.rules.specs.XtendDone.{xtend as extended};
 ghost use Rattle.rules.specs.Seek.{seek as sought, updat as updated};
 ghost use Rattle.searchfile.specs.Promise.{given, counted, answered};
-ghost use Rattle.words.specs.Slices.{was, became};
 
 use super::{Answer, Session};
 use face::{refused_key, refused_plain};
@@ -15,8 +14,8 @@ use rules::Held;
 impl Session {
     // SEEK: the record with the workspace's key to the workspace.
     pub fn seek(self, file: &mut [u32], buffer: &mut [u32], work: &mut [u32]) -> Answer
-        ensures { answered result (became file) (became buffer) (became work)
-            ≡ counted (sought (given self (was file) (was buffer) (was work))) }
+        ensures { answered result file.new buffer.new work.new
+            ≡ counted (sought (given self file.old buffer.old work.old)) }
     {
         let p = self.desc;
         let k = p.k;
@@ -30,8 +29,8 @@ impl Session {
 
     // UPDAT: the record with the workspace's key replaced by the workspace.
     pub fn updat(self, file: &mut [u32], buffer: &mut [u32], work: &[u32]) -> Answer
-        ensures { answered result (became file) (became buffer) (was work)
-            ≡ counted (updated (given self (was file) (was buffer) (was work))) }
+        ensures { answered result file.new buffer.new work.now
+            ≡ counted (updated (given self file.old buffer.old work.now)) }
     {
         let p = self.desc;
         let wpr = p.wpr;
@@ -45,8 +44,8 @@ impl Session {
 
     // ADV: the record with the least key above position to the workspace.
     pub fn adv(self, file: &mut [u32], buffer: &mut [u32], work: &mut [u32]) -> Answer
-        ensures { answered result (became file) (became buffer) (became work)
-            ≡ counted (advanced (given self (was file) (was buffer) (was work))) }
+        ensures { answered result file.new buffer.new work.new
+            ≡ counted (advanced (given self file.old buffer.old work.old)) }
     {
         let p = self.desc;
         let number = refused_plain(p, self.opened, file.len(), buffer.len(), work.len());
@@ -65,8 +64,8 @@ impl Session {
 
     // NSERT: the workspace's record put in, unless its key is there.
     pub fn nsert(self, file: &mut [u32], buffer: &mut [u32], work: &[u32]) -> Answer
-        ensures { answered result (became file) (became buffer) (was work)
-            ≡ counted (inserted (given self (was file) (was buffer) (was work))) }
+        ensures { answered result file.new buffer.new work.now
+            ≡ counted (inserted (given self file.old buffer.old work.now)) }
     {
         let p = self.desc;
         let wpr = p.wpr;
@@ -80,8 +79,8 @@ impl Session {
 
     // DLETE: the record with the workspace's key taken out.
     pub fn dlete(self, file: &mut [u32], buffer: &mut [u32], work: &[u32]) -> Answer
-        ensures { answered result (became file) (became buffer) (was work)
-            ≡ counted (deleted (given self (was file) (was buffer) (was work))) }
+        ensures { answered result file.new buffer.new work.now
+            ≡ counted (deleted (given self file.old buffer.old work.now)) }
     {
         let p = self.desc;
         let k = p.k;
@@ -95,8 +94,8 @@ impl Session {
 
     // XTEND: the workspace's record put in after all others, in ascending order.
     pub fn xtend(self, file: &mut [u32], buffer: &mut [u32], work: &[u32]) -> Answer
-        ensures { answered result (became file) (became buffer) (was work)
-            ≡ counted (extended (given self (was file) (was buffer) (was work))) }
+        ensures { answered result file.new buffer.new work.now
+            ≡ counted (extended (given self file.old buffer.old work.now)) }
     {
         let p = self.desc;
         let wpr = p.wpr;

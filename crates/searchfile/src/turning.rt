@@ -3,7 +3,6 @@ ghost use Rattle.std.specs.Prelude.{◌≡◌, []};
 ghost use Rattle.rules.specs.Turning.{turn_file};
 ghost use Rattle.searchfile.specs.Promise.{given};
 ghost use Rattle.searchfile.specs.Turning.{counted_turn, answered_turn};
-ghost use Rattle.words.specs.Slices.{was, became};
 
 use super::{Answer, Session};
 
@@ -11,7 +10,7 @@ impl Session {
     // Hands the session back with the other form where it answers 0; all else of it stays as it is. A buffer is not lent: what stands in it is of the old
     // form, and is not looked at again, as the session is closed.
     pub fn turn(self, file: &mut [u32], marks: &mut [u8]) -> Answer
-        ensures { answered_turn result (became file) (became marks) ≡ counted_turn (turn_file (given self (was file) [] []) (was marks)) }
+        ensures { answered_turn result file.new marks.new ≡ counted_turn (turn_file (given self file.old [] []) marks.old) }
     {
         let turned = turn::turn(self.desc, self.opened, file, marks);
         let desc = turned.desc;

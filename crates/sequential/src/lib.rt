@@ -5,7 +5,6 @@
 mod plan;
 
 ghost use Rattle.std.specs.Prelude.{◌≡◌, ◌+◌, ◌≤◌, length};
-ghost use Rattle.words.specs.Slices.{was, became};
 ghost use Rattle.sequential.specs.Rows.{closed, laid, behind};
 ghost use Rattle.sequential.specs.Lent.{Fine, LiesIn};
 ghost use Rattle.sequential.specs.Calls.{put_gave, put_row, get_gave, get_row};
@@ -92,7 +91,7 @@ fn closes(l: Layout, row: Row) -> bool
 // Writes the record, and the zero word behind it.
 fn lay(l: Layout, row: Row, file: &mut [u32], work: &[u32])
     requires { LiesIn l row (length file.old) × (row.words ≤ length work.now) }
-    ensures { became file ≡ laid l row (was work) (was file) }
+    ensures { file.new ≡ laid l row work.now file.old }
 {
     let q = row.place;
     let n = row.words;
@@ -105,7 +104,7 @@ fn lay(l: Layout, row: Row, file: &mut [u32], work: &[u32])
 
 // PUT: the record in the workspace goes to the place, or to the next block where it has no room there.
 pub fn put(l: Layout, place: Place, file: &mut [u32], work: &[u32]) -> PutAnswer
-    ensures { put_gave result (became file) ≡ put_row l place (was file) (was work) }
+    ensures { put_gave result file.new ≡ put_row l place file.old work.now }
 {
     let spot = plan_put(l, place, file.len(), work);
     match spot {
@@ -122,7 +121,7 @@ pub fn put(l: Layout, place: Place, file: &mut [u32], work: &[u32]) -> PutAnswer
 
 // GET: the record at the place, or the first of the next block, goes to the workspace.
 pub fn get(l: Layout, place: Place, left: usize, file: &[u32], work: &mut [u32]) -> GetAnswer
-    ensures { get_gave result (became work) ≡ get_row l place left (was file) (was work) }
+    ensures { get_gave result work.new ≡ get_row l place left file.now work.old }
 {
     let spot = plan_get(l, place, left, file, work.len());
     match spot {

@@ -1,6 +1,5 @@
 // Where a record goes, or where the next one lies: decided, with every refusal in its order, before a word moves.
 ghost use Rattle.std.specs.Prelude.{◌≡◌, ◌<◌, length};
-ghost use Rattle.words.specs.Slices.{was};
 ghost use Rattle.sequential.specs.Rows.{good_layout, sized, size, room, word_of, put_place, stays_at, get_place};
 ghost use Rattle.sequential.specs.Calls.{put_spot, get_spot, row_from, fixed_right};
 ghost use Rattle.sequential.specs.Lent.{Fine, InBlock, InArea, Inside, Reading, as_spot};
@@ -57,7 +56,7 @@ pub fn word_of(l: Layout, q: Place, file: &[u32]) -> usize
 // The words of the record that begins at word `at` of t.
 fn size_at(kind: Kind, t: &[u32], at: usize) -> usize
     requires { at < length t.now }
-    ensures { result ≡ size kind at (was t) }
+    ensures { result ≡ size kind at t.now }
 {
     match kind {
         Kind::Fixed(n) => n,
@@ -93,7 +92,7 @@ fn put_place(l: Layout, place: Place, file: usize, n: usize) -> Place
 
 // Where PUT lays the record in the workspace.
 pub fn plan_put(l: Layout, place: Place, file: usize, work: &[u32]) -> Spot
-    ensures { as_spot result ≡ put_spot l place file (was work) }
+    ensures { as_spot result ≡ put_spot l place file work.now }
 {
     if !is_sized(l, file, work.len()) {
         return Spot::No(WRONG_SIZE);
@@ -125,7 +124,7 @@ pub fn plan_put(l: Layout, place: Place, file: usize, work: &[u32]) -> Spot
 // block's end stands there.
 fn is_here(l: Layout, place: Place, file: &[u32]) -> bool
     requires { InBlock l place (length file.now) }
-    ensures { result ≡ stays_at l place (was file) }
+    ensures { result ≡ stays_at l place file.now }
 {
     let kind = l.kind;
     let at = place.at;
@@ -147,7 +146,7 @@ fn is_here(l: Layout, place: Place, file: &[u32]) -> bool
 // The record that begins at a place of the data area, whose block may not be there.
 fn row_from(l: Layout, q: Place, file: &[u32]) -> Spot
     requires { InArea l q (length file.now) }
-    ensures { as_spot result ≡ row_from l q (was file) }
+    ensures { as_spot result ≡ row_from l q file.now }
 {
     let kind = l.kind;
     let wpb = l.wpb;
@@ -168,7 +167,7 @@ fn row_from(l: Layout, q: Place, file: &[u32]) -> Spot
 // The next record from a place in a block that is there.
 fn next_row(l: Layout, place: Place, file: &[u32]) -> Spot
     requires { Reading l place (length file.now) }
-    ensures { as_spot result ≡ row_from l (get_place l place (was file)) (was file) }
+    ensures { as_spot result ≡ row_from l (get_place l place file.now) file.now }
 {
     if is_here(l, place, file) {
         return row_from(l, place, file);
@@ -199,7 +198,7 @@ fn is_right(l: Layout) -> bool
 
 // Where the record lies that GET reads next.
 pub fn plan_get(l: Layout, place: Place, left: usize, file: &[u32], work: usize) -> Spot
-    ensures { as_spot result ≡ get_spot l place left (was file) work }
+    ensures { as_spot result ≡ get_spot l place left file.now work }
 {
     if !is_sized(l, file.len(), work) {
         return Spot::No(WRONG_SIZE);

@@ -8,7 +8,6 @@ ghost use Rattle.table.specs.Splits.{low_count, renamed, entered};
 ghost use Rattle.drum.specs.Params.{index_shape};
 ghost use Rattle.drum.specs.Blocks.{block_at, put_block};
 ghost use Rattle.split.specs.Cuts.{EntersIn, Enters, HasRow, more_row, Shares, Divides, DividesIn, lower, upper, halved_by, entry_by};
-ghost use Rattle.words.specs.Slices.{was, became};
 
 use drum::Description;
 use table::Shape;
@@ -35,7 +34,7 @@ pub fn low_count(n: usize) -> usize
 // Keeps the first n words of a block's rows, under this count; the others become 0.
 fn keep(t: &mut [u32], count: usize, n: usize)
     requires { (1 + n ≤ length t.old) × (count ≤ 262143) }
-    ensures { became t ≡ laid (length (was t)) count (part 1 n (was t)) }
+    ensures { t.new ≡ laid (length t.old) count (part 1 n t.old) }
 {
     let rest = t.len() - 1 - n;
     words::zero_words(t, 1 + n, rest);
@@ -45,7 +44,7 @@ fn keep(t: &mut [u32], count: usize, n: usize)
 // Makes an entry: a key of k words at word `at` of t, and a block's number.
 fn make_entry(entry: &mut [u32], t: &[u32], at: usize, k: usize, b: usize)
     requires { (k + 1 ≤ length entry.old) × (at + k ≤ length t.now) × (b ≤ 262143) }
-    ensures { part 0 (k + 1) (became entry) ≡ part at k (was t) ++ (b ∷ []) }
+    ensures { part 0 (k + 1) entry.new ≡ part at k t.now ++ (b ∷ []) }
 {
     words::copy_words(entry, 0, t, at, k);
     words::put_word(entry, k, b);
@@ -54,7 +53,7 @@ fn make_entry(entry: &mut [u32], t: &[u32], at: usize, k: usize, b: usize)
 // Lets entry i of a table name block b.
 fn rename(h: Shape, t: &mut [u32], i: usize, b: usize)
     requires { (place h i + h.width < length t.old) × (b ≤ 262143) }
-    ensures { became t ≡ renamed h i b (was t) }
+    ensures { t.new ≡ renamed h i b t.old }
 {
     let at = h.base + i * h.stride + h.width;
     words::put_word(t, at, b);
@@ -63,7 +62,7 @@ fn rename(h: Shape, t: &mut [u32], i: usize, b: usize)
 // Lets entry i of a table that has room become two: the entry given, and after it the old one, which names block b.
 pub fn enter(h: Shape, t: &mut [u32], i: usize, entry: &[u32], b: usize)
     requires { Enters h i t.old × (h.stride ≤ length entry.now) × (b ≤ 262143) }
-    ensures { became t ≡ entered h i (part 0 h.stride (was entry)) b (was t) }
+    ensures { t.new ≡ entered h i (part 0 h.stride entry.now) b t.old }
 {
     rename(h, t, i, b);
     table::insert_row(h, t, i, entry, 0);
@@ -72,8 +71,8 @@ pub fn enter(h: Shape, t: &mut [u32], i: usize, entry: &[u32], b: usize)
 // The same in index block x of the file, where it lies.
 pub fn enter_in(p: Description, file: &mut [u32], x: usize, i: usize, entry: &[u32], b: usize)
     requires { EntersIn p file.old x i × (p.k + 1 ≤ length entry.now) × (b ≤ 262143) }
-    ensures { became file
-        ≡ put_block p (was file) x (entered (index_shape p) i (part 0 (p.k + 1) (was entry)) b (block_at p (was file) x)) }
+    ensures { file.new
+        ≡ put_block p file.old x (entered (index_shape p) i (part 0 (p.k + 1) entry.now) b (block_at p file.old x)) }
 {
     let h = p.index_shape();
     drum::inside::set_name_in(p, file, x, h, i, b);
@@ -83,7 +82,7 @@ pub fn enter_in(p: Description, file: &mut [u32], x: usize, i: usize, entry: &[u
 // Row j of the full buffer's rows with the row put in: the row itself, or one of the buffer's, which stand one lower behind the row.
 fn row_of<'a>(cut: Cut, j: usize, buffer: &'a [u32], row: &'a [u32]) -> &'a [u32]
     requires { HasRow cut j buffer.now row.now }
-    ensures { result.now ≡ more_row cut j (was row) (was buffer) }
+    ensures { result.now ≡ more_row cut j row.now buffer.now }
 {
     let h = cut.shape;
     let stride = h.stride;
@@ -102,7 +101,7 @@ fn row_of<'a>(cut: Cut, j: usize, buffer: &'a [u32], row: &'a [u32]) -> &'a [u32
 // Lays row j of them where it goes in the buffer: the row itself, or the one before row j, which moves up.
 fn raise_row(cut: Cut, j: usize, buffer: &mut [u32], row: &[u32])
     requires { HasRow cut j buffer.old row.now × (cut.place ≤ j) × (j < cut.rows) }
-    ensures { became buffer ≡ replaced cut.shape j (more_row cut j (was row) (was buffer)) (was buffer) }
+    ensures { buffer.new ≡ replaced cut.shape j (more_row cut j row.now buffer.old) buffer.old }
 {
     let h = cut.shape;
     if cut.place < j {
@@ -128,10 +127,10 @@ fn lesser(a: usize, b: usize) -> usize
 // is behind this promise.
 fn share_rows(cut: Cut, low: usize, file: &mut [u32], buffer: &mut [u32], row: &[u32])
     requires { Shares cut low file.old buffer.old × (cut.shape.stride ≤ length row.now) }
-    ensures { (became file
-        ≡ put_block cut.desc (was file) cut.new
-        (upper cut low (part 0 cut.shape.stride (was row)) (was buffer)))
-        × (became buffer ≡ lower cut low (part 0 cut.shape.stride (was row)) (was buffer)) }
+    ensures { (file.new
+        ≡ put_block cut.desc file.old cut.new
+        (upper cut low (part 0 cut.shape.stride row.now) buffer.old))
+        × (buffer.new ≡ lower cut low (part 0 cut.shape.stride row.now) buffer.old) }
 {
     let h = cut.shape;
     // rows that are all key: a row is laid into a block as its key would be
@@ -174,9 +173,9 @@ pub fn divide(cut: Cut, file: &mut [u32], buffer: &mut [u32], entry: &mut [u32],
     requires { Divides cut file.old buffer.old
         × (cut.shape.stride ≤ length row.now)
         × (cut.shape.width + 1 ≤ length entry.old) }
-    ensures { (became file ≡ halved_by cut (part 0 cut.shape.stride (was row)) (was buffer) (was file))
-        × (part 0 (cut.shape.width + 1) (became entry)
-        ≡ entry_by cut (part 0 cut.shape.stride (was row)) (was buffer)) }
+    ensures { (file.new ≡ halved_by cut (part 0 cut.shape.stride row.now) buffer.old file.old)
+        × (part 0 (cut.shape.width + 1) entry.new
+        ≡ entry_by cut (part 0 cut.shape.stride row.now) buffer.old) }
 {
     let h = cut.shape;
     let low = low_count(cut.rows);
@@ -203,13 +202,13 @@ pub fn divide_in(
     requires { DividesIn cut b file.old buffer.old
         × (cut.shape.stride ≤ length entry.now)
         × (cut.shape.width + 1 ≤ length above.old) }
-    ensures { (became file
-        ≡ halved_by cut (part 0 cut.shape.stride (was entry))
-        (renamed cut.shape cut.place b (block_at cut.desc (was file) cut.old))
-        (was file))
-        × (part 0 (cut.shape.width + 1) (became above)
-        ≡ entry_by cut (part 0 cut.shape.stride (was entry))
-        (renamed cut.shape cut.place b (block_at cut.desc (was file) cut.old))) }
+    ensures { (file.new
+        ≡ halved_by cut (part 0 cut.shape.stride entry.now)
+        (renamed cut.shape cut.place b (block_at cut.desc file.old cut.old))
+        file.old)
+        × (part 0 (cut.shape.width + 1) above.new
+        ≡ entry_by cut (part 0 cut.shape.stride entry.now)
+        (renamed cut.shape cut.place b (block_at cut.desc file.old cut.old))) }
 {
     drum::read_block(cut.desc, file, buffer, cut.old);
     rename(cut.shape, buffer, cut.place, b);

@@ -5,7 +5,6 @@ ghost use Rattle.std.specs.Prelude.{◌≡◌, ◌+◌, ◌*◌, ◌≤◌, ◌<
 ghost use Rattle.words.specs.Words.{part};
 ghost use Rattle.table.specs.declared.Want.TheVariants.{Equal};
 ghost use Rattle.table.specs.Tables.{count, place, first_where, asked, fits, AllBelow, Pair, differs, opened, closed, inserted, removed, replaced};
-ghost use Rattle.words.specs.Slices.{was, became};
 
 use words::Order;
 
@@ -52,7 +51,7 @@ fn is_wanted(w: Want, o: Order) -> bool
 // early, most rows of a search are passed here.
 fn low_rows(h: Shape, t: &[u32], n: usize, key: &[u32], at: usize) -> usize
     requires { (place h n ≤ length t.now) × (h.width ≤ h.stride) × (at + h.width ≤ length key.now) }
-    ensures { (result ≤ n) × AllBelow h (part at h.width (was key)) (was t) result }
+    ensures { (result ≤ n) × AllBelow h (part at h.width key.now) t.now result }
 {
     let base = h.base;
     let stride = h.stride;
@@ -83,7 +82,7 @@ fn pair(a: u32, b: u32) -> u64
 // The words i and i + 1 of t as one such number.
 fn pair_at(t: &[u32], i: usize) -> u64
     requires { i + 2 ≤ length t.now }
-    ensures { Pair (was t) i result }
+    ensures { Pair t.now i result }
 {
     pair(t[i], t[i + 1])
 }
@@ -96,7 +95,7 @@ fn low_after(h: Shape, t: &[u32], from: usize, n: usize, key: &[u32], at: usize)
         × (at + h.width ≤ length key.now)
         × (from ≤ n)
         × AllBelow h (part at h.width key.now) t.now from }
-    ensures { (result ≤ n) × AllBelow h (part at h.width (was key)) (was t) result }
+    ensures { (result ≤ n) × AllBelow h (part at h.width key.now) t.now result }
 {
     let base = h.base;
     let stride = h.stride;
@@ -124,7 +123,7 @@ fn low_after(h: Shape, t: &[u32], from: usize, n: usize, key: &[u32], at: usize)
 // The first row that stands to the key as is wanted, else n.
 fn find_row(w: Want, h: Shape, t: &[u32], n: usize, key: &[u32], at: usize) -> usize
     requires { (place h n ≤ length t.now) × (h.width ≤ h.stride) × (at + h.width ≤ length key.now) }
-    ensures { result ≡ first_where (fits w h (part at h.width (was key)) (was t)) n }
+    ensures { result ≡ first_where (fits w h (part at h.width key.now) t.now) n }
 {
     let base = h.base;
     let stride = h.stride;
@@ -146,7 +145,7 @@ fn find_row(w: Want, h: Shape, t: &[u32], n: usize, key: &[u32], at: usize) -> u
 // The first word in which the key of the row at word `place` differs from the key sought, else the width.
 fn same_words(t: &[u32], place: usize, key: &[u32], at: usize, width: usize) -> usize
     requires { (place + width ≤ length t.now) × (at + width ≤ length key.now) }
-    ensures { result ≡ first_where (differs (was t) place (was key) at) width }
+    ensures { result ≡ first_where (differs t.now place key.now at) width }
 {
     let mut m = 0;
     while m < width {
@@ -162,7 +161,7 @@ fn same_words(t: &[u32], place: usize, key: &[u32], at: usize, width: usize) -> 
 // looked at first: most rows are passed by one word, however many of the first words they share.
 fn same_row(h: Shape, t: &[u32], n: usize, key: &[u32], at: usize) -> usize
     requires { (place h n ≤ length t.now) × (h.width ≤ h.stride) × (at + h.width ≤ length key.now) }
-    ensures { result ≡ first_where (fits Equal h (part at h.width (was key)) (was t)) n }
+    ensures { result ≡ first_where (fits Equal h (part at h.width key.now) t.now) n }
 {
     let base = h.base;
     let stride = h.stride;
@@ -191,7 +190,7 @@ fn same_row(h: Shape, t: &[u32], n: usize, key: &[u32], at: usize) -> usize
 // The first of the n rows of t that is wanted for the key at word `at`, else n.
 pub fn find(w: Want, h: Shape, t: &[u32], n: usize, key: &[u32], at: usize) -> usize
     requires { (place h n ≤ length t.now) × (h.width ≤ h.stride) × (at + h.width ≤ length key.now) }
-    ensures { result ≡ first_where (fits w h (part at h.width (was key)) (was t)) n }
+    ensures { result ≡ first_where (fits w h (part at h.width key.now) t.now) n }
 {
     match w {
         Want::Equal => same_row(h, t, n, key, at),
@@ -203,7 +202,7 @@ pub fn find(w: Want, h: Shape, t: &[u32], n: usize, key: &[u32], at: usize) -> u
 // Moves the words a to e of t up by n, and writes n words of row before them.
 pub fn open_words(t: &mut [u32], a: usize, e: usize, row: &[u32], from: usize, n: usize)
     requires { (a ≤ e) × (e + n ≤ length t.old) × (from + n ≤ length row.now) }
-    ensures { became t ≡ opened (was t) a e (part from n (was row)) }
+    ensures { t.new ≡ opened t.old a e (part from n row.now) }
 {
     words::move_up(t, a, a + n, e - a);
     words::copy_words(t, a, row, from, n);
@@ -212,7 +211,7 @@ pub fn open_words(t: &mut [u32], a: usize, e: usize, row: &[u32], from: usize, n
 // Moves the words of t from a + n to e down by n, and clears the n words after them.
 pub fn close_words(t: &mut [u32], a: usize, e: usize, n: usize)
     requires { (a + n ≤ e) × (e ≤ length t.old) }
-    ensures { became t ≡ closed (was t) a e n }
+    ensures { t.new ≡ closed t.old a e n }
 {
     words::move_down(t, a + n, a, e - a - n);
     words::zero_words(t, e - n, n);
@@ -221,7 +220,7 @@ pub fn close_words(t: &mut [u32], a: usize, e: usize, n: usize)
 // The count of a table: word 0 less the tag of its kind, 0 where word 0 is below it.
 pub fn count_of(h: Shape, t: &[u32]) -> usize
     requires { 1 ≤ length t.now }
-    ensures { result ≡ count h (was t) }
+    ensures { result ≡ count h t.now }
 {
     let word = words::word_at(t, 0);
     let tag = h.tag;
@@ -238,7 +237,7 @@ pub fn insert_row(h: Shape, t: &mut [u32], i: usize, row: &[u32], from: usize)
         × (i ≤ count h t.old)
         × (h.tag + count h t.old < 262143)
         × (from + h.stride ≤ length row.now) }
-    ensures { became t ≡ inserted h i (part from h.stride (was row)) (was t) }
+    ensures { t.new ≡ inserted h i (part from h.stride row.now) t.old }
 {
     let base = h.base;
     let stride = h.stride;
@@ -250,7 +249,7 @@ pub fn insert_row(h: Shape, t: &mut [u32], i: usize, row: &[u32], from: usize)
 // Takes row i out, and counts it off.
 pub fn remove_row(h: Shape, t: &mut [u32], i: usize)
     requires { (1 ≤ h.base) × (place h (count h t.old) ≤ length t.old) × (i < count h t.old) × (h.tag + count h t.old ≤ 262143) }
-    ensures { became t ≡ removed h i (was t) }
+    ensures { t.new ≡ removed h i t.old }
 {
     let base = h.base;
     let stride = h.stride;
@@ -262,7 +261,7 @@ pub fn remove_row(h: Shape, t: &mut [u32], i: usize)
 // Writes n words of row from word `from` on over row i: the whole row, or its key alone.
 pub fn replace_row(h: Shape, t: &mut [u32], i: usize, row: &[u32], from: usize, n: usize)
     requires { (place h i + n ≤ length t.old) × (from + n ≤ length row.now) }
-    ensures { became t ≡ replaced h i (part from n (was row)) (was t) }
+    ensures { t.new ≡ replaced h i (part from n row.now) t.old }
 {
     let at = h.base + i * h.stride;
     words::copy_words(t, at, row, from, n);

@@ -10,7 +10,6 @@ mod told;
 mod turns;
 
 ghost use Rattle.std.specs.Prelude.{◌≡◌};
-ghost use Rattle.words.specs.Slices.{was};
 ghost use Rattle.lines.specs.Reading.{parameters_in};
 ghost use Rattle.printed.specs.Output.{start_of};
 
@@ -31,7 +30,7 @@ pub enum Ending {
 
 // What the first line makes of the program.
 fn start_of(line: Found, numbers: &[u32; 2048]) -> Start
-    ensures { result ≡ start_of (parameters_in line.reading (was numbers)) }
+    ensures { result ≡ start_of (parameters_in line.reading numbers.now) }
 {
     printed::start_of(line.reading, numbers)
 }

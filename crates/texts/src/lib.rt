@@ -5,14 +5,13 @@ ghost use Rattle.std.specs.Prelude.{◌≡◌, ◌+◌, ◌*◌, ◌≤◌, ◌<
 ghost use Rattle.words.specs.Words.{put};
 ghost use Rattle.texts.specs.Texts.{digits, places as places_of, decimal, octal, listed};
 ghost use Rattle.texts.specs.Results.{spelling, result_text, refused_text};
-ghost use Rattle.words.specs.Slices.{was, became};
 
 use rules::Call;
 
 // The bytes of `text`.
 pub fn put_bytes(out: &mut [u8], at: usize, text: &[u8]) -> usize
     requires { at + length text.now ≤ length out.old }
-    ensures { (became out ≡ put (was out) at (was text)) × (result ≡ at + length (was text)) }
+    ensures { (out.new ≡ put out.old at text.now) × (result ≡ at + length text.now) }
 {
     let mut i = 0;
     while i < text.len() {
@@ -38,7 +37,7 @@ fn places(n: u64) -> usize
 // The last k digits of n to the base `base`, the last one first: each is what is left of n.
 fn put_digits(out: &mut [u8], at: usize, base: u64, k: usize, n: u64) -> usize
     requires { (at + k ≤ length out.old) × (2 ≤ base) × (base ≤ 10) }
-    ensures { (became out ≡ put (was out) at (digits base k n)) × (result ≡ at + k) }
+    ensures { (out.new ≡ put out.old at (digits base k n)) × (result ≡ at + k) }
 {
     let mut i = k;
     let mut rest = n;
@@ -65,7 +64,7 @@ pub fn count(x: usize) -> u64
 // A result's number as six octal digits, after a space.
 fn put_number(out: &mut [u8], at: usize, n: u32) -> usize
     requires { at + 7 ≤ length out.old }
-    ensures { (became out ≡ put (was out) at (32 ∷ octal n)) × (result ≡ at + length (32 ∷ octal n)) × (result ≤ at + 7) }
+    ensures { (out.new ≡ put out.old at (32 ∷ octal n)) × (result ≡ at + length (32 ∷ octal n)) × (result ≤ at + 7) }
 {
     out[at] = b' ';
     put_digits(out, at + 1, 8, 6, long(n))
@@ -74,7 +73,7 @@ fn put_number(out: &mut [u8], at: usize, n: u32) -> usize
 // A number in decimal, after a space.
 pub fn put_decimal(out: &mut [u8], at: usize, n: u64) -> usize
     requires { at + 21 ≤ length out.old }
-    ensures { (became out ≡ put (was out) at (32 ∷ decimal n)) × (result ≡ at + length (32 ∷ decimal n)) × (result ≤ at + 21) }
+    ensures { (out.new ≡ put out.old at (32 ∷ decimal n)) × (result ≡ at + length (32 ∷ decimal n)) × (result ≤ at + 21) }
 {
     out[at] = b' ';
     let k = places(n);
@@ -84,9 +83,9 @@ pub fn put_decimal(out: &mut [u8], at: usize, n: u64) -> usize
 // Words in decimal, each after a space.
 fn put_listed(out: &mut [u8], at: usize, words: &[u32]) -> usize
     requires { at + 21 * length words.now ≤ length out.old }
-    ensures { (became out ≡ put (was out) at (listed (was words)))
-        × (result ≡ at + length (listed (was words)))
-        × (result ≤ at + 21 * length (was words)) }
+    ensures { (out.new ≡ put out.old at (listed words.now))
+        × (result ≡ at + length (listed words.now))
+        × (result ≤ at + 21 * length words.now) }
 {
     let mut end = at;
     let mut i = 0;
@@ -100,7 +99,7 @@ fn put_listed(out: &mut [u8], at: usize, words: &[u32]) -> usize
 // A call's name.
 pub fn put_name(out: &mut [u8], at: usize, call: Call) -> usize
     requires { at + 6 ≤ length out.old }
-    ensures { (became out ≡ put (was out) at (spelling call)) × (result ≡ at + length (spelling call)) × (result ≤ at + 6) }
+    ensures { (out.new ≡ put out.old at (spelling call)) × (result ≡ at + length (spelling call)) × (result ≤ at + 6) }
 {
     match call {
         Call::Create => put_bytes(out, at, b"CREATE"),
@@ -125,10 +124,10 @@ pub fn put_result(
     shown: &[u32],
 ) -> usize
     requires { at + 35 + 21 * length shown.now ≤ length out.old }
-    ensures { (became out
-        ≡ put (was out) at (result_text call (record { number = number; count = transfers; shown = was shown })))
-        × (result ≡ at + length (result_text call (record { number = number; count = transfers; shown = was shown })))
-        × (result ≤ at + 35 + 21 * length (was shown)) }
+    ensures { (out.new
+        ≡ put out.old at (result_text call (record { number = number; count = transfers; shown = shown.now })))
+        × (result ≡ at + length (result_text call (record { number = number; count = transfers; shown = shown.now })))
+        × (result ≤ at + 35 + 21 * length shown.now) }
 {
     let named = put_name(out, at, call);
     let numbered = put_number(out, named, number);
@@ -141,7 +140,7 @@ pub fn put_result(
 // The line of a call whose parameters are out of range.
 pub fn put_refused(out: &mut [u8], at: usize, call: Call) -> usize
     requires { at + 16 ≤ length out.old }
-    ensures { (became out ≡ put (was out) at (refused_text call)) × (result ≡ at + length (refused_text call)) × (result ≤ at + 16) }
+    ensures { (out.new ≡ put out.old at (refused_text call)) × (result ≡ at + length (refused_text call)) × (result ≤ at + 16) }
 {
     let named = put_name(out, at, call);
     put_bytes(out, named, b" 020007 0\n")

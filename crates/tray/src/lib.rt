@@ -8,7 +8,6 @@ ghost use Rattle.face.specs.Checks.{refusing};
 ghost use Rattle.searchfile.specs.Promise.{given};
 ghost use Rattle.tray.specs.Tray.{count_of, matches, records_of, inserts, tray_checks, nsert_tray};
 ghost use Rattle.tray.specs.Promise.{counted_tray, answered_tray};
-ghost use Rattle.words.specs.Slices.{was, became};
 
 use drum::Description;
 use numbers::{DONE, IS_CLOSED, WRONG_SIZE, is_accepted};
@@ -26,7 +25,7 @@ pub struct Trayed {
 // Whether the tray is as long as its first word says.
 fn is_whole(p: Description, tray: &[u32]) -> bool
     requires { good_params p ≡ true }
-    ensures { result ≡ matches p (was tray) }
+    ensures { result ≡ matches p tray.now }
 {
     if tray.len() == 0 {
         return false;
@@ -37,7 +36,7 @@ fn is_whole(p: Description, tray: &[u32]) -> bool
 
 // The first refusal of a tray, or 0.
 fn refused_tray(session: Session, file: &[u32], buffer: &[u32], tray: &[u32]) -> u32
-    ensures { refusing result ≡ tray_checks (given session (was file) (was buffer) []) (was tray) }
+    ensures { refusing result ≡ tray_checks (given session file.now buffer.now []) tray.now }
 {
     let p = session.desc;
     if !p.is_sized(file.len(), buffer.len()) {
@@ -55,8 +54,8 @@ fn refused_tray(session: Session, file: &[u32], buffer: &[u32], tray: &[u32]) ->
 // NSERT of each record in turn, up to the first that is not stored.
 fn insert_each(session: Session, file: &mut [u32], buffer: &mut [u32], tray: &[u32]) -> Trayed
     requires { length tray.now ≡ 1 + count_of tray.now * session.desc.wpr }
-    ensures { answered_tray result (became file) (became buffer)
-        ≡ counted_tray (inserts (given session (was file) (was buffer) []) (records_of session.desc (was tray)) done) }
+    ensures { answered_tray result file.new buffer.new
+        ≡ counted_tray (inserts (given session file.old buffer.old []) (records_of session.desc tray.now) done) }
 {
     let wpr = session.desc.wpr;
     let count = words::word_at(tray, 0);
@@ -87,8 +86,8 @@ fn insert_each(session: Session, file: &mut [u32], buffer: &mut [u32], tray: &[u
 
 // Puts in the records of a tray: word 0 says how many, then they follow.
 pub fn nsert_tray(session: Session, file: &mut [u32], buffer: &mut [u32], tray: &[u32]) -> Trayed
-    ensures { answered_tray result (became file) (became buffer)
-        ≡ counted_tray (nsert_tray (given session (was file) (was buffer) []) (was tray)) }
+    ensures { answered_tray result file.new buffer.new
+        ≡ counted_tray (nsert_tray (given session file.old buffer.old []) tray.now) }
 {
     let number = refused_tray(session, file, buffer, tray);
     if number != 0 {

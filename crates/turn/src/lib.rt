@@ -11,7 +11,6 @@ ghost use Rattle.layout.specs.Inspect.{layout_marks};
 ghost use Rattle.layout.specs.Inspected.{Fit};
 ghost use Rattle.layout.specs.Turned.{other_form, turned};
 ghost use Rattle.rules.specs.Turning.{turn_left, turn_sizes, turn_layout, turning};
-ghost use Rattle.words.specs.Slices.{was, became};
 ghost use Rattle.turn.specs.Fits.{TurnFits};
 
 use blocks::turn_blocks;
@@ -50,7 +49,7 @@ fn is_sized(p: Description, file: usize, marks: usize) -> bool
 // Turns each block that is in use or chained; the marks are OPEN's again when all is done.
 fn turn_file(p: Description, file: &mut [u32], marks: &mut [u8])
     requires { TurnFits p file.old marks.old }
-    ensures { (became file ≡ turned p (was marks) (was file)) × (became marks ≡ was marks) }
+    ensures { (file.new ≡ turned p marks.old file.old) × (marks.new ≡ marks.old) }
 {
     mark_indexes(p, file, marks);
     turn_blocks(p, file, marks);
@@ -60,7 +59,7 @@ fn turn_file(p: Description, file: &mut [u32], marks: &mut [u8])
 // Turns a file of the right length if it is as under Layout.
 fn turn_closed(p: Description, file: &mut [u32], marks: &mut [u8]) -> Turned
     requires { Fit p file.old × (length marks.old ≡ p.n) }
-    ensures { turn_left result.number result.desc (became file) (became marks) ≡ turn_layout p (was file) (layout_marks p (was file)) }
+    ensures { turn_left result.number result.desc file.new marks.new ≡ turn_layout p file.old (layout_marks p file.old) }
 {
     if !layout::inspect(p, file, marks) {
         return Turned {
@@ -78,7 +77,7 @@ fn turn_closed(p: Description, file: &mut [u32], marks: &mut [u8]) -> Turned
 
 // Turns the file of a session with these parameters, open or not.
 pub fn turn(p: Description, opened: bool, file: &mut [u32], marks: &mut [u8]) -> Turned
-    ensures { turn_left result.number result.desc (became file) (became marks) ≡ turning p opened (was file) (was marks) }
+    ensures { turn_left result.number result.desc file.new marks.new ≡ turning p opened file.old marks.old }
 {
     if !is_sized(p, file.len(), marks.len()) {
         return Turned {

@@ -4,7 +4,6 @@ ghost use Rattle.table.specs.Tables.{block_in};
 ghost use Rattle.drum.specs.Params.{master_shape};
 ghost use Rattle.drum.specs.Blocks.{sections};
 ghost use Rattle.layout.specs.Turned.{index_marked, index_unmarked};
-ghost use Rattle.words.specs.Slices.{was, became};
 ghost use Rattle.layout.specs.Inspected.{Fit};
 ghost use Rattle.turn.specs.Fits.{TurnFits, open_mark};
 
@@ -20,7 +19,7 @@ pub const INDEX: u8 = 3;
 // The block that entry i of the master names.
 fn named(p: Description, f: &[u32], i: usize) -> usize
     requires { Fit p f.now × (sections f.now ≤ p.control) × (i < sections f.now) }
-    ensures { result ≡ block_in (master_shape p) (was f) i }
+    ensures { result ≡ block_in (master_shape p) f.now i }
 {
     words::word_at(f, 3 + i * (p.k + 1) + p.k)
 }
@@ -28,7 +27,7 @@ fn named(p: Description, f: &[u32], i: usize) -> usize
 // Gives each index block its mark.
 pub fn mark_indexes(p: Description, f: &[u32], marks: &mut [u8])
     requires { TurnFits p f.now marks.old }
-    ensures { became marks ≡ index_marked p (was f) (sections (was f)) (was marks) }
+    ensures { marks.new ≡ index_marked p f.now (sections f.now) marks.old }
 {
     let n = words::word_at(f, 0);
     let mut i = 0;
@@ -51,7 +50,7 @@ fn open_mark(m: u8) -> u8
 
 // Gives each block OPEN's mark again.
 pub fn restore(marks: &mut [u8])
-    ensures { became marks ≡ index_unmarked (was marks) }
+    ensures { marks.new ≡ index_unmarked marks.old }
 {
     let mut i = 0;
     while i < marks.len() {

@@ -4,7 +4,6 @@
 ghost use Rattle.std.specs.Prelude.{◌≡◌, ◌+◌, ◌≤◌, ◌<◌, length, get_or, set};
 ghost use Rattle.words.specs.Words.{part, put, zeros, all_are, all_words};
 ghost use Rattle.words.specs.Keys.{order, key_lt, same_key};
-ghost use Rattle.words.specs.Slices.{was, became};
 
 // How one key stands to another.
 #[derive(Clone, Copy)]
@@ -17,7 +16,7 @@ pub enum Order {
 // Writes the n words of src from word `from` on over those of dst from word `at` on.
 pub fn copy_words(dst: &mut [u32], at: usize, src: &[u32], from: usize, n: usize)
     requires { (at + n ≤ length dst.old) × (from + n ≤ length src.now) }
-    ensures { became dst ≡ put (was dst) at (part from n (was src)) }
+    ensures { dst.new ≡ put dst.old at (part from n src.now) }
 {
     let mut i = 0;
     while i < n {
@@ -29,7 +28,7 @@ pub fn copy_words(dst: &mut [u32], at: usize, src: &[u32], from: usize, n: usize
 // Writes zeros over the n words of t from word `at` on.
 pub fn zero_words(t: &mut [u32], at: usize, n: usize)
     requires { at + n ≤ length t.old }
-    ensures { became t ≡ put (was t) at (zeros n) }
+    ensures { t.new ≡ put t.old at (zeros n) }
 {
     let mut i = 0;
     while i < n {
@@ -41,7 +40,7 @@ pub fn zero_words(t: &mut [u32], at: usize, n: usize)
 // Moves n words of t from word `from` on to word `to` on, the last one first: for a move upwards.
 pub fn move_up(t: &mut [u32], from: usize, to: usize, n: usize)
     requires { (from ≤ to) × (to + n ≤ length t.old) }
-    ensures { became t ≡ put (was t) to (part from n (was t)) }
+    ensures { t.new ≡ put t.old to (part from n t.old) }
 {
     let mut i = n;
     while 0 < i {
@@ -53,7 +52,7 @@ pub fn move_up(t: &mut [u32], from: usize, to: usize, n: usize)
 // Moves n words of t from word `from` on to word `to` on, the first one first: for a move downwards.
 pub fn move_down(t: &mut [u32], from: usize, to: usize, n: usize)
     requires { (to ≤ from) × (from + n ≤ length t.old) }
-    ensures { became t ≡ put (was t) to (part from n (was t)) }
+    ensures { t.new ≡ put t.old to (part from n t.old) }
 {
     let mut i = 0;
     while i < n {
@@ -65,7 +64,7 @@ pub fn move_down(t: &mut [u32], from: usize, to: usize, n: usize)
 // How the key of k words at word i of a stands to the one at word j of b.
 pub fn compare_keys(a: &[u32], i: usize, b: &[u32], j: usize, k: usize) -> Order
     requires { (i + k ≤ length a.now) × (j + k ≤ length b.now) }
-    ensures { result ≡ order (part i k (was a)) (part j k (was b)) }
+    ensures { result ≡ order (part i k a.now) (part j k b.now) }
 {
     let mut m = 0;
     while m < k {
@@ -85,7 +84,7 @@ pub fn compare_keys(a: &[u32], i: usize, b: &[u32], j: usize, k: usize) -> Order
 // Whether the key of k words at word i of a is below the one at word j of b.
 pub fn key_below(a: &[u32], i: usize, b: &[u32], j: usize, k: usize) -> bool
     requires { (i + k ≤ length a.now) × (j + k ≤ length b.now) }
-    ensures { result ≡ key_lt (part i k (was a)) (part j k (was b)) }
+    ensures { result ≡ key_lt (part i k a.now) (part j k b.now) }
 {
     let o = compare_keys(a, i, b, j, k);
     match o {
@@ -98,7 +97,7 @@ pub fn key_below(a: &[u32], i: usize, b: &[u32], j: usize, k: usize) -> bool
 // Whether the key of k words at word i of a is the one at word j of b.
 pub fn same_key(a: &[u32], i: usize, b: &[u32], j: usize, k: usize) -> bool
     requires { (i + k ≤ length a.now) × (j + k ≤ length b.now) }
-    ensures { result ≡ same_key (part i k (was a)) (part j k (was b)) }
+    ensures { result ≡ same_key (part i k a.now) (part j k b.now) }
 {
     let o = compare_keys(a, i, b, j, k);
     match o {
@@ -111,7 +110,7 @@ pub fn same_key(a: &[u32], i: usize, b: &[u32], j: usize, k: usize) -> bool
 // Whether each of the n words of t from word a on is x.
 pub fn all_are(t: &[u32], a: usize, n: usize, x: u32) -> bool
     requires { a + n ≤ length t.now }
-    ensures { result ≡ all_are x (part a n (was t)) }
+    ensures { result ≡ all_are x (part a n t.now) }
 {
     let mut i = 0;
     while i < n {
@@ -126,7 +125,7 @@ pub fn all_are(t: &[u32], a: usize, n: usize, x: u32) -> bool
 // Whether none of the n words of t from word a on is above 262143.
 pub fn all_words(t: &[u32], a: usize, n: usize) -> bool
     requires { a + n ≤ length t.now }
-    ensures { result ≡ all_words (part a n (was t)) }
+    ensures { result ≡ all_words (part a n t.now) }
 {
     let mut i = 0;
     while i < n {
@@ -141,7 +140,7 @@ pub fn all_words(t: &[u32], a: usize, n: usize) -> bool
 // The word of t at word i, as a number to count or to reach a place with.
 pub fn word_at(t: &[u32], i: usize) -> usize
     requires { i < length t.now }
-    ensures { result ≡ get_or (was t) i 0 }
+    ensures { result ≡ get_or t.now i 0 }
 {
     t[i] as usize
 }
@@ -149,7 +148,7 @@ pub fn word_at(t: &[u32], i: usize) -> usize
 // Writes a number as the word of t at word i.
 pub fn put_word(t: &mut [u32], i: usize, x: usize)
     requires { (i < length t.old) × (x ≤ 262143) }
-    ensures { became t ≡ set (was t) i x }
+    ensures { t.new ≡ set t.old i x }
 {
     t[i] = x as u32;
 }

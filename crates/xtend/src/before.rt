@@ -3,7 +3,6 @@
 ghost use Rattle.std.specs.Prelude.{◌≡◌, ◌&&◌, ◌-◌, ◌≤◌, length};
 ghost use Rattle.words.specs.Words.{part};
 ghost use Rattle.words.specs.Keys.{key_lt};
-ghost use Rattle.words.specs.Slices.{was};
 ghost use Rattle.table.specs.Tables.{count, key_at};
 ghost use Rattle.drum.specs.Params.{detail_shape};
 ghost use Rattle.drum.specs.Blocks.{Fitting};
@@ -24,7 +23,7 @@ use table::Want;
 // Whether the entry of the path q is the one just before that of w: in its index block, or the last of the section before.
 fn just_before<'a>(at: Held, file: &'a [u32], buffer: &'a [u32], q: Path, w: Path) -> bool
     requires { Fitting at.desc file.now buffer.now × PathFits (seen_by at file.now buffer.now) q }
-    ensures { result ≡ just_before (seen_by at (was file) (was buffer)) q w }
+    ensures { result ≡ just_before (seen_by at file.now buffer.now) q w }
 {
     if w.entry != 0 {
         if q.section != w.section {
@@ -42,7 +41,7 @@ fn just_before<'a>(at: Held, file: &'a [u32], buffer: &'a [u32], q: Path, w: Pat
 // Whether the last key of a detail block's text is below the key.
 fn ends_below(p: Description, t: &[u32], key: &[u32]) -> bool
     requires { RecordsIn p t.now 1 × (p.k ≤ length key.now) }
-    ensures { result ≡ key_lt (key_at (detail_shape p) (was t) (count (detail_shape p) (was t) - 1)) (part 0 p.k (was key)) }
+    ensures { result ≡ key_lt (key_at (detail_shape p) t.now (count (detail_shape p) t.now - 1)) (part 0 p.k key.now) }
 {
     let n = drum::kinds::records_in(p, t);
     words::key_below(t, 1 + (n - 1) * p.wpr, key, 0, p.k)
@@ -60,7 +59,7 @@ fn not_behind<'a>(
     requires { Fitting at.desc file.now buffer.now
         × (at.desc.k ≤ length key.now)
         × PathFits (seen_by at file.now buffer.now) q }
-    ensures { result ≡ not_behind (seen_by at (was file) (was buffer)) (part 0 at.desc.k (was key)) w q }
+    ensures { result ≡ not_behind (seen_by at file.now buffer.now) (part 0 at.desc.k key.now) w q }
 {
     let p = at.desc;
     let t = drum::text_of(p, at.current, file, buffer, q.detail);
@@ -131,7 +130,7 @@ pub fn look_deed<'a>(
     w: Path,
 ) -> Extend
     requires { Fitting at.desc file.now buffer.now × (at.desc.k ≤ length key.now) }
-    ensures { as_extend result ≡ look_deed (seen_by at (was file) (was buffer)) at.flag (part 0 at.desc.k (was key)) way w }
+    ensures { as_extend result ≡ look_deed (seen_by at file.now buffer.now) at.flag (part 0 at.desc.k key.now) way w }
 {
     let Route::To(q) = lookup::path_by(at, file, buffer, Which::Covering, Which::Covering, key)
     else {

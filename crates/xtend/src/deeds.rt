@@ -7,7 +7,6 @@ ghost use Rattle.rules.specs.XtendDone.{extend_done};
 ghost use Rattle.acts.specs.Reach.{seen_by};
 ghost use Rattle.xtend.specs.Fits.{EndIn, LastTakes, StartFits, NewFits, SectionFits, ExtendFits};
 ghost use Rattle.xtend.specs.Steps.{besides, lead, led, room_done, swapped, started_file, new_all, new_left, section_all, section_left};
-ghost use Rattle.words.specs.Slices.{was, became};
 
 use super::index::{extend_in, start_section};
 use drum::Description;
@@ -101,7 +100,7 @@ fn swap_end(
     old: usize,
 )
     requires { EndIn p file.old buffer.old work.now × Block p b × Block p old }
-    ensures { became file ≡ swapped p b old (was work) (was buffer) (was file) }
+    ensures { file.new ≡ swapped p b old work.now buffer.old file.old }
 {
     let wpr = p.wpr;
     let h = p.detail_shape();
@@ -118,8 +117,8 @@ fn start_block(at: Held, file: &mut [u32], buffer: &mut [u32], work: &[u32], s: 
     requires { Fitting at.desc file.old buffer.old
         × (length work.now ≡ at.desc.wpr)
         × StartFits (seen_by at file.old buffer.old) at.flag s }
-    ensures { (result ≡ length (reached (seen_by at (was file) (was buffer)) at.flag s.way).moves)
-        × (became file ≡ started_file (seen_by at (was file) (was buffer)) at.flag s (was work)) }
+    ensures { (result ≡ length (reached (seen_by at file.old buffer.old) at.flag s.way).moves)
+        × (file.new ≡ started_file (seen_by at file.old buffer.old) at.flag s work.now) }
 {
     let way = s.way;
     let w = s.path;
@@ -134,8 +133,8 @@ fn write_new(at: Held, file: &mut [u32], buffer: &mut [u32], work: &[u32], s: St
     requires { Fitting at.desc file.old buffer.old
         × (length work.now ≡ at.desc.wpr)
         × NewFits (seen_by at file.old buffer.old) at.flag s }
-    ensures { (result ≡ length (new_all (seen_by at (was file) (was buffer)) at.flag s (was work)))
-        × (became file ≡ new_left (seen_by at (was file) (was buffer)) at.flag s (was work)) }
+    ensures { (result ≡ length (new_all (seen_by at file.old buffer.old) at.flag s work.now))
+        × (file.new ≡ new_left (seen_by at file.old buffer.old) at.flag s work.now) }
 {
     let w = s.path;
     let d = s.new;
@@ -156,8 +155,8 @@ fn write_both(
     requires { Fitting at.desc file.old buffer.old
         × (length work.now ≡ at.desc.wpr)
         × SectionFits (seen_by at file.old buffer.old) at.flag s x }
-    ensures { (result ≡ length (section_all (seen_by at (was file) (was buffer)) at.flag s x (was work)))
-        × (became file ≡ section_left (seen_by at (was file) (was buffer)) at.flag s x (was work)) }
+    ensures { (result ≡ length (section_all (seen_by at file.old buffer.old) at.flag s x work.now))
+        × (file.new ≡ section_left (seen_by at file.old buffer.old) at.flag s x work.now) }
 {
     let w = s.path;
     let d = s.new;

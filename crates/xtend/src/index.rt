@@ -8,7 +8,6 @@ ghost use Rattle.drum.specs.Blocks.{block_at, put_block};
 ghost use Rattle.rules.specs.XtendDone.{bounded, extended};
 ghost use Rattle.xtend.specs.Fits.{LastIn, LastRoomIn, IndexTakes, SectionIn};
 ghost use Rattle.xtend.specs.Steps.{indexed, sectioned};
-ghost use Rattle.words.specs.Slices.{was, became};
 
 use drum::Description;
 use table::Shape;
@@ -26,7 +25,7 @@ fn ones_entry(k: usize, b: usize) -> [u32; 64]
 // The last bound of a table of entries becomes the key.
 fn set_bound(p: Description, h: Shape, t: &mut [u32], key: &[u32])
     requires { LastIn p h t.old key.now }
-    ensures { became t ≡ bounded h (part 0 p.k (was key)) (was t) }
+    ensures { t.new ≡ bounded h (part 0 p.k key.now) t.old }
 {
     let last = table::count_of(h, t) - 1;
     table::replace_row(h, t, last, key, 0, p.k);
@@ -35,7 +34,7 @@ fn set_bound(p: Description, h: Shape, t: &mut [u32], key: &[u32])
 // The last bound becomes the key, and an entry with the bound ONES for block b is put in behind it.
 fn extend(p: Description, h: Shape, t: &mut [u32], key: &[u32], b: usize)
     requires { LastRoomIn p h t.old key.now b }
-    ensures { became t ≡ extended p h (part 0 p.k (was key)) b (was t) }
+    ensures { t.new ≡ extended p h (part 0 p.k key.now) b t.old }
 {
     let entry = ones_entry(p.k, b);
     let n = table::count_of(h, t);
@@ -46,8 +45,8 @@ fn extend(p: Description, h: Shape, t: &mut [u32], key: &[u32], b: usize)
 // The last bound of index block i becomes the key, where it lies in the file.
 fn bound_in(p: Description, file: &mut [u32], i: usize, key: &[u32])
     requires { IndexTakes p file.old i key.now }
-    ensures { became file
-        ≡ put_block p (was file) i (bounded (index_shape p) (part 0 p.k (was key)) (block_at p (was file) i)) }
+    ensures { file.new
+        ≡ put_block p file.old i (bounded (index_shape p) (part 0 p.k key.now) (block_at p file.old i)) }
 {
     let n = drum::inside::entries_of(p, file, i);
     drum::inside::set_key_in(p, file, i, p.index_shape(), n - 1, key);
@@ -56,8 +55,8 @@ fn bound_in(p: Description, file: &mut [u32], i: usize, key: &[u32])
 // The same, and an entry with the bound ONES for block b is put in behind it.
 pub fn extend_in(p: Description, file: &mut [u32], i: usize, key: &[u32], b: usize)
     requires { IndexTakes p file.old i key.now × (count (index_shape p) (block_at p file.old i) < I p) × (b ≤ p.n) }
-    ensures { became file
-        ≡ put_block p (was file) i (extended p (index_shape p) (part 0 p.k (was key)) b (block_at p (was file) i)) }
+    ensures { file.new
+        ≡ put_block p file.old i (extended p (index_shape p) (part 0 p.k key.now) b (block_at p file.old i)) }
 {
     let entry = ones_entry(p.k, b);
     let n = drum::inside::entries_of(p, file, i);
@@ -68,7 +67,7 @@ pub fn extend_in(p: Description, file: &mut [u32], i: usize, key: &[u32], b: usi
 // The entry for block b starts index block x, after index block i.
 fn start_index(p: Description, file: &mut [u32], key: &[u32], i: usize, b: usize, x: usize)
     requires { SectionIn p file.old i key.now b x }
-    ensures { became file ≡ indexed p (part 0 p.k (was key)) i b x (was file) }
+    ensures { file.new ≡ indexed p (part 0 p.k key.now) i b x file.old }
 {
     let entry = ones_entry(p.k, b);
     let end = p.k + 1;
@@ -80,7 +79,7 @@ fn start_index(p: Description, file: &mut [u32], key: &[u32], i: usize, b: usize
 // The same, and index block x starts a section.
 pub fn start_section(p: Description, file: &mut [u32], key: &[u32], i: usize, b: usize, x: usize)
     requires { SectionIn p file.old i key.now b x }
-    ensures { became file ≡ sectioned p (part 0 p.k (was key)) i b x (was file) }
+    ensures { file.new ≡ sectioned p (part 0 p.k key.now) i b x file.old }
 {
     start_index(p, file, key, i, b, x);
     extend(p, p.master_shape(), file, key, x);

@@ -12,7 +12,6 @@ ghost use Rattle.lookup.specs.Answers.{as_route};
 ghost use Rattle.acts.specs.Reach.{seen_by};
 ghost use Rattle.xtend.specs.Answers.{as_last};
 ghost use Rattle.xtend.specs.Fits.{AtFits, RecordsIn};
-ghost use Rattle.words.specs.Slices.{was};
 
 use drum::Description;
 use lookup::{Route, Test};
@@ -28,7 +27,7 @@ pub enum Last {
 // Whether the last record of a detail block's text has the key ONES.
 fn ends_in_ones(p: Description, t: &[u32]) -> bool
     requires { RecordsIn p t.now 1 }
-    ensures { result ≡ ends_in_ones p (was t) }
+    ensures { result ≡ ends_in_ones p t.now }
 {
     let n = drum::kinds::records_in(p, t);
     words::all_are(t, 1 + (n - 1) * p.wpr, p.k, 262143)
@@ -37,7 +36,7 @@ fn ends_in_ones(p: Description, t: &[u32]) -> bool
 // Whether the key is above the highest ordinary key of a detail block's text, that of the record before the end record.
 pub fn is_above(p: Description, t: &[u32], key: &[u32]) -> bool
     requires { RecordsIn p t.now 2 × (p.k ≤ length key.now) }
-    ensures { result ≡ key_lt (key_at (detail_shape p) (was t) (count (detail_shape p) (was t) - 2)) (part 0 p.k (was key)) }
+    ensures { result ≡ key_lt (key_at (detail_shape p) t.now (count (detail_shape p) t.now - 2)) (part 0 p.k key.now) }
 {
     let n = drum::kinds::records_in(p, t);
     words::key_below(t, 1 + (n - 2) * p.wpr, key, 0, p.k)
@@ -46,7 +45,7 @@ pub fn is_above(p: Description, t: &[u32], key: &[u32]) -> bool
 // The path by the last entries. It asks no key: the buffer's words stand for one.
 fn last_path<'a>(at: Held, file: &'a [u32], buffer: &'a [u32]) -> Route
     requires { Fitting at.desc file.now buffer.now }
-    ensures { as_route result ≡ last_path (seen_by at (was file) (was buffer)) }
+    ensures { as_route result ≡ last_path (seen_by at file.now buffer.now) }
 {
     lookup::path_by(at, file, buffer, Which::Last, Which::Last, buffer)
 }
@@ -54,7 +53,7 @@ fn last_path<'a>(at: Held, file: &'a [u32], buffer: &'a [u32]) -> Route
 // The way to the last block by way of the master.
 fn last_outside<'a>(at: Held, file: &'a [u32], buffer: &'a [u32]) -> Last
     requires { Fitting at.desc file.now buffer.now }
-    ensures { as_last result ≡ last_outside (seen_by at (was file) (was buffer)) at.flag }
+    ensures { as_last result ≡ last_outside (seen_by at file.now buffer.now) at.flag }
 {
     let route = last_path(at, file, buffer);
     match route {
@@ -75,7 +74,7 @@ fn last_outside<'a>(at: Held, file: &'a [u32], buffer: &'a [u32]) -> Last
 // The way to the last block: it may be buffered.
 pub fn last_way<'a>(at: Held, file: &'a [u32], buffer: &'a [u32]) -> Last
     requires { Fitting at.desc file.now buffer.now }
-    ensures { as_last result ≡ last_way (seen_by at (was file) (was buffer)) at.flag }
+    ensures { as_last result ≡ last_way (seen_by at file.now buffer.now) at.flag }
 {
     let held = lookup::on_buffer(at.desc, at.current, buffer);
     match held {
@@ -93,7 +92,7 @@ pub fn last_way<'a>(at: Held, file: &'a [u32], buffer: &'a [u32]) -> Last
 // The path to the buffered block, if the last entries name it.
 fn last_here<'a>(at: Held, file: &'a [u32], buffer: &'a [u32]) -> Route
     requires { Fitting at.desc file.now buffer.now }
-    ensures { as_route result ≡ last_of (seen_by at (was file) (was buffer)) Way.Here }
+    ensures { as_route result ≡ last_of (seen_by at file.now buffer.now) Way.Here }
 {
     let route = last_path(at, file, buffer);
     match route {
@@ -110,7 +109,7 @@ fn last_here<'a>(at: Held, file: &'a [u32], buffer: &'a [u32]) -> Route
 // The path to the last block, which this way led to.
 pub fn last_of<'a>(at: Held, file: &'a [u32], buffer: &'a [u32], way: Way) -> Route
     requires { Fitting at.desc file.now buffer.now }
-    ensures { as_route result ≡ last_of (seen_by at (was file) (was buffer)) way }
+    ensures { as_route result ≡ last_of (seen_by at file.now buffer.now) way }
 {
     match way {
         Way::Here => last_here(at, file, buffer),
@@ -121,7 +120,7 @@ pub fn last_of<'a>(at: Held, file: &'a [u32], buffer: &'a [u32], way: Way) -> Ro
 // The current text of the block at the end of the way.
 pub fn text_at<'a>(at: Held, file: &'a [u32], buffer: &'a [u32], way: Way) -> &'a [u32]
     requires { Fitting at.desc file.now buffer.now × AtFits (seen_by at file.now buffer.now) way }
-    ensures { result.now ≡ text_at (seen_by at (was file) (was buffer)) way }
+    ensures { result.now ≡ text_at (seen_by at file.now buffer.now) way }
 {
     match way {
         Way::Here => buffer,
@@ -132,7 +131,7 @@ pub fn text_at<'a>(at: Held, file: &'a [u32], buffer: &'a [u32], way: Way) -> &'
 // How many records it holds.
 pub fn count_at<'a>(at: Held, file: &'a [u32], buffer: &'a [u32], way: Way) -> usize
     requires { Fitting at.desc file.now buffer.now × AtFits (seen_by at file.now buffer.now) way }
-    ensures { result ≡ count (detail_shape at.desc) (text_at (seen_by at (was file) (was buffer)) way) }
+    ensures { result ≡ count (detail_shape at.desc) (text_at (seen_by at file.now buffer.now) way) }
 {
     let t = text_at(at, file, buffer, way);
     drum::kinds::records_in(at.desc, t)

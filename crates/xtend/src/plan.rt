@@ -7,7 +7,6 @@ ghost use Rattle.rules.specs.Xtend.{last_room, not_above_before, alone_deed, sta
 ghost use Rattle.acts.specs.Reach.{seen_by};
 ghost use Rattle.xtend.specs.Answers.{as_extend};
 ghost use Rattle.xtend.specs.Fits.{AtFits};
-ghost use Rattle.words.specs.Slices.{was};
 
 use super::before::look_deed;
 use super::last::{Last, count_at, is_above, last_of, last_way, text_at};
@@ -19,7 +18,7 @@ use rules::{Extend, Held, Path, Way};
 // The last block takes the record: x is the index block that was read for it, or 0.
 fn last_room<'a>(at: Held, file: &'a [u32], buffer: &'a [u32], way: Way, x: usize) -> Extend
     requires { Fitting at.desc file.now buffer.now × AtFits (seen_by at file.now buffer.now) way }
-    ensures { as_extend result ≡ last_room (seen_by at (was file) (was buffer)) way x }
+    ensures { as_extend result ≡ last_room (seen_by at file.now buffer.now) way x }
 {
     let n = count_at(at, file, buffer, way);
     let head = words::word_at(file, 1);
@@ -34,7 +33,7 @@ fn not_above_before<'a>(at: Held, file: &'a [u32], buffer: &'a [u32], key: &[u32
     requires { Fitting at.desc file.now buffer.now
         × (at.desc.k ≤ length key.now)
         × PathFits (seen_by at file.now buffer.now) w }
-    ensures { result ≡ not_above_before (seen_by at (was file) (was buffer)) (part 0 at.desc.k (was key)) w }
+    ensures { result ≡ not_above_before (seen_by at file.now buffer.now) (part 0 at.desc.k key.now) w }
 {
     let k = at.desc.k;
     if w.entry == 0 {
@@ -52,7 +51,7 @@ fn alone_deed<'a>(at: Held, file: &'a [u32], buffer: &'a [u32], key: &[u32], way
     requires { Fitting at.desc file.now buffer.now
         × (at.desc.k ≤ length key.now)
         × AtFits (seen_by at file.now buffer.now) way }
-    ensures { as_extend result ≡ alone_deed (seen_by at (was file) (was buffer)) at.flag (part 0 at.desc.k (was key)) way }
+    ensures { as_extend result ≡ alone_deed (seen_by at file.now buffer.now) at.flag (part 0 at.desc.k key.now) way }
 {
     let Route::To(w) = last_of(at, file, buffer, way) else {
         return Extend::Bad;
@@ -73,7 +72,7 @@ fn start_deed<'a>(
     n: usize,
 ) -> Extend
     requires { Fitting at.desc file.now buffer.now }
-    ensures { as_extend result ≡ start_deed (seen_by at (was file) (was buffer)) at.flag way w n }
+    ensures { as_extend result ≡ start_deed (seen_by at file.now buffer.now) at.flag way w n }
 {
     let Grant::Got(d) = free::take_one(at, file, buffer, w) else {
         return Extend::Bad;
@@ -97,7 +96,7 @@ fn section_deed<'a>(
     n: usize,
 ) -> Extend
     requires { Fitting at.desc file.now buffer.now }
-    ensures { as_extend result ≡ section_deed (seen_by at (was file) (was buffer)) at.flag way w n }
+    ensures { as_extend result ≡ section_deed (seen_by at file.now buffer.now) at.flag way w n }
 {
     let Grants::Got(t) = free::take_two(at, file, buffer, w) else {
         return Extend::Bad;
@@ -115,7 +114,7 @@ fn section_deed<'a>(
 // Which of the two it is: the index block takes one more entry, or not.
 fn new_at<'a>(at: Held, file: &'a [u32], buffer: &'a [u32], way: Way, w: Path, n: usize) -> Extend
     requires { Fitting at.desc file.now buffer.now × PathFits (seen_by at file.now buffer.now) w }
-    ensures { as_extend result ≡ new_at (seen_by at (was file) (was buffer)) at.flag way w n }
+    ensures { as_extend result ≡ new_at (seen_by at file.now buffer.now) at.flag way w n }
 {
     let t = drum::text_of(at.desc, at.current, file, buffer, w.index);
     if drum::kinds::entries_in(at.desc, t) < at.desc.fi() {
@@ -127,7 +126,7 @@ fn new_at<'a>(at: Held, file: &'a [u32], buffer: &'a [u32], way: Way, w: Path, n
 // The last block takes no more: its path, and then the new block.
 fn new_deed<'a>(at: Held, file: &'a [u32], buffer: &'a [u32], way: Way) -> Extend
     requires { Fitting at.desc file.now buffer.now × AtFits (seen_by at file.now buffer.now) way }
-    ensures { as_extend result ≡ new_deed (seen_by at (was file) (was buffer)) at.flag way }
+    ensures { as_extend result ≡ new_deed (seen_by at file.now buffer.now) at.flag way }
 {
     let n = count_at(at, file, buffer, way);
     let Route::To(w) = last_of(at, file, buffer, way) else {
@@ -141,7 +140,7 @@ fn extend_at<'a>(at: Held, file: &'a [u32], buffer: &'a [u32], key: &[u32], way:
     requires { Fitting at.desc file.now buffer.now
         × (at.desc.k ≤ length key.now)
         × AtFits (seen_by at file.now buffer.now) way }
-    ensures { as_extend result ≡ extend_at (seen_by at (was file) (was buffer)) at.flag (part 0 at.desc.k (was key)) way }
+    ensures { as_extend result ≡ extend_at (seen_by at file.now buffer.now) at.flag (part 0 at.desc.k key.now) way }
 {
     let n = count_at(at, file, buffer, way);
     if n == 1 {
@@ -160,7 +159,7 @@ fn extend_at<'a>(at: Held, file: &'a [u32], buffer: &'a [u32], key: &[u32], way:
 // What XTEND will do.
 pub fn plan_xtend<'a>(at: Held, file: &'a [u32], buffer: &'a [u32], key: &[u32]) -> Extend
     requires { Fitting at.desc file.now buffer.now × (at.desc.k ≤ length key.now) }
-    ensures { as_extend result ≡ extend_deed (seen_by at (was file) (was buffer)) at.flag (part 0 at.desc.k (was key)) }
+    ensures { as_extend result ≡ extend_deed (seen_by at file.now buffer.now) at.flag (part 0 at.desc.k key.now) }
 {
     let Last::At(way) = last_way(at, file, buffer) else {
         return Extend::Bad;
