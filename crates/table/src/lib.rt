@@ -1,6 +1,7 @@
 // Tables in slices of words: rows of `stride` words from word `base` on, each beginning with a key of `width` words, their count in
 // word 0 after the tag of their kind. Master, index block and detail block are such tables, so one function serves all three.
 #![tactic(auto)]
+
 ghost use Rattle.std.specs.Prelude.{◌≡◌, ◌+◌, ◌*◌, ◌≤◌, ◌<◌, length};
 ghost use Rattle.words.specs.Words.{part};
 ghost use Rattle.table.specs.declared.Want.TheVariants.{Equal};
