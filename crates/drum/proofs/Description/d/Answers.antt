@@ -11,3 +11,7 @@ returns-then-wpr-eq0 c = rw (c.if-wpr-eq0.true, div-zero)
 pub returns-then-wpb-eq0 : goal.returns-then-wpb-eq0
 unfolding D
 returns-then-wpb-eq0 c = rw (c.if-wpb-eq0.true, zero-div)
+
+pub returns : goal.returns
+unfolding D
+returns c = search rules

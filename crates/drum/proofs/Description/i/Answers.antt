@@ -11,3 +11,7 @@ unfolding I
 returns-then-wpb-k c =
     let h : c.args.self.wpb - 1 < c.args.self.k + 1 = omega arith in
     rw (div-eq_of_lt h)
+
+pub returns : goal.returns
+unfolding I
+returns c = search rules

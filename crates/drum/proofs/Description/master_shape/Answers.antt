@@ -9,3 +9,7 @@ pub overflow_add-result : goal.overflow_add-result
 overflow_add-result c =
     let g = caps _ c.requires in
     omega arith
+
+pub returns : goal.returns
+unfolding master_shape
+returns c = search rules

@@ -11,3 +11,7 @@ overflow_add-result c = omega (arith, inside-word)
 
 pub overflow_add-result-2 : goal.overflow_add-result-2
 overflow_add-result-2 c = omega (arith, inside-word)
+
+pub returns : goal.returns
+unfolding word_of
+returns c = search

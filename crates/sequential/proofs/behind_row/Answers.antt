@@ -1,0 +1,7 @@
+use Rattle.sequential.specs.Rows.{behind}
+use borrow.Author.Rules.{rules}
+use Rattle.sequential.proofs.behind_row.Goals as goal
+
+pub returns : goal.returns
+unfolding behind
+returns c = search
