@@ -15,26 +15,7 @@ use Rattle.table.proofs.Differs.{other_word, told_below, told-other}
 use Rattle.table.proofs.Turns.{RowAt, Passed, shaped, row-next-at, key-inside, word-inside, word_fits, word-scaled, row_fits}
 use Rattle.table.proofs.Turns.{told-inside, told-fits, told-scaled, found-any, found-same, found_none}
 use Rattle.table.proofs.same_row.Goals as goal
-
--- after a row that is passed: which word to look at, what the key has there, and that the row is not wanted
-passed : (c : tie.Joined2 invariant-loop decreases-loop) → let a = c.before.before.before.before.before.before.before.before.args in (c.if2.m < a.h.width)
-    × (c.if2.word ≡ get_or a.key.now (a.at + c.if2.m) 0)
-    × (fits Equal (shaped a.h.base a.h.stride a.h.width) (part a.at a.h.width a.key.now) a.t.now c.before.before.before.loop.i
-    ≡ false)
-unfolding fits key_at
-passed c =
-    let a = c.before.before.before.before.before.before.before.before.args in
-    let l = c.before.before.before.loop in
-    let e = l.invariant.0.here in
-    ⊎_elim
-    (λ x.
-    let b = told_below a.t.now l.row a.key.now a.at a.h.width _ x.1.ensures x.2.left in
-    let o = told-other a.t.now l.row a.key.now a.at a.h.width _ x.1.ensures x.2.left in
-    (rw x.4 b, x.5 ∙ ap (λ (m : ℕ). get_or a.key.now (a.at + m) 0) (sym x.4), rw e at o))
-    (λ x.
-    let o = other_word a.t.now l.row a.key.now a.at a.h.width l.m l.invariant.1 (λ q. x.0.left (q ∙ sym l.invariant.2)) in
-    (rw x.1 l.invariant.1, x.2 ∙ l.invariant.2 ∙ ap (λ (m : ℕ). get_or a.key.now (a.at + m) 0) (sym x.1), rw e at o))
-    c.if2.branch
+use Rattle.table.proofs.same_row.Goals.{then-t-row+else-m-width, else-t-row}
 
 pub returns-then-width-eq0 : goal.returns-then-width-eq0
 returns-then-width-eq0 c = search found-any
@@ -70,7 +51,24 @@ pub overflow_add-row-in-loop-i : goal.overflow_add-row-in-loop-i
 overflow_add-row-in-loop-i c = search (row_fits, c.loop-i.invariant.0, c.loop-i-test.true)
 
 pub loop-i-preserved : goal.loop-i-preserved
-loop-i-preserved c = (search row-next-at, (passed c).0, (passed c).1, below_more _ _ c.loop-i.invariant.3 (passed c).2)
+unfolding fits key_at
+loop-i-preserved c =
+    let a = c.args in
+    let l = c.loop-i in
+    let e = l.invariant.0.here in
+    -- after a row that is passed: which word to look at, what the key has there, and that the row is not wanted
+    let passed : (c.if-t-row.m < a.h.width) × (c.if-t-row.word ≡ get_or a.key.now (a.at + c.if-t-row.m) 0)
+        × (fits Equal (shaped a.h.base a.h.stride a.h.width) (part a.at a.h.width a.key.now) a.t.now l.i ≡ false) =
+        elim c.if-t-row.branch [
+        then-t-row+else-m-width w ↦
+        let b = told_below a.t.now l.row a.key.now a.at a.h.width _ w.same_words-m.ensures w.if-m-width.false in
+        let o = told-other a.t.now l.row a.key.now a.at a.h.width _ w.same_words-m.ensures w.if-m-width.false in
+        (rw w.m-is b, w.word-is ∙ ap (λ (m : ℕ). get_or a.key.now (a.at + m) 0) (sym w.m-is), rw e at o)
+        | else-t-row w ↦
+        let o = other_word a.t.now l.row a.key.now a.at a.h.width l.m l.invariant.1 (λ q. w.if-t-row.false (q ∙ sym l.invariant.2)) in
+        (rw w.m-is l.invariant.1, w.word-is ∙ l.invariant.2 ∙ ap (λ (m : ℕ). get_or a.key.now (a.at + m) 0) (sym w.m-is), rw e at o) ]
+    in
+    (search row-next-at, passed.0, passed.1, below_more _ _ l.invariant.3 passed.2)
 
 pub returns : goal.returns
 returns c = search found_none
