@@ -8,7 +8,7 @@ use Rattle.capi.proofs.session.put_session.Goals as goal
 
 -- the position is an array of 63 words
 pub copy_words-requires : goal.copy_words-requires
-copy_words-requires c = search rules in omega arith
+copy_words-requires c = let h : length c.args.s.position ≡ 63 = search rules in omega arith
 
 pub bounds-words-7 : goal.bounds-words-7
 bounds-words-7 c = simp length-set (omega arith)

@@ -1,26 +1,26 @@
 -- The parameters are tested first; after that the file has a size.
 use mathlib.Core.Path.{◌≡◌, sym, ◌∙◌}
 use borrow.Author.Tests.{eq-eqb, ne_eqb, not-true, not-false}
-use mathlib.Core.Bool.{true, and-true}
+use mathlib.Core.Bool.{Bool, true, and-true}
 use Rattle.drum.specs.Params.{good_params, sized, every}
 use borrow.Author.Rules.{rules}
 use Rattle.drum.proofs.Description.is_sized.Goals as goal
 
 -- past the first test the parameters are good
-kept : (c : tie.Else1) → good_params c.before.before.args.self ≡ true
-kept c = sym c.before.is-good.ensures ∙ not-false _ c.if1.false
+kept : {a b : Bool} → a ≡ b → a ≡ true → b ≡ true
+kept e h = sym e ∙ h
 
 pub returns-then-not-is_good : goal.returns-then-not-is_good
 unfolding sized every
-returns-then-not-is_good c = simp (← c.is_good.ensures, not-true c.is_good.result c.if-not-is_good.true)
+returns-then-not-is_good c = simp (← c.is_good.ensures, c.if-not-is_good.true)
 
 pub file_words-requires : goal.file_words-requires
-file_words-requires c = kept c
+file_words-requires c = kept c.is_good.ensures c.if-not-is_good.false
 
 pub returns-then-file-file_words : goal.returns-then-file-file_words
 unfolding sized every
-returns-then-file-file_words c = simp (kept (c), ← c.file_words.ensures, ne_eqb _ _ c.if-file-file_words.true)
+returns-then-file-file_words c = simp (kept c.is_good.ensures c.if-not-is_good.false, ← c.file_words.ensures, ne_eqb _ _ c.if-file-file_words.true)
 
 pub returns : goal.returns
 unfolding sized every
-returns c = simp (kept (c), ← c.file_words.ensures, eq-eqb _ _ c.if-file-file_words.false, and-true)
+returns c = simp (kept c.is_good.ensures c.if-not-is_good.false, ← c.file_words.ensures, eq-eqb _ _ c.if-file-file_words.false, and-true)

@@ -9,7 +9,7 @@ use Rattle.faults.proofs.first.first_fault.Goals as goal
 
 pub returns-then-not-is_good : goal.returns-then-not-is_good
 unfolding first_fault
-returns-then-not-is_good c = rw (c.in-Given.is, ← c.is_good.ensures, not-true c.is_good.result c.if-not-is_good.true) c.range_fault.ensures
+returns-then-not-is_good c = rw (c.in-Given.is, ← c.is_good.ensures, c.if-not-is_good.true) c.range_fault.ensures
 
 pub returns-in-Nothing : goal.returns-in-Nothing
 unfolding first_fault

@@ -23,4 +23,4 @@ loop-i-preserved c =
     (omega arith, l.invariant.1, l.invariant.2 ∙ name-next _ _ _ l.i (omega arith) (omega arith) (omega arith) c.if-name-i.false)
 
 pub returns : goal.returns
-returns c = omega arith in sym (c.loop-i.invariant.2 ∙ rw e (name_done _ _ _))
+returns c = let e : c.args.n - c.loop-i.i ≡ 0 = omega arith in sym (c.loop-i.invariant.2 ∙ rw e (name_done _ _ _))

@@ -1,3 +1,4 @@
+use Rattle.std.proofs.lemmas.Bool.{not_from_true}
 use native.Mathlib.Omega.{arith}
 use Rattle.sequential.proofs.Spots.{get-size, get-fine, get-wrong, get_none, get-past, get-reading, get-least, get_from}
 use borrow.Author.Rules.{rules}
@@ -17,7 +18,7 @@ returns-then-left-eq0 c = search get_none
 
 pub nonzero_div-file : goal.nonzero_div-file
 nonzero_div-file c =
-    let b = get-least _ _ _ _ c.is_sized.ensures c.if-not-is_sized.false in
+    let b = get-least _ _ _ _ c.is_sized.ensures (not_from_true _ c.if-not-is_sized.false) in
     omega arith
 
 pub returns-then-file-l : goal.returns-then-file-l

@@ -1,3 +1,4 @@
+use Rattle.std.proofs.lemmas.Bool.{not_from_true}
 use native.Mathlib.Omega.{arith}
 use Rattle.sequential.proofs.Spots.{put-size, get-leaders, put-empty, put-none, put-large, put-past, put-block, put_full, put-found}
 use borrow.Author.Rules.{rules}
@@ -7,7 +8,7 @@ pub returns-then-not-is_sized : goal.returns-then-not-is_sized
 returns-then-not-is_sized c = search put-size
 
 pub overflow_sub-area : goal.overflow_sub-area
-overflow_sub-area c = get-leaders _ _ _ _ c.is_sized.ensures c.if-not-is_sized.false in omega arith
+overflow_sub-area c = let b = get-leaders _ _ _ _ c.is_sized.ensures (not_from_true _ c.if-not-is_sized.false) in omega arith
 
 pub returns-then-work-eq0 : goal.returns-then-work-eq0
 returns-then-work-eq0 c = search put-empty

@@ -8,7 +8,7 @@ pub ones_entry-entry-requires : goal.ones_entry-entry-requires
 ones_entry-entry-requires c = (omega (arith, key-most), omega (arith, number-most))
 
 pub insert_in-requires : goal.insert_in-requires
-insert_in-requires c = search }, search bound-takes, search entry-most)
+insert_in-requires c = (record { good = search; file-is = omega arith; least = search; most = search }, search bound-takes, search entry-most)
 
 pub returns : goal.returns
 returns c = search extended-told

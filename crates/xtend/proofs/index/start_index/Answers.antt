@@ -15,7 +15,8 @@ pub slice_bounds-lay_block-end : goal.slice_bounds-lay_block-end
 slice_bounds-lay_block-end c = omega (arith, key-few)
 
 pub lay_block-requires : goal.lay_block-requires
-lay_block-requires c = search }, search entry-small, omega (arith, index-shaped))
+lay_block-requires c =
+    (record { good = search; file-is = omega arith; least = search; most = search }, search entry-small, omega (arith, index-shaped))
 
 pub returns : goal.returns
 returns c = search indexed-by
