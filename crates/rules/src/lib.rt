@@ -2,6 +2,7 @@
 // what each call that changes the file will do.
 
 #![tactic(auto)]
+
 ghost use Rattle.std.specs.Prelude.{◌≡◌, false};
 
 use drum::Description;

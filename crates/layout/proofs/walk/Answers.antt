@@ -30,7 +30,7 @@ pub returns-then-p-lowest : goal.returns-then-p-lowest
 returns-then-p-lowest c = search layout-high
 
 pub walk_on-requires : goal.walk_on-requires
-walk_on-requires c = ((search, omega arith), search)
+walk_on-requires c = record { fit = (search, omega arith); marks_value = search }
 
 pub returns : goal.returns
 returns c = search layout-on

@@ -13,7 +13,7 @@ pub loop-left-init : goal.loop-left-init
 loop-left-init c = (search, search, search, refl)
 
 pub detail_held-requires : goal.detail_held-requires
-detail_held-requires c = (search, (search, search, search row_inside))
+detail_held-requires c = record { fit = search; marks_len = (search, search, search row_inside) }
 
 pub returns-then-not-detail_held : goal.returns-then-not-detail_held
 returns-then-not-detail_held c = search through-stop

@@ -21,7 +21,7 @@ pub returns-then-not-same_key : goal.returns-then-not-same_key
 returns-then-not-same_key c = search index-bound
 
 pub details_held-requires : goal.details_held-requires
-details_held-requires c = (search, (omega arith, omega arith, omega arith))
+details_held-requires c = record { fit = search; marks_len = (omega arith, omega arith, omega arith) }
 
 pub returns : goal.returns
 returns c = search index-entries

@@ -13,7 +13,7 @@ pub loop-left-init : goal.loop-left-init
 loop-left-init c = (search, search first_key, search, refl)
 
 pub index_held-requires : goal.index_held-requires
-index_held-requires c = (search, (search, search, search row_inside))
+index_held-requires c = record { fit = search; marks_len = (search, search, search row_inside) }
 
 pub returns-then-not-index_held : goal.returns-then-not-index_held
 returns-then-not-index_held c = search through-stop

@@ -13,8 +13,7 @@ pub returns-then-self : goal.returns-then-self
 returns-then-self c = search open_twice
 
 pub inspect-requires : goal.inspect-requires
-inspect-requires c = (search (inspect-fit, c.is_fitting.ensures, c.if-not-is_fitting.false), search)
-
+inspect-requires c = record { fit = search (inspect-fit, c.is_fitting.ensures, c.if-not-is_fitting.false); marks_len = search }
 pub returns-then-not-inspect : goal.returns-then-not-inspect
 returns-then-not-inspect c = search open-bad
 

@@ -8,7 +8,6 @@ pub returns-then-number-ne0 : goal.returns-then-number-ne0
 returns-then-number-ne0 c = search turn-refused
 
 pub kept-requires : goal.kept-requires
-kept-requires c = (search name-fits, search rules)
-
+kept-requires c = record { state_fits = search name-fits; to_bound = search rules }
 pub returns : goal.returns
 returns c = search turn-passed
