@@ -1,5 +1,6 @@
 // What the calls do once they are planned: a flagged buffer written, blocks brought and reached, a record given, the master's free words set.
 #![tactic(auto)]
+
 ghost use Rattle.std.specs.Prelude.{◌≡◌, true, false, ◌+◌, ◌≤◌, length, []};
 ghost use Rattle.table.specs.Tables.{place, row};
 ghost use Rattle.drum.specs.Params.{detail_shape};

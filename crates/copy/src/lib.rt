@@ -1,5 +1,6 @@
 // The copying call: a file into a second one with another CONTROL. Nothing is written before the sizes, the session and the file are found right.
 #![tactic(auto)]
+
 ghost use Rattle.std.specs.Prelude.{◌≡◌, true, ◌&&◌, ◌++◌, ◌-◌, ◌≤◌, eqb, length};
 ghost use Rattle.words.specs.Words.{part, put, zeros};
 ghost use Rattle.drum.specs.Params.{good_params, master_size, file_size};

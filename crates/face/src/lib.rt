@@ -1,5 +1,6 @@
 // What every face of the routine shares: what is refused before the steps of a call that is lent a workspace.
 #![tactic(auto)]
+
 ghost use Rattle.std.specs.Prelude.{◌≡◌, true, ◌≤◌};
 ghost use Rattle.drum.specs.Params.{good_params};
 ghost use Rattle.face.specs.Checks.{refusing, plain_checks, keyed_checks};

@@ -1,6 +1,7 @@
 // What a call looks at before it stores anything: ways to blocks, and where a key is. Every number on the way is checked, in current
 // texts; the places come back beside the block numbers.
 #![tactic(auto)]
+
 ghost use Rattle.std.specs.Prelude.{◌≡◌, true, [], ◌+◌, ◌≤◌, ◌<◌, length};
 ghost use Rattle.numbers.specs.Checked.{passed};
 ghost use Rattle.words.specs.Words.{part};

@@ -23,7 +23,7 @@ pub mod XtendDone
 -- Runs of calls, and the printed session.
 pub mod Requests
 pub mod Run
--- Not needed to read the rules: what the promises of the code below the session are written with.
-pub mod Code
-pub use Code.Fits
-pub use Code.Told
+-- Not needed to read the rules: what the code below the session is promised and given, that is the form of its promises, and what a way that
+-- passed its checks tells. No definition of a call rests on these.
+pub mod Fits
+pub mod Told

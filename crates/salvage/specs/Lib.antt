@@ -1,3 +1,3 @@
-pub mod Met
+pub mod Meeting
 pub mod Salvage
 pub mod Promise

@@ -8,7 +8,7 @@ pub returns-then-not-at : goal.returns-then-not-at
 returns-then-not-at c = (search unflagged-count, search unflagged-file)
 
 pub write_block-requires : goal.write_block-requires
-write_block-requires c = (search, c.requires.1 c.if-not-at.false)
+write_block-requires c = (search, c.requires.1 (not-false _ c.if-not-at.false))
 
 pub returns : goal.returns
 returns c = (search flagged-count, search flagged-file)

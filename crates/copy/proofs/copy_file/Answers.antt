@@ -11,6 +11,7 @@ returns-then-opened c = search way-already
 
 pub inspect-requires : goal.inspect-requires
 inspect-requires c = record { fit = search way-fit; marks_len = search way-marks }
+
 pub returns-then-not-inspect : goal.returns-then-not-inspect
 returns-then-not-inspect c = search way-bad
 

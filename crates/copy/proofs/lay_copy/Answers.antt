@@ -5,6 +5,7 @@ use Rattle.copy.proofs.lay_copy.Goals as goal
 
 pub entries_end-used-requires : goal.entries_end-used-requires
 entries_end-used-requires c = record { fit = search copy-fit; file_bound = search rules }
+
 pub lay_master-requires : goal.lay_master-requires
 lay_master-requires c = (search master-within, search master-lies, search master-from)
 

@@ -11,7 +11,7 @@ use Rattle.lines.proofs.Reading.with_byte.Goals as goal
 pub returns-then-not-self : goal.returns-then-not-self
 returns-then-not-self c =
     let s = c.args in
-    word-other s.self s.b s.self.number c.if-not-self.true (stays-other s.self.number s.self.value s.b c.if-not-self.true)
+    word-other s.self s.b s.self.number (not-true _ c.if-not-self.true) (stays-other s.self.number s.self.value s.b (not-true _ c.if-not-self.true))
 
 pub returns-then-not-is_digit : goal.returns-then-not-is_digit
 returns-then-not-is_digit c =
@@ -29,4 +29,4 @@ returns-then-value-gt4294967295 c =
 pub returns : goal.returns
 returns c =
     let s = c.args in
-    word-digit s.self s.b s.self.number _ c.if-not-self.false (λ j. c.long.ensures j * 10 + (c.wide.ensures j - 48)) (stays-number s.self.number s.self.value s.b c.if-not-self.false (sym c.is_digit.ensures ∙ c.if-not-is_digit.false) (omega arith))
+    word-digit s.self s.b s.self.number _ (not-false _ c.if-not-self.false) (λ j. c.long.ensures j * 10 + (c.wide.ensures j - 48)) (stays-number s.self.number s.self.value s.b (not-false _ c.if-not-self.false) (sym c.is_digit.ensures ∙ c.if-not-is_digit.false) (omega arith))
