@@ -57,7 +57,7 @@ pub fn do_adv(s: Step, at: Held, file: &mut [u32], buffer: &mut [u32], work: &mu
     requires { Fitting at.desc file.old buffer.old
         × (length work.old ≡ at.desc.wpr)
         × StepFits (seen_by at file.old buffer.old) at.flag s }
-    ensures { FollowsAt result (λ v flag work. adv_done v flag s) at file buffer work }
+    ensures { FollowsAt result (λ v flag work. adv_done v flag s) at (file.old, file.new) (buffer.old, buffer.new) (work.old, work.new) }
 {
     match s {
         Step::Bad => Done::refused(BAD_FILE, at.current, at.flag),

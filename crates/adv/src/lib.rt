@@ -26,7 +26,8 @@ pub fn adv(
     requires { Fitting at.desc file.old buffer.old
         × (length work.old ≡ at.desc.wpr)
         × (at.desc.k ≤ length position.now) }
-    ensures { FollowsAt result (λ v flag work. adv_steps v flag placed (part 0 at.desc.k position.now)) at file buffer work }
+    ensures { FollowsAt result (λ v flag work. adv_steps v flag placed (part 0 at.desc.k position.now)) at
+        (file.old, file.new) (buffer.old, buffer.new) (work.old, work.new) }
 {
     let s = plan::plan_adv(at, file, buffer, placed, position);
     deeds::do_adv(s, at, file, buffer, work)

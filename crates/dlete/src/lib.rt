@@ -22,7 +22,7 @@ pub fn dlete(
     work: &[u32],
 ) -> Done
     requires { Fitting p file.old buffer.old × (length work.now ≡ p.wpr) }
-    ensures { Follows result dlete_steps p current flag file buffer work }
+    ensures { Follows result dlete_steps p current flag (file.old, file.new) (buffer.old, buffer.new) (work.now, work.now) }
 {
     let deed = plan::plan_dlete(p, current, flag, file, buffer, work);
     let at = Held {

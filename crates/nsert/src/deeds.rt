@@ -74,7 +74,7 @@ pub fn do_nsert(deed: Insert, at: Held, file: &mut [u32], buffer: &mut [u32], wo
     requires { Fitting at.desc file.old buffer.old
         × (length work.now ≡ at.desc.wpr)
         × InsertFits (seen at.desc at.current file.old buffer.old) at.flag deed }
-    ensures { FollowsAt result (λ v flag work. insert_done v flag work deed) at file buffer work }
+    ensures { FollowsAt result (λ v flag work. insert_done v flag work deed) at (file.old, file.new) (buffer.old, buffer.new) (work.now, work.now) }
 {
     let p = at.desc;
     match deed {

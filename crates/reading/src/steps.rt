@@ -40,7 +40,7 @@ fn act_seek(l: Look, at: Held, file: &[u32], buffer: &mut [u32], work: &mut [u32
     requires { Fitting at.desc file.now buffer.old
         × (length work.old ≡ at.desc.wpr)
         × LookFits (seen_by at file.now buffer.old) false l }
-    ensures { Follows result (λ v flag work. seek_done v flag work l) at.desc at.current false file buffer work }
+    ensures { Follows result (λ v flag work. seek_done v flag work l) at.desc at.current false (file.now, file.now) (buffer.old, buffer.new) (work.old, work.new) }
 {
     match l {
         Look::Bad => Done::refused(BAD_FILE, at.current, false),
@@ -71,7 +71,7 @@ fn act_seek(l: Look, at: Held, file: &[u32], buffer: &mut [u32], work: &mut [u32
 // SEEK.
 pub fn seek(at: Held, file: &[u32], buffer: &mut [u32], work: &mut [u32]) -> Done
     requires { Fitting at.desc file.now buffer.old × (length work.old ≡ at.desc.wpr) }
-    ensures { Follows result seek_steps at.desc at.current false file buffer work }
+    ensures { Follows result seek_steps at.desc at.current false (file.now, file.now) (buffer.old, buffer.new) (work.old, work.new) }
 {
     let l = lookup::look(at.desc, at.current, false, file, buffer, work);
     act_seek(l, at, file, buffer, work)
@@ -82,7 +82,7 @@ fn act_adv(s: Step, at: Held, file: &[u32], buffer: &mut [u32], work: &mut [u32]
     requires { Fitting at.desc file.now buffer.old
         × (length work.old ≡ at.desc.wpr)
         × StepFits (seen_by at file.now buffer.old) false s }
-    ensures { Follows result (λ v flag work. adv_done v flag s) at.desc at.current false file buffer work }
+    ensures { Follows result (λ v flag work. adv_done v flag s) at.desc at.current false (file.now, file.now) (buffer.old, buffer.new) (work.old, work.new) }
 {
     match s {
         Step::Bad => Done::refused(BAD_FILE, at.current, false),
@@ -116,7 +116,7 @@ pub fn adv(
         × (length work.old ≡ at.desc.wpr)
         × (at.desc.k ≤ length position.now) }
     ensures { Follows result (λ v flag work. adv_steps v flag placed (part 0 at.desc.k position.now))
-        at.desc at.current false file buffer work }
+        at.desc at.current false (file.now, file.now) (buffer.old, buffer.new) (work.old, work.new) }
 {
     let s = adv::plan_adv(at, file, buffer, placed, position);
     act_adv(s, at, file, buffer, work)

@@ -1,5 +1,6 @@
 // SEEK and UPDAT, once the session and the workspace are checked.
 #![tactic(auto)]
+
 ghost use Rattle.std.specs.Prelude.{◌≡◌, length};
 ghost use Rattle.drum.specs.Blocks.{Fitting};
 ghost use Rattle.rules.specs.Fits.{LookFits};
@@ -16,7 +17,7 @@ fn act_seek(l: Look, at: Held, file: &mut [u32], buffer: &mut [u32], work: &mut 
     requires { Fitting at.desc file.old buffer.old
         × (length work.old ≡ at.desc.wpr)
         × LookFits (seen_by at file.old buffer.old) at.flag l }
-    ensures { FollowsAt result (λ v flag work. seek_done v flag work l) at file buffer work }
+    ensures { FollowsAt result (λ v flag work. seek_done v flag work l) at (file.old, file.new) (buffer.old, buffer.new) (work.old, work.new) }
 {
     match l {
         Look::Bad => Done::refused(BAD_FILE, at.current, at.flag),
@@ -45,7 +46,7 @@ pub fn seek(
     work: &mut [u32],
 ) -> Done
     requires { Fitting p file.old buffer.old × (length work.old ≡ p.wpr) }
-    ensures { Follows result seek_steps p current flag file buffer work }
+    ensures { Follows result seek_steps p current flag (file.old, file.new) (buffer.old, buffer.new) (work.old, work.new) }
 {
     let l = lookup::look(p, current, flag, file, buffer, work);
     let at = Held {
@@ -61,7 +62,7 @@ fn act_updat(l: Look, at: Held, file: &mut [u32], buffer: &mut [u32], work: &[u3
     requires { Fitting at.desc file.old buffer.old
         × (length work.now ≡ at.desc.wpr)
         × LookFits (seen_by at file.old buffer.old) at.flag l }
-    ensures { FollowsAt result (λ v flag work. updat_done v flag work l) at file buffer work }
+    ensures { FollowsAt result (λ v flag work. updat_done v flag work l) at (file.old, file.new) (buffer.old, buffer.new) (work.now, work.now) }
 {
     match l {
         Look::Bad => Done::refused(BAD_FILE, at.current, at.flag),
@@ -91,7 +92,7 @@ pub fn updat(
     work: &[u32],
 ) -> Done
     requires { Fitting p file.old buffer.old × (length work.now ≡ p.wpr) }
-    ensures { Follows result updat_steps p current flag file buffer work }
+    ensures { Follows result updat_steps p current flag (file.old, file.new) (buffer.old, buffer.new) (work.now, work.now) }
 {
     let l = lookup::look(p, current, flag, file, buffer, work);
     let at = Held {

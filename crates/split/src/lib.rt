@@ -1,6 +1,7 @@
 // A full table split in two, and an entry that becomes two in the table above: detail block and index block, index block and master,
 // alike.
 #![tactic(auto)]
+
 ghost use Rattle.std.specs.Prelude.{◌≡◌, [], ◌∷◌, ◌++◌, ◌+◌, ◌-◌, ◌≤◌, ◌<◌, length};
 ghost use Rattle.words.specs.Words.{part};
 ghost use Rattle.table.specs.Tables.{place, replaced, laid};

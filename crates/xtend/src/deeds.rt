@@ -75,7 +75,7 @@ fn store_last(
     requires { Fitting at.desc file.old buffer.old
         × (length work.now ≡ at.desc.wpr)
         × LastTakes (seen_by at file.old buffer.old) at.flag way }
-    ensures { FollowsAt result (λ v flag work. room_done v flag work way number) at file buffer work }
+    ensures { FollowsAt result (λ v flag work. room_done v flag work way number) at (file.old, file.new) (buffer.old, buffer.new) (work.now, work.now) }
 {
     let p = at.desc;
     let here = acts::reach(at, file, buffer, way);
@@ -170,7 +170,7 @@ pub fn do_xtend(deed: Extend, at: Held, file: &mut [u32], buffer: &mut [u32], wo
     requires { Fitting at.desc file.old buffer.old
         × (length work.now ≡ at.desc.wpr)
         × ExtendFits (seen_by at file.old buffer.old) at.flag deed }
-    ensures { FollowsAt result (λ v flag work. extend_done v flag work deed) at file buffer work }
+    ensures { FollowsAt result (λ v flag work. extend_done v flag work deed) at (file.old, file.new) (buffer.old, buffer.new) (work.now, work.now) }
 {
     let p = at.desc;
     match deed {

@@ -25,7 +25,7 @@ pub fn xtend(
     work: &[u32],
 ) -> Done
     requires { Fitting p file.old buffer.old × (length work.now ≡ p.wpr) }
-    ensures { Follows result xtend_steps p current flag file buffer work }
+    ensures { Follows result xtend_steps p current flag (file.old, file.new) (buffer.old, buffer.new) (work.now, work.now) }
 {
     let at = Held {
         desc: p,

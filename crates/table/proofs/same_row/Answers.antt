@@ -58,15 +58,16 @@ loop-i-preserved c =
     let e = l.invariant.0.here in
     -- after a row that is passed: which word to look at, what the key has there, and that the row is not wanted
     let passed : (c.if-t-row.m < a.h.width) × (c.if-t-row.word ≡ get_or a.key.now (a.at + c.if-t-row.m) 0)
-        × (fits Equal (shaped a.h.base a.h.stride a.h.width) (part a.at a.h.width a.key.now) a.t.now l.i ≡ false) =
-        elim c.if-t-row.branch [
-        then-t-row+else-m-width w ↦
-        let b = told_below a.t.now l.row a.key.now a.at a.h.width _ w.same_words-m.ensures w.if-m-width.false in
-        let o = told-other a.t.now l.row a.key.now a.at a.h.width _ w.same_words-m.ensures w.if-m-width.false in
-        (rw w.m-is b, w.word-is ∙ ap (λ (m : ℕ). get_or a.key.now (a.at + m) 0) (sym w.m-is), rw e at o)
-        | else-t-row w ↦
-        let o = other_word a.t.now l.row a.key.now a.at a.h.width l.m l.invariant.1 (λ q. w.if-t-row.false (q ∙ sym l.invariant.2)) in
-        (rw w.m-is l.invariant.1, w.word-is ∙ l.invariant.2 ∙ ap (λ (m : ℕ). get_or a.key.now (a.at + m) 0) (sym w.m-is), rw e at o) ]
+    × (fits Equal (shaped a.h.base a.h.stride a.h.width) (part a.at a.h.width a.key.now) a.t.now l.i ≡ false) =
+    elim c.if-t-row.branch [
+      | then-t-row+else-m-width w ↦
+          let b = told_below a.t.now l.row a.key.now a.at a.h.width _ w.same_words-m.ensures w.if-m-width.false in
+          let o = told-other a.t.now l.row a.key.now a.at a.h.width _ w.same_words-m.ensures w.if-m-width.false in
+          (rw w.m-is b, w.word-is ∙ ap (λ (m : ℕ). get_or a.key.now (a.at + m) 0) (sym w.m-is), rw e at o)
+      | else-t-row w ↦
+          let o = other_word a.t.now l.row a.key.now a.at a.h.width l.m l.invariant.1 (λ q. w.if-t-row.false (q ∙ sym l.invariant.2)) in
+          (rw w.m-is l.invariant.1, w.word-is ∙ l.invariant.2 ∙ ap (λ (m : ℕ). get_or a.key.now (a.at + m) 0) (sym w.m-is), rw e at o)
+    ]
     in
     (search row-next-at, passed.0, passed.1, below_more _ _ l.invariant.3 passed.2)
 

@@ -18,8 +18,7 @@ pub returns-then-y-x : goal.returns-then-y-x
 returns-then-y-x c = sym (c.loop-m.invariant.1 ∙ order-above _ _ _ _ _ _ (omega arith) (omega arith) (omega arith) c.if-y-x.true)
 
 pub loop-m-preserved : goal.loop-m-preserved
-loop-m-preserved c =
-    (
+loop-m-preserved c = (
   omega arith,
   c.loop-m.invariant.1 ∙ order-next _ _ _ _ _ _ (omega arith) (omega arith) (omega arith) c.if-x-y.false c.if-y-x.false,
 )

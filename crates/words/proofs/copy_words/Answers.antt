@@ -13,8 +13,7 @@ loop-i-init c = (omega arith, rw (part_none, put-none), refl)
 
 pub loop-i-preserved : goal.loop-i-preserved
 loop-i-preserved c =
-    let l = c.loop-i in
-    (
+    let l = c.loop-i in (
       omega arith,
       copy-turn _ _ _ _ _ _ l.invariant.1 (omega arith) (omega arith),
       simp length-set (omega arith),
