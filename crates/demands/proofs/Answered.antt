@@ -68,8 +68,8 @@ module _ (st : State) (ss : List Section) (f : Free) (h : Sound st ss f) where
       is = with-is p.k w a (omega arith) kr
 
       go : SeekRight (lending w st) ss f → Sought w (with_key p (key_in p w) rows) (answer st (seeking w))
-      go (inl (e, g, z)) = subst (λ (x : List (List ℕ)). Sought w x (answer st (seeking w))) (sym (is ∙ e)) (g.number_is, z)
-      go (inr (y, e, g, z)) = subst (λ (x : List (List ℕ)). Sought w x (answer st (seeking w))) (sym (is ∙ e)) (refl, g.number_is, z)
+      go (inl (e, g, z)) = subst (λ (x : List (List ℕ)). Sought w x (answer st (seeking w))) (sym (is ∙ e)) (g.number-is, z)
+      go (inr (y, e, g, z)) = subst (λ (x : List (List ℕ)). Sought w x (answer st (seeking w))) (sym (is ∙ e)) (refl, g.number-is, z)
 
   updat-answers : (w : List ℕ) → Keyed st p.wpr w → Met (with_key p (key_in p w) rows) (answer st (updating w))
   unfolding answer lending
@@ -79,8 +79,8 @@ module _ (st : State) (ss : List Section) (f : Free) (h : Sound st ss f) where
       is = with-is p.wpr w a kr (omega arith)
 
       go : UpdatRight (lending w st) ss f → Met (with_key p (key_in p w) rows) (answer st (updating w))
-      go (inl (e, g)) = subst (λ (x : List (List ℕ)). Met x (answer st (updating w))) (sym (is ∙ e)) g.number_is
-      go (inr (y, e, ss', f', g, c, d)) = subst (λ (x : List (List ℕ)). Met x (answer st (updating w))) (sym (is ∙ e)) g.number_is
+      go (inl (e, g)) = subst (λ (x : List (List ℕ)). Met x (answer st (updating w))) (sym (is ∙ e)) g.number-is
+      go (inr (y, e, ss', f', g, c, d)) = subst (λ (x : List (List ℕ)). Met x (answer st (updating w))) (sym (is ∙ e)) g.number-is
 
   dlete-answers : (w : List ℕ) → Keyed st p.k w → Met (with_key p (key_in p w) rows) (answer st (deleting w))
   unfolding answer lending
@@ -90,8 +90,8 @@ module _ (st : State) (ss : List Section) (f : Free) (h : Sound st ss f) where
       is = with-is p.k w a (omega arith) kr
 
       go : DleteRight (lending w st) ss f → Met (with_key p (key_in p w) rows) (answer st (deleting w))
-      go (inl (e, g)) = subst (λ (x : List (List ℕ)). Met x (answer st (deleting w))) (sym (is ∙ e)) g.number_is
-      go (inr (y, e, ss', f', g, c)) = subst (λ (x : List (List ℕ)). Met x (answer st (deleting w))) (sym (is ∙ e)) g.number_is
+      go (inl (e, g)) = subst (λ (x : List (List ℕ)). Met x (answer st (deleting w))) (sym (is ∙ e)) g.number-is
+      go (inr (y, e, ss', f', g, c)) = subst (λ (x : List (List ℕ)). Met x (answer st (deleting w))) (sym (is ∙ e)) g.number-is
 
   nsert-answers : (w : List ℕ) → Keyed st p.wpr w → Inserted (with_key p (key_in p w) rows) (answer st (inserting w))
   unfolding answer lending
@@ -108,15 +108,15 @@ module _ (st : State) (ss : List Section) (f : Free) (h : Sound st ss f) where
       new e = subst (λ (x : List (List ℕ)). Inserted x (answer st (inserting w))) (sym (is ∙ e))
 
       go : Nserted (lending w st) ss f → Inserted (with_key p (key_in p w) rows) (answer st (inserting w))
-      go (duplicate y e g) = subst (λ (x : List (List ℕ)). Inserted x (answer st (inserting w))) (sym (is ∙ e)) g.number_is
-      go (no_room_lem e a i l m g) = new e (inr (inr g.number_is))
+      go (duplicate y e g) = subst (λ (x : List (List ℕ)). Inserted x (answer st (inserting w))) (sym (is ∙ e)) g.number-is
+      go (no_room_lem e a i l m g) = new e (inr (inr g.number-is))
       go (room e a i l g) =
-          new e (in_two (answer st (inserting w)).number (stored_one p (length a.leaf.records + 1) f (answer st (inserting w)).number g.number_is))
+          new e (in_two (answer st (inserting w)).number (stored_one p (length a.leaf.records + 1) f (answer st (inserting w)).number g.number-is))
       go (split e a i l m s k q g) =
-          new e (in_two (answer st (inserting w)).number (stored_one p (half_count (D p) k) (taken f) (answer st (inserting w)).number g.number_is))
+          new e (in_two (answer st (inserting w)).number (stored_one p (half_count (D p) k) (taken f) (answer st (inserting w)).number g.number-is))
       go (both e a i l m s c k q g) =
           new e
-          (in_two (answer st (inserting w)).number (stored_one p (half_count (D p) k) (taken (taken f)) (answer st (inserting w)).number g.number_is))
+          (in_two (answer st (inserting w)).number (stored_one p (half_count (D p) k) (taken (taken f)) (answer st (inserting w)).number g.number-is))
 
   extend-answers : (w : List ℕ) → Keyed st p.wpr w
       → Extended (ordinary p (records_from p (key_in p w) rows)) (answer st (extending w))
@@ -160,10 +160,10 @@ module _ (st : State) (ss : List Section) (f : Free) (h : Sound st ss f) where
               absurd (omega (arith, top, s.1.0, asc-le K (suc (K d)) ds _ s.1.1, h.kept.holds.top))
 
           by : (t : Bool) → is_ones (key_in p r) ≡ t → Advanced p (ordinary p (r ∷ cs)) (answer st (advancing w))
-          by false o = rw o (g.number_is ∙ ap (λ (t : Bool). cond t at_end done) o, z)
+          by false o = rw o (g.number-is ∙ ap (λ (t : Bool). cond t at_end done) o, z)
           by true o =
               let q : (cs ≡ []) × (r ≡ end_record p) = ends o cs refl in
-              rw (o, q.0) (g.number_is ∙ ap (λ (t : Bool). cond t at_end done) o, z ∙ q.1)
+              rw (o, q.0) (g.number-is ∙ ap (λ (t : Bool). cond t at_end done) o, z ∙ q.1)
 
   answered : Answered st rows
   answered = record { seek = seek-answers; adv = adv-answers; nsert = nsert-answers; dlete = dlete-answers; updat = updat-answers; xtend = extend-answers }

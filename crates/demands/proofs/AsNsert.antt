@@ -62,7 +62,7 @@ sound-as st ss f h w ask b =
     let z = xtend-right (lending w st) ss f r in
     let c = called (lending w st) ss f r b z.0 z.1 in
     record {
-      number = c.number_is;
+      number = c.number-is;
       after = c.after_is;
       transfers = λ way e. c.more-is ∙ ap (λ (y : Way). length (nsert (lending w st)).transfers + besides y)
           (one_way (last_way (texts st) st.session.flag) z.0.way way z.0.way-is e);

@@ -239,7 +239,7 @@ module _ (st : State) (ss : List Section) (f : Free) where
         → m ≤ share q → Stepped st ss f q
     unfolding lending
     none-step q w n m g a l =
-        step-calm st ss f q g.sound g.desc-is (calm st ss f q (ap accepted g.number_is ∙ a)) (omega (arith, g.most-is))
+        step-calm st ss f q g.sound g.desc-is (calm st ss f q (ap accepted g.number-is ∙ a)) (omega (arith, g.most-is))
 
     -- NSERT and XTEND put in a record whose key was not there
     put_step : (q : Request) (w : List ℕ) → event_of (desc st) q (answer st q) ≡ cond (accepted (answer st q).number) (history.stored w ∷ []) []
@@ -259,7 +259,7 @@ module _ (st : State) (ss : List Section) (f : Free) where
         = subst (λ (z : Description). Asc (key z.k) 0 (records_in (leaves_in ss')) (reach z.k 0 (leaves_in ss'))) g.desc-is
         (asc-rows (desc (answer st q).after) _ _ ss' f' g.sound.kept.holds) in
         let none : hit K (K w) rows ≡ [] = ins-fresh K 0 w rows end (subst (λ (z : List (List ℕ)). Asc K 0 z end) g.contents-is asc) in
-        let ok : accepted (answer st q).number ≡ true = ap accepted g.number_is ∙ a in
+        let ok : accepted (answer st q).number ≡ true = ap accepted g.number-is ∙ a in
         step-stored st ss f q ss' f' g.sound g.desc-is w (e ∙ ap (λ (t : Bool). cond t (history.stored w ∷ []) []) ok)
         (g.contents-is ∙ ins-upd K (K w) _ rows (asc-rows (desc st) _ _ ss f h.kept.holds)
         (omega (arith, work-key (desc st) w, k.below, h.kept.holds.top)) w refl none)
@@ -274,7 +274,7 @@ module _ (st : State) (ss : List Section) (f : Free) where
         go : UpdatRight (lending w st) ss f → Stepped st ss f (updating w)
         go (inl (e, g)) = none-step (updating w) w not_found 3 g refl (omega arith)
         go (inr (y, e, ss', f', g, mv, fl)) =
-            step-stored st ss f (updating w) ss' f' g.sound g.desc-is w (ap (λ (m : ℕ). cond (accepted m) (history.stored w ∷ []) []) g.number_is)
+            step-stored st ss f (updating w) ss' f' g.sound g.desc-is w (ap (λ (m : ℕ). cond (accepted m) (history.stored w ∷ []) []) g.number-is)
             g.contents-is
             (ready-key w (desc st).wpr key_fits (omega arith) r) nothing g.grows refl tt g.most-is mv (λ e. fl)
 
@@ -288,10 +288,10 @@ module _ (st : State) (ss : List Section) (f : Free) where
         go (inl (e, g)) = none-step (deleting w) w not_found 3 g refl (omega arith)
         go (inr (y, e, ss', f', g, mv)) =
             step-removed st ss f (deleting w) ss' f' g.sound g.desc-is (key_in (desc st) w)
-            (ap (λ (m : ℕ). cond (eqb m done) (history.removed (key_in (desc st) w) ∷ []) []) g.number_is) g.contents-is
+            (ap (λ (m : ℕ). cond (eqb m done) (history.removed (key_in (desc st) w) ∷ []) []) g.number-is) g.contents-is
             (ready-key w (desc st).k (omega arith) key_fits r) g.grows refl tt g.most-is
-            (subst (λ (n : ℕ). Deletes (eqb n done) (tree_in ss f) (tree_in ss' f')) (sym g.number_is) mv)
-            (disturbed _ (accepts (answer st (deleting w)) true (ap accepted g.number_is)))
+            (subst (λ (n : ℕ). Deletes (eqb n done) (tree_in ss f) (tree_in ss' f')) (sym g.number-is) mv)
+            (disturbed _ (accepts (answer st (deleting w)) true (ap accepted g.number-is)))
 
     nsert-step : (w : List ℕ) → Gate (lending w st) ss f (lent-sound w st ss f h) (desc st).wpr → Stepped st ss f (inserting w)
     unfolding answer lending nsert share event_of disturbs

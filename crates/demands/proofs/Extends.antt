@@ -102,8 +102,8 @@ module _ (st : State) (ss : List Section) (f : Free) (r : Ready (desc st).wpr st
     Sequence = (((xtend st).number ≡ out_of_sequence) × (not_below st ss ≡ [] → ⊥)) ⊎ (not_below st ss ≡ [])
 
     pub sequence : Xtended st ss f L → Sequence
-    sequence (too-low fr y e l g) = inl (g.number_is, not-below fr y e l)
-    sequence (too-low-alone e l hs g) = inl (g.number_is, hs)
+    sequence (too-low fr y e l g) = inl (g.number-is, not-below fr y e l)
+    sequence (too-low-alone e l hs g) = inl (g.number-is, hs)
     sequence (before e l s n a y) = inr (none-high (asc-append K 0 pre (val w) L.front (val w) s (subst (λ (z : List (List ℕ)). Asc K (val w) z (val w))
         (sym e) (omega arith))))
     sequence (room iq l g) = inr (none-high (in_all iq))
@@ -118,20 +118,20 @@ module _ (st : State) (ss : List Section) (f : Free) (r : Ready (desc st).wpr st
 
     stored-numbers : Stores (xtend st) 3 st ss f → hit K (val w) (records_in (leaves_in ss)) ≡ [] → Extended [] (xtend st)
     stored-numbers (n.duplicate y e g) q = absurd (let z : ◌≡◌ {A = ℕ} 1 0 = ap length (sym e ∙ q) in omega arith)
-    stored-numbers (n.room e a b l g) q = in_two (xtend st).number (stored_one p (length a.leaf.records + 1) f (xtend st).number g.number_is)
-    stored-numbers (n.split e a b l m s i q g) z = in_two (xtend st).number (stored_one p (half_count (D p) i) (taken f) (xtend st).number g.number_is)
+    stored-numbers (n.room e a b l g) q = in_two (xtend st).number (stored_one p (length a.leaf.records + 1) f (xtend st).number g.number-is)
+    stored-numbers (n.split e a b l m s i q g) z = in_two (xtend st).number (stored_one p (half_count (D p) i) (taken f) (xtend st).number g.number-is)
     stored-numbers (n.both e a b l m s c i q g) z =
-        in_two (xtend st).number (stored_one p (half_count (D p) i) (taken (taken f)) (xtend st).number g.number_is)
-    stored-numbers (n.no_room_lem e a b l m g) q = inr (inr g.number_is)
+        in_two (xtend st).number (stored_one p (half_count (D p) i) (taken (taken f)) (xtend st).number g.number-is)
+    stored-numbers (n.no_room_lem e a b l m g) q = inr (inr g.number-is)
 
     numbers : not_below st ss ≡ [] → Xtended st ss f L → Extended [] (xtend st)
     numbers h (too-low fr y e l g) = absurd (not-below fr y e l h)
     numbers h (too-low-alone e l hs g) = absurd (hs h)
     numbers h (before e l s n a y) = stored-numbers y n
-    numbers h (no_room_lem iq l m g) = inr (inr g.number_is)
-    numbers h (room iq l g) = in_two (xtend st).number (stored_one p (length L.leaf.records + 1) f (xtend st).number g.number_is)
-    numbers h (started iq l m s g) = in_two (xtend st).number (stored_one p (length L.leaf.records) (taken f) (xtend st).number g.number_is)
-    numbers h (both iq l m s c g) = in_two (xtend st).number (stored_one p (length L.leaf.records) (taken (taken f)) (xtend st).number g.number_is)
+    numbers h (no_room_lem iq l m g) = inr (inr g.number-is)
+    numbers h (room iq l g) = in_two (xtend st).number (stored_one p (length L.leaf.records + 1) f (xtend st).number g.number-is)
+    numbers h (started iq l m s g) = in_two (xtend st).number (stored_one p (length L.leaf.records) (taken f) (xtend st).number g.number-is)
+    numbers h (both iq l m s c g) = in_two (xtend st).number (stored_one p (length L.leaf.records) (taken (taken f)) (xtend st).number g.number-is)
 
     answers : Xtended st ss f L → Extended (not_below st ss) (xtend st)
     answers x = go (not_below st ss) refl (sequence x)

@@ -103,16 +103,16 @@ module _ (st : State) (ss : List Section) (f : Free) (h : Sound st ss f) (w : Li
           (subst (λ (z : List (List ℕ)). News st o (leb (D p) (length z)) (leb (I p) (length (olds a)))) (sym (block-is st ss f h w ask a B)) n)
 
       go : Stores o more (lending w st) ss f → News st o (leb (D p) (length (block_for (key_in p w) leaves))) (leb (I p) (length leaves))
-      go (duplicate y e g) = news-by st o _ _ false g.number_is refl (details-of o g) (indexes-of o g)
-      go (no_room_lem e a B l m g) = news-by st o _ _ false g.number_is refl (details-of o g) (indexes-of o g)
+      go (duplicate y e g) = news-by st o _ _ false g.number-is refl (details-of o g) (indexes-of o g)
+      go (no_room_lem e a B l m g) = news-by st o _ _ false g.number-is refl (details-of o g) (indexes-of o g)
       go (room e a B l g) = at a B (rw (lt-leb (D p) (length a.leaf.records) l)
-          (news-by st o false (leb (I p) (length (olds a))) true g.number_is (stored-yes p _ f) (details-of o g) (indexes-of o g)))
+          (news-by st o false (leb (I p) (length (olds a))) true g.number-is (stored-yes p _ f) (details-of o g) (indexes-of o g)))
       go (split e a B l m s k q g) =
           at a B (rw (le-leb (D p) (length a.leaf.records) (omega (arith, l)), lt-leb (I p) (length (olds a)) m)
-          (news-by st o true false true g.number_is (stored-yes p _ (taken f)) (details-of o g) (indexes-of o g)))
+          (news-by st o true false true g.number-is (stored-yes p _ (taken f)) (details-of o g) (indexes-of o g)))
       go (both e a B l m s c k q g) =
           at a B (rw (le-leb (D p) (length a.leaf.records) (omega (arith, l)), le-leb (I p) (length (olds a)) (omega (arith, m)))
-          (news-by st o true true true g.number_is (stored-yes p _ (taken (taken f))) (details-of o g) (indexes-of o g)))
+          (news-by st o true true true g.number-is (stored-yes p _ (taken (taken f))) (details-of o g) (indexes-of o g)))
 
   nsert-news : GrownAs st (answer st (inserting w)) (cover_full p (key_in p w) (tree_in ss f))
   unfolding answer lending
@@ -139,7 +139,7 @@ module _ (st : State) (ss : List Section) (f : Free) (h : Sound st ss f) (w : Li
 
       -- none, whatever is full
       none : (full : Fullness) {n m : ℕ} {rows : List (List ℕ)} → Gives (lending w st) ss o n m rows nothing ss f → accepted n ≡ false → GrownAs st o full
-      none full g a = news-by st o full.block full.index false g.number_is a (details-of o g) (indexes-of o g)
+      none full g a = news-by st o full.block full.index false g.number-is a (details-of o g) (indexes-of o g)
 
       -- by where the key belongs
       by : (t : Bool) → at_last p (key_in p w) (tree_in ss f) ≡ t → GrownAs st o (cond t (last_full p (tree_in ss f)) (cover_full p (key_in p w) (tree_in ss f)))
@@ -154,13 +154,13 @@ module _ (st : State) (ss : List Section) (f : Free) (h : Sound st ss f) (w : Li
       go L (x.no_room_lem iq l m g) = none _ g refl
       go L (x.room iq l g) =
           by true (at-yes (lending w st) ss f r L iq) (at L false false (lt-leb (FD p) (length L.leaf.records) l)
-          (news-by st o false (leb (FI p) (length (last_section ss))) true g.number_is (stored-yes p _ f) (details-of o g) (indexes-of o g)))
+          (news-by st o false (leb (FI p) (length (last_section ss))) true g.number-is (stored-yes p _ f) (details-of o g) (indexes-of o g)))
       go L (x.started iq l m s g) =
           by true (at-yes (lending w st) ss f r L iq) (at L true false (le-leb (FD p) (length L.leaf.records) l)
-          (top L false (lt-leb (FI p) _ m) (news-by st o true false true g.number_is (stored-yes p _ (taken f)) (details-of o g) (indexes-of o g))))
+          (top L false (lt-leb (FI p) _ m) (news-by st o true false true g.number-is (stored-yes p _ (taken f)) (details-of o g) (indexes-of o g))))
       go L (x.both iq l m s c g) =
           by true (at-yes (lending w st) ss f r L iq) (at L true true (le-leb (FD p) (length L.leaf.records) l)
-          (top L true (le-leb (FI p) _ m) (news-by st o true true true g.number_is (stored-yes p _ (taken (taken f))) (details-of o g) (indexes-of o g))))
+          (top L true (le-leb (FI p) _ m) (news-by st o true true true g.number-is (stored-yes p _ (taken (taken f))) (details-of o g) (indexes-of o g))))
 
 -- the other calls
 module _ (st : State) (ss : List Section) (f : Free) (h : Sound st ss f) where

@@ -112,22 +112,22 @@ module _ (st : State) (ss : List Section) (f : Free) (h : Sound st ss f) where
 
         go : Nserted (lending w st) ss f → (answer st (inserting w)).number ≡ nsert_number p (key_in p w) (tree_in ss f)
         go (duplicate y e g) =
-            g.number_is
+            g.number-is
             ∙ sym (ap (λ (z : List (List ℕ)). number z (block_for (key_in p w) (section_for (key_in p w) ss)) (section_for (key_in p w) ss)) (with-is ∙ e))
-        go (room e a B l g) = g.number_is ∙ sym (at a B e ∙ place-room p (D p) (I p) _ _ _ (tree_in ss f) l ∙ stored-as p _ _ f free-is)
+        go (room e a B l g) = g.number-is ∙ sym (at a B e ∙ place-room p (D p) (I p) _ _ _ (tree_in ss f) l ∙ stored-as p _ _ f free-is)
         go (split e a B l m s k q g) =
-            g.number_is
+            g.number-is
             ∙ sym (at a B e ∙ place-one p (D p) (I p) _ _ _ (tree_in ss f) (omega (arith, l)) m (omega (arith, free-is)) ∙ stored-as p _ _ (taken f)
             (omega (arith, free-is, taken-count f s))
             ∙ ap (λ (n : ℕ). stored_with p (half_count (D p) n) (taken f)) (sym q))
         go (both e a B l m s c k q g) =
             let one : 1 ≤ free_count f = omega arith in
             let two : 1 ≤ free_count (taken f) = omega (arith, taken-count f one) in
-            g.number_is
+            g.number-is
             ∙ sym (at a B e ∙ place-two p (D p) (I p) _ _ _ (tree_in ss f) (omega (arith, l)) (omega (arith, m)) (omega (arith, free-is)) c
             ∙ stored-as p _ _ (taken (taken f)) (omega (arith, free-is, taken-count f one, taken-count (taken f) two))
             ∙ ap (λ (n : ℕ). stored_with p (half_count (D p) n) (taken (taken f))) (sym q))
-        go (no_room_lem e a B l m g) = g.number_is ∙ sym (at a B e ∙ place_none p (D p) (I p) _ _ _ (tree_in ss f) (omega (arith, l)) (why m))
+        go (no_room_lem e a B l m g) = g.number-is ∙ sym (at a B e ∙ place_none p (D p) (I p) _ _ _ (tree_in ss f) (omega (arith, l)) (why m))
           where
             why : (free_count f ≡ 0) ⊎ ((length (olds a) ≡ I p) × ((free_count f ≡ 1) ⊎ (p.control ≤ length ss)))
                 → (free_blocks p (tree_in ss f) ≡ 0) ⊎ ((I p ≤ length (olds a)) × ((free_blocks p (tree_in ss f) ≡ 1) ⊎ (p.control ≤ length ss)))

@@ -112,7 +112,7 @@ module _ (st : State) (ss : List Section) (f : Free) (h : Sound st ss f) where
       x = val (key_in p st.work)
 
       go : SeekRight st ss f → all_words (seek st).after.work ≡ true
-      go (inl (e, g, z)) = absurd (omega (arith, g.number_is, d))
+      go (inl (e, g, z)) = absurd (omega (arith, g.number-is, d))
       go (inr (y, e, g, z)) =
           subst (λ (t : List ℕ). all_words t ≡ true) (sym z)
           (row_small (below K x rows) y (from K (suc x) (from K x rows))

@@ -261,9 +261,9 @@ module _ (st : State) (ss : List Section) (f : Free) (r : Ready (desc st).wpr st
   room_by (too-low fr y e l g) = absurd (in_row fr y e l)
   room_by (too-low-alone e l hs g) = absurd (alone e l)
   room_by (before e l s n a y) = absurd (alone e l)
-  room_by (room iq l g) = when-room _ l (ap accepted g.number_is ∙ stored-yes p _ f)
-  room_by (started iq l m s g) = when-block _ l m (λ a. ap accepted g.number_is ∙ stored-yes p _ (taken f)) (λ z. absurd (omega arith))
-  room_by (both iq l m s c g) = when-section _ l m (λ a b. ap accepted g.number_is ∙ stored-yes p _ (taken (taken f))) (λ z. absurd (enough z))
+  room_by (room iq l g) = when-room _ l (ap accepted g.number-is ∙ stored-yes p _ f)
+  room_by (started iq l m s g) = when-block _ l m (λ a. ap accepted g.number-is ∙ stored-yes p _ (taken f)) (λ z. absurd (omega arith))
+  room_by (both iq l m s c g) = when-section _ l m (λ a b. ap accepted g.number-is ∙ stored-yes p _ (taken (taken f))) (λ z. absurd (enough z))
     where
       enough : (free_count f ≤ 1) ⊎ (p.control ≤ length ss) → ⊥
       enough (inl a) = omega arith
@@ -271,10 +271,10 @@ module _ (st : State) (ss : List Section) (f : Free) (r : Ready (desc st).wpr st
   room_by (no_room_lem iq l (inl z) g) = go (dec_le (FI p) under)
     where
       go : Dec (FI p ≤ under) → StoredIf (has_room p total) (xtend st).number
-      go (yes m) = when-section _ l m (λ a b. absurd (omega arith)) (λ z. g.number_is)
-      go (no m) = when-block _ l (omega arith) (λ a. absurd (omega arith)) (λ z. g.number_is)
-  room_by (no_room_lem iq l (inr (m, inl z)) g) = when-section _ l m (λ a b. absurd (omega arith)) (λ z. g.number_is)
-  room_by (no_room_lem iq l (inr (m, inr z)) g) = when-section _ l m (λ a b. absurd (omega arith)) (λ z. g.number_is)
+      go (yes m) = when-section _ l m (λ a b. absurd (omega arith)) (λ z. g.number-is)
+      go (no m) = when-block _ l (omega arith) (λ a. absurd (omega arith)) (λ z. g.number-is)
+  room_by (no_room_lem iq l (inr (m, inl z)) g) = when-section _ l m (λ a b. absurd (omega arith)) (λ z. g.number-is)
+  room_by (no_room_lem iq l (inr (m, inr z)) g) = when-section _ l m (λ a b. absurd (omega arith)) (λ z. g.number-is)
 
 room_of : (st : State) (ss : List Section) (f : Free) → Sound st ss f → Filled (desc st) (tree_in ss f) → RoomIn st (tree_in ss f)
 unfolding answer lending

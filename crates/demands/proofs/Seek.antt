@@ -53,7 +53,7 @@ close-right st ss f h o =
     let out : close st ≡ record { number = done; transfers = moves; after = record { session = at_rest false st.session; file = written (desc st) moves st.file; buffer = st.buffer; work = st.work } }
     = simp (sizes-pass st ss f h, open-pass st o, flush-pass (texts st) st.session.flag ss f h.kept) in
     subst (λ (z : Outcome). Gives st ss z done 1 (records_in (leaves_in ss)) nothing ss f) (sym out) (record {
-      number_is = refl;
+      number-is = refl;
       most-is = flush-few (texts st) st.session.flag;
       desc-is = refl;
       sound = record {

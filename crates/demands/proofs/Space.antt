@@ -170,10 +170,10 @@ module _ (st : State) (ss : List Section) (f : Free) (g : Growth) (k : Grew st s
     has_room_lem w e = go (nsert-right (lending w st) ss f (readied st ss f k.sound p.wpr w (keyed-of st ss f k.sound w e)))
       where
         go : Nserted (lending w st) ss f → ⊥
-        go (duplicate y q h) = omega (arith, h.number_is, e)
-        go (room q a B l h) = stored-number p (length a.leaf.records + 1) f (nsert (lending w st)).number h.number_is e
-        go (split q a B l m z i u h) = stored-number p (half_count (D p) i) (taken f) (nsert (lending w st)).number h.number_is e
-        go (both q a B l m z d i u h) = stored-number p (half_count (D p) i) (taken (taken f)) (nsert (lending w st)).number h.number_is e
+        go (duplicate y q h) = omega (arith, h.number-is, e)
+        go (room q a B l h) = stored-number p (length a.leaf.records + 1) f (nsert (lending w st)).number h.number-is e
+        go (split q a B l m z i u h) = stored-number p (half_count (D p) i) (taken f) (nsert (lending w st)).number h.number-is e
+        go (both q a B l m z d i u h) = stored-number p (half_count (D p) i) (taken (taken f)) (nsert (lending w st)).number h.number-is e
         go (no_room_lem q a B l why h) = enough a B.is l why
 
 -- ---- after any such run

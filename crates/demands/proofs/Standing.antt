@@ -169,9 +169,9 @@ seek-hands st ss f h w u (ready r) =
     (key_of (desc st).k (lending w st) ss f r (omega arith) (good-facts (desc st) h.kept.good).key, go (seek-right (lending w st) ss f r))
   where
     go : SeekRight (lending w st) ss f → handed (answer st (seeking w)) ≡ hit (key (desc st).k) (val (key_in (desc st) w)) (records_in (leaves_in ss))
-    go (inl (e, g, z)) = ap (λ (m : ℕ). cond (eqb m done) ((answer st (seeking w)).after.work ∷ []) []) g.number_is ∙ sym e
+    go (inl (e, g, z)) = ap (λ (m : ℕ). cond (eqb m done) ((answer st (seeking w)).after.work ∷ []) []) g.number-is ∙ sym e
     go (inr (y, e, g, z)) =
-        ap (λ (m : ℕ). cond (eqb m done) ((answer st (seeking w)).after.work ∷ []) []) g.number_is ∙ ap (λ (m : List ℕ). m ∷ []) z ∙ sym e
+        ap (λ (m : ℕ). cond (eqb m done) ((answer st (seeking w)).after.work ∷ []) []) g.number-is ∙ ap (λ (m : List ℕ). m ∷ []) z ∙ sym e
 
 -- what stood under the key, was put in, and was not taken out since
 pub found : (st : State) (ss : List Section) (f : Free) → Sound st ss f → (qs : List Request) (w : List ℕ)

@@ -55,7 +55,7 @@ FineStep p o = (o.number ≡ bad_file → ⊥) × LeavesSound p o
 fine : (st : State) (ss : List Section) (o : Outcome) (n most : ℕ) (rows : List (List ℕ)) (brought : Growth) {ss' : List Section} {f' : Free}
     → Gives st ss o n most rows brought ss' f' → (n ≡ bad_file → ⊥) → FineStep (desc st) o
 fine st ss o n most rows brought {ss'} {f'} g ne =
-    (λ e. ne (sym g.number_is ∙ e), record { desc-is = g.desc-is; sections = ss'; free = f'; sound = g.sound })
+    (λ e. ne (sym g.number-is ∙ e), record { desc-is = g.desc-is; sections = ss'; free = f'; sound = g.sound })
 
 stored-fine : (q : Bool) → cond q none_free done ≡ bad_file → ⊥
 stored-fine true e = omega arith

@@ -80,7 +80,7 @@ module _ (st : State) (ss : List Section) (f : Free) (h : Sound st ss f) where
   nsert-fresh w a = go (gate (lending w st) ss f (lent-sound w st ss f h) p.wpr)
     where
       by : Nserted (lending w st) ss f → hit K (val (key_in p w)) rows ≡ []
-      by (duplicate y e g) = impossible (sym a ∙ ap accepted g.number_is)
+      by (duplicate y e g) = impossible (sym a ∙ ap accepted g.number-is)
       by (room e a B l g) = e
       by (split e a B l m s k q g) = e
       by (both e a B l m s c k q g) = e
@@ -96,9 +96,9 @@ module _ (st : State) (ss : List Section) (f : Free) (h : Sound st ss f) where
   xtend-fresh w a = go (gate (lending w st) ss f (lent-sound w st ss f h) p.wpr)
     where
       by : (L : Last (texts (lending w st)) st.session.flag ss f) → x.Xtended (lending w st) ss f L → hit K (val (key_in p w)) rows ≡ []
-      by L (x.too-low fr y e l g) = impossible (sym a ∙ ap accepted g.number_is)
-      by L (x.too-low-alone e l hs g) = impossible (sym a ∙ ap accepted g.number_is)
-      by L (x.no_room_lem iq l m g) = impossible (sym a ∙ ap accepted g.number_is)
+      by L (x.too-low fr y e l g) = impossible (sym a ∙ ap accepted g.number-is)
+      by L (x.too-low-alone e l hs g) = impossible (sym a ∙ ap accepted g.number-is)
+      by L (x.no_room_lem iq l m g) = impossible (sym a ∙ ap accepted g.number-is)
       by L (x.before e l s n i y) = n
       by L (x.room iq l g) = fresh-by w (answer st (extending w)) g
       by L (x.started iq l m s g) = fresh-by w (answer st (extending w)) g
@@ -114,7 +114,7 @@ module _ (st : State) (ss : List Section) (f : Free) (h : Sound st ss f) where
   updat-there w a = go (gate (lending w st) ss f (lent-sound w st ss f h) p.wpr)
     where
       by : UpdatRight (lending w st) ss f → (y : List ℕ) × (hit K (val (key_in p w)) rows ≡ y ∷ [])
-      by (inl (e, g)) = impossible (sym a ∙ ap accepted g.number_is)
+      by (inl (e, g)) = impossible (sym a ∙ ap accepted g.number-is)
       by (inr (y, e, ss', f', g, c, d)) = (y, e)
 
       go : Gate (lending w st) ss f (lent-sound w st ss f h) p.wpr → (y : List ℕ) × (hit K (val (key_in p w)) rows ≡ y ∷ [])

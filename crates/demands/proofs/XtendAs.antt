@@ -103,7 +103,7 @@ as-outcome : (st : State) (way : Way) (ms : List Transfer) (e : Effect) → xten
     → length ms ≡ length e.transfers + besides way → AsCalled st way
 unfolding outcome listed
 as-outcome st way ms e xs ns long = record {
-  number_is = ap (λ (o : Outcome). o.number) xs ∙ sym (ap (λ (o : Outcome). o.number) ns);
+  number-is = ap (λ (o : Outcome). o.number) xs ∙ sym (ap (λ (o : Outcome). o.number) ns);
   after_is = ap (λ (o : Outcome). o.after) xs ∙ sym (ap (λ (o : Outcome). o.after) ns);
   more-is = ap (λ (o : Outcome). length o.transfers) xs ∙ long ∙ ap (λ (o : Outcome). length o.transfers + besides way) (sym ns);
 }

@@ -218,19 +218,19 @@ module _ (st : State) (ss : List Section) (f : Free) (r : Ready (desc st).wpr st
       in-last : not_below st ss ≡ [] → Xtended st ss f L → (xtend st).number ≡ xtend_number q w (tree_in ss f)
       in-last h (too-low fr y g l z) = absurd (not-below st ss f r L fr y g l h)
       in-last h (too-low-alone g l hs z) = absurd (hs h)
-      in-last h (x.before e l s n a y) = stored-number h false (at-no e l) _ (a.number_is ∙ nserts) refl
-      in-last h (x.room iq l g) = stored-number h true (at-yes iq) _ g.number_is (place-room q (FD q) (FI q) _ _ _ (tree_in ss f) l
+      in-last h (x.before e l s n a y) = stored-number h false (at-no e l) _ (a.number-is ∙ nserts) refl
+      in-last h (x.room iq l g) = stored-number h true (at-yes iq) _ g.number-is (place-room q (FD q) (FI q) _ _ _ (tree_in ss f) l
           ∙ stored-as q _ _ f free-x)
       in-last h (started iq l m s g) =
-          stored-number h true (at-yes iq) _ g.number_is
+          stored-number h true (at-yes iq) _ g.number-is
           (place-one q (FD q) (FI q) _ _ _ (tree_in ss f) l m (omega (arith, free-x)) ∙ stored-as q _ _ (taken f) (omega (arith, free-x, taken-count f s)))
       in-last h (x.both iq l m s c g) =
           let one : 1 ≤ free_count f = omega arith in
           let two : 1 ≤ free_count (taken f) = omega (arith, taken-count f one) in
-          stored-number h true (at-yes iq) _ g.number_is
+          stored-number h true (at-yes iq) _ g.number-is
           (place-two q (FD q) (FI q) _ _ _ (tree_in ss f) l m (omega (arith, free-x)) c ∙ stored-as q _ _ (taken (taken f))
           (omega (arith, free-x, taken-count f one, taken-count (taken f) two)))
-      in-last h (x.no_room_lem iq l m g) = stored-number h true (at-yes iq) _ g.number_is (place_none q (FD q) (FI q) _ _ _ (tree_in ss f) l (why m))
+      in-last h (x.no_room_lem iq l m g) = stored-number h true (at-yes iq) _ g.number-is (place_none q (FD q) (FI q) _ _ _ (tree_in ss f) l (why m))
         where
           why : (free_count f ≡ 0) ⊎ ((FI q ≤ under-it) × ((free_count f ≡ 1) ⊎ (q.control ≤ length ss)))
               → (free_blocks q (tree_in ss f) ≡ 0) ⊎ ((FI q ≤ under-it) × ((free_blocks q (tree_in ss f) ≡ 1) ⊎ (q.control ≤ length ss)))

@@ -173,8 +173,8 @@ module _ (st : State) (ss : List Section) (f : Free) (r : Ready (desc st).wpr st
           let c : NsertCame st ss f = k.came in
           let a : AsCalled st L.way = as_called st ss f r kw L e u q A.is C t l c.plan c.plan-is k.fits in
           let more : length (xtend st).transfers ≤ length (nsert st).transfers + 3 = omega (arith, a.more-is, few-besides L.way) in
-          let y : Stores (xtend st) 3 st ss f = stores_as st ss f (nsert st) (xtend st) 3 a.number_is a.after_is more c.way in
-          let same : n.brought_by y ≡ n.brought_by c.way = stores-bring st ss f (nsert st) (xtend st) 3 a.number_is a.after_is more c.way in
+          let y : Stores (xtend st) 3 st ss f = stores_as st ss f (nsert st) (xtend st) 3 a.number-is a.after_is more c.way in
+          let same : n.brought_by y ≡ n.brought_by c.way = stores-bring st ss f (nsert st) (xtend st) 3 a.number-is a.after_is more c.way in
           came (before e u below hits a y) (before-deed st ss f r kw L e u q A.is C t l c.plan c.plan-is k.fits) (stores-start y).0
           (stores-start y).1
           (ap (λ (g : Growth). g.splits) same ∙ c.splits) (ap (λ (g : Growth). g.index-splits) same ∙ c.index-splits)

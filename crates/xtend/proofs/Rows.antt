@@ -86,7 +86,7 @@ module _ (p : Description) (t : List ℕ) (n : ℕ) (en : n ≡ count (detail_sh
         row_in p t (n - 1) has.good has.text-is (omega arith)
 
     pub last_within : 1 + (n - 1) * p.wpr + p.wpr ≤ length t
-    last_within = last_row.within
+    last_within = last_row_lem.within
 
     pub last-key : 1 + (n - 1) * p.wpr + p.k ≤ length t
     last-key =
@@ -94,16 +94,16 @@ module _ (p : Description) (t : List ℕ) (n : ℕ) (en : n ≡ count (detail_sh
         omega arith
 
     pub last-times : Fits w64 ((n - 1) * p.wpr)
-    last-times = last_row.times
+    last-times = last_row_lem.times
 
     pub last-start : Fits w64 (1 + (n - 1) * p.wpr)
-    last-start = last_row.start
+    last-start = last_row_lem.start
 
     pub last_end : Fits w64 (1 + (n - 1) * p.wpr + p.wpr)
-    last_end = last_row.end
+    last_end = last_row_lem.end
 
     pub last-bytes : Fits w64 ((1 + (n - 1) * p.wpr) * 4)
-    last-bytes = last_row.bytes
+    last-bytes = last_row_lem.bytes
 
     -- as many words as a record has
     pub last-small : 1 + length (take (1 + (n - 1) * p.wpr + p.wpr - (1 + (n - 1) * p.wpr)) (drop (1 + (n - 1) * p.wpr) t)) ≤ p.wpb

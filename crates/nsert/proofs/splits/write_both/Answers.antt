@@ -8,8 +8,7 @@ pub cut-moved-requires : goal.cut-moved-requires
 cut-moved-requires c = (search, record { whole = search; roomy = omega (arith, key-short) }, search)
 
 pub write_above-requires : goal.write_above-requires
-write_above-requires c =
-    (
+write_above-requires c = (
   search cut_fits,
   let s = c.requires in
       search (both-above, s.0, s.1, s.2, c.cut-moved.ensures.1),
