@@ -95,7 +95,7 @@ plan-outside f _ (boths w i b d n e g s) = tt
 
 -- XTEND answers and leaves what NSERT does, and its transfers are more by those to the last block
 pub record AsCalled (st : State) (way : Way) : Type 0 where
-  pub number_is : (xtend st).number ≡ (nsert st).number
+  pub number-is : (xtend st).number ≡ (nsert st).number
   pub after_is : (xtend st).after ≡ (nsert st).after
   pub more-is : length (xtend st).transfers ≡ length (nsert st).transfers + besides way
 

@@ -1,5 +1,6 @@
 -- Each return is one way through OPEN.
 use Rattle.reading.proofs.Opened.{open-sizes, open-marks, open_twice, open-bad, open_done_lem, inspect-fit}
+use Rattle.std.proofs.lemmas.Bool.{not_from_true}
 use borrow.Author.Rules.{rules}
 use Rattle.reading.proofs.ReadingSession.open.Goals as goal
 
@@ -13,7 +14,8 @@ pub returns-then-self : goal.returns-then-self
 returns-then-self c = search open_twice
 
 pub inspect-requires : goal.inspect-requires
-inspect-requires c = record { fit = search (inspect-fit, c.is_fitting.ensures, c.if-not-is_fitting.false); marks_len = search }
+inspect-requires c = (search (inspect-fit, c.is_fitting.ensures, not_from_true _ c.if-not-is_fitting.false), search)
+
 pub returns-then-not-inspect : goal.returns-then-not-inspect
 returns-then-not-inspect c = search open-bad
 

@@ -1,4 +1,5 @@
 -- `searchfile::Session::close` meets its contract: each return is one way through CLOSE.
+use Rattle.std.proofs.lemmas.Bool.{not_from_true}
 use borrow.Author.Rules.{rules}
 use Rattle.face.proofs.Refusing.{sized-fitting}
 use Rattle.searchfile.proofs.Closing.{close-sizes, close-shut, close-bad, close-done, flush-least, flush-most}
@@ -16,7 +17,7 @@ returns-then-not-can_flush c = search close-bad
 pub flush-wrote-requires : goal.flush-wrote-requires
 flush-wrote-requires c =
     let asked = c.can_flush.ensures in
-    let due = c.if-not-can_flush.false in
+    let due = not_from_true _ c.if-not-can_flush.false in
     (search sized-fitting, λ on. (flush-least _ _ _ _ asked due on, flush-most _ _ _ _ asked due on))
 
 pub returns : goal.returns

@@ -14,6 +14,7 @@ returns-then-self c = search open_twice
 
 pub inspect-requires : goal.inspect-requires
 inspect-requires c = record { fit = search inspect-fit; marks_len = search }
+
 pub returns-then-not-inspect : goal.returns-then-not-inspect
 returns-then-not-inspect c = search open-bad
 
