@@ -1,6 +1,7 @@
 // What the printed session writes, as bytes put into a lent slice one after the other. Each function writes from byte `at` on and answers
 // the place behind what it wrote.
 #![tactic(auto)]
+
 ghost use Rattle.std.specs.Prelude.{◌≡◌, ◌+◌, ◌*◌, ◌≤◌, ◌<◌, ◌∷◌, length};
 ghost use Rattle.words.specs.Words.{put};
 ghost use Rattle.texts.specs.Texts.{digits, places as places_of, decimal, octal, listed};

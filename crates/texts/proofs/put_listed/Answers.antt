@@ -15,8 +15,7 @@ pub loop-i-init : goal.loop-i-init
 loop-i-init c = (omega arith, omega arith, (refl, refl), refl)
 
 pub loop-i-preserved : goal.loop-i-preserved
-loop-i-preserved c =
-    (
+loop-i-preserved c = (
   omega arith,
   omega arith,
   listed-turn _ _ c.args.words.now _ _ c.loop-i.i _ _ _ c.loop-i.invariant.2 (omega arith) c.long.ensures (c.put_decimal-end.ensures.0, c.put_decimal-end.ensures.1) (omega arith),

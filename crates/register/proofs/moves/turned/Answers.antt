@@ -9,5 +9,6 @@ returns-then-number-ne0 c = search turn-refused
 
 pub kept-requires : goal.kept-requires
 kept-requires c = record { state_fits = search name-fits; to_bound = search rules }
+
 pub returns : goal.returns
 returns c = search turn-passed
