@@ -1,6 +1,7 @@
 // A tray of records put in by one call: NSERT of each, by its promise alone, up to the first that is not stored. Each record is lent to NSERT
 // where it lies in the tray; nothing is copied, and no workspace is needed.
 #![tactic(auto)]
+
 ghost use Rattle.std.specs.Prelude.{◌≡◌, true, [], ◌+◌, ◌*◌, length};
 ghost use Rattle.numbers.specs.Numbers.{done};
 ghost use Rattle.drum.specs.Params.{good_params};

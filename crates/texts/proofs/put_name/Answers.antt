@@ -6,18 +6,38 @@ use Rattle.texts.specs.Results.{spelling}
 use Rattle.texts.proofs.Names.{name-put, name-end}
 use Rattle.texts.proofs.put_name.Goals as goal
 
-pub shape_of-out-in-Nsert : goal.shape_of-out-in-Nsert
+pub returns-in-Create : goal.returns-in-Create
 unfolding spelling bytes
-shape_of-out-in-Nsert c = (search name-put, search name-end, omega arith)
+returns-in-Create c = (search name-put, search name-end, omega arith)
 
-pub shape_of-out-in-Dlete : goal.shape_of-out-in-Dlete
+pub returns-in-Open : goal.returns-in-Open
 unfolding spelling bytes
-shape_of-out-in-Dlete c = (search name-put, search name-end, omega arith)
+returns-in-Open c = (search name-put, search name-end, omega arith)
 
-pub shape_of-out-in-Updat : goal.shape_of-out-in-Updat
+pub returns-in-Close : goal.returns-in-Close
 unfolding spelling bytes
-shape_of-out-in-Updat c = (search name-put, search name-end, omega arith)
+returns-in-Close c = (search name-put, search name-end, omega arith)
 
-pub shape_of-out-in-Xtend : goal.shape_of-out-in-Xtend
+pub returns-in-Seek : goal.returns-in-Seek
 unfolding spelling bytes
-shape_of-out-in-Xtend c = (search name-put, search name-end, omega arith)
+returns-in-Seek c = (search name-put, search name-end, omega arith)
+
+pub returns-in-Adv : goal.returns-in-Adv
+unfolding spelling bytes
+returns-in-Adv c = (search name-put, search name-end, omega arith)
+
+pub returns-in-Nsert : goal.returns-in-Nsert
+unfolding spelling bytes
+returns-in-Nsert c = (search name-put, search name-end, omega arith)
+
+pub returns-in-Dlete : goal.returns-in-Dlete
+unfolding spelling bytes
+returns-in-Dlete c = (search name-put, search name-end, omega arith)
+
+pub returns-in-Updat : goal.returns-in-Updat
+unfolding spelling bytes
+returns-in-Updat c = (search name-put, search name-end, omega arith)
+
+pub returns-in-Xtend : goal.returns-in-Xtend
+unfolding spelling bytes
+returns-in-Xtend c = (search name-put, search name-end, omega arith)

@@ -10,9 +10,6 @@ use Rattle.texts.proofs.put_number.Goals as goal
 pub put_digits-requires : goal.put_digits-requires
 put_digits-requires c = (simp length-set (omega arith), omega arith, omega arith)
 
-pub shape_of-out : goal.shape_of-out
-shape_of-out c = omega (arith, simp length-set at c.put_digits.auto)
-
 pub returns : goal.returns
 unfolding octal
 returns c =

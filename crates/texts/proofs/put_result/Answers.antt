@@ -6,9 +6,6 @@ use Rattle.texts.specs.Results.{result_text}
 use Rattle.texts.proofs.Lines.{line-written}
 use Rattle.texts.proofs.put_result.Goals as goal
 
-pub shape_of-out : goal.shape_of-out
-shape_of-out c = simp length-set (omega arith)
-
 pub returns : goal.returns
 unfolding result_text listed bytes
 returns c =

@@ -21,18 +21,17 @@ pub block_of-next-requires : goal.block_of-next-requires
 block_of-next-requires c = (search copied_on, omega arith, search number-most, search spare-block)
 
 pub loop-b-preserved : goal.loop-b-preserved
-loop-b-preserved c =
-    (
-      omega arith,
-      search,
-      search,
-      search desc-next,
-      search spare-next,
-      omega arith,
-      omega arith,
-      omega arith,
-      search block-turn,
-    )
+loop-b-preserved c = (
+  omega arith,
+  search,
+  search,
+  search desc-next,
+  search spare-next,
+  omega arith,
+  omega arith,
+  omega arith,
+  search block-turn,
+)
 
 pub returns : goal.returns
 returns c = search blocks_end

@@ -17,21 +17,20 @@ pub count_in-count-requires : goal.count_in-count-requires
 count_in-count-requires c = (search text-some, search marked-least)
 
 pub loop-i-init : goal.loop-i-init
-loop-i-init c =
-    (
-      omega arith,
-      search count-few,
-      search block-small,
-      refl,
-      search desc-good,
-      refl,
-      search rows-within,
-      search records-spare,
-      refl,
-      refl,
-      refl,
-      search records-first,
-    )
+loop-i-init c = (
+  omega arith,
+  search count-few,
+  search block-small,
+  refl,
+  search desc-good,
+  refl,
+  search rows-within,
+  search records-spare,
+  refl,
+  refl,
+  refl,
+  search records-first,
+)
 
 pub overflow_add-end : goal.overflow_add-end
 overflow_add-end c = search end_fits
@@ -43,21 +42,20 @@ pub one_record-next-requires : goal.one_record-next-requires
 one_record-next-requires c = (search spare-one, search key-lent, search, omega arith)
 
 pub loop-i-preserved : goal.loop-i-preserved
-loop-i-preserved c =
-    (
-      omega arith,
-      search,
-      search,
-      search,
-      search,
-      search record-desc,
-      search rows-after,
-      search record-spare,
-      omega arith,
-      omega arith,
-      omega arith,
-      search record-turn,
-    )
+loop-i-preserved c = (
+  omega arith,
+  search,
+  search,
+  search,
+  search,
+  search record-desc,
+  search rows-after,
+  search record-spare,
+  omega arith,
+  omega arith,
+  omega arith,
+  search record-turn,
+)
 
 pub returns : goal.returns
 returns c = search records-end
