@@ -158,4 +158,4 @@ module _ (p : Description) where
     unfolding key part
     sorted-asc lo [] hi ok a = tt
     sorted-asc lo (r ∷ rs) hi ok a =
-        (above-asc (take p.k r) (key-long p kr r ok.0) rs hi ok.1 a.1, sorted-asc _ rs hi ok.1 a.1)
+        (above-asc (take p.k r) (key-long p kr r ok.0) rs hi ok.1 a.1, sorted-asc (suc (key p.k r)) rs hi ok.1 a.1)

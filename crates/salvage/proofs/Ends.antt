@@ -26,7 +26,7 @@ use Rattle.searchfile.specs.Promise.{Counted, given, counted, answered, held}
 use Rattle.demands.proofs.Costs.{few-transfers}
 use Rattle.salvage.specs.declared.Going.{Going}
 use Rattle.salvage.specs.declared.Salvaged.{Salvaged}
-use Rattle.salvage.specs.Meeting.{met}
+use Rattle.salvage.specs.Met.{met}
 use Rattle.salvage.specs.Salvage.{Walk, Salvaging, run, begun, ended, roomy, salvage}
 use Rattle.salvage.specs.Promise.{walking, answered_with, Spare, Copied, Roomy}
 use Rattle.salvage.proofs.Steps.{run-grown}

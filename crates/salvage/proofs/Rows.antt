@@ -14,7 +14,7 @@ use Rattle.words.specs.Keys.{key_lt}
 use Rattle.words.proofs.Parts.{take_part}
 use Rattle.drum.specs.declared.Description.{Description}
 use Rattle.layout.specs.Holds.{ascending, keys_of}
-use Rattle.salvage.specs.Meeting.{rows_from}
+use Rattle.salvage.specs.Met.{rows_from}
 
 -- the words of a record that is lent
 pub part-lent : (a w : ℕ) (t : List ℕ) → take (a + w - a) (drop a t) ≡ part a w t

@@ -21,7 +21,7 @@ use Rattle.searchfile.specs.Promise.{Counted, given, counted, answered, held}
 use Rattle.demands.proofs.Costs.{few-transfers}
 use Rattle.demands.proofs.Came.{same-parameters}
 use Rattle.salvage.specs.declared.Going.{Going}
-use Rattle.salvage.specs.Meeting.{Met, over, found}
+use Rattle.salvage.specs.Met.{Met, over, found}
 use Rattle.salvage.specs.Salvage.{Walk, lined, why_not, after, tried, settled, step, run}
 use Rattle.salvage.specs.Promise.{walking, Told, tells, inserted, Spare}
 

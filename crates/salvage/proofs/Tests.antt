@@ -17,7 +17,7 @@ use Rattle.drum.specs.Params.{D, good_params}
 use Rattle.drum.proofs.Good.{good-facts, caps}
 use Rattle.numbers.specs.Checked.{between}
 use Rattle.layout.specs.Holds.{ascending, keys_of}
-use Rattle.salvage.specs.Meeting.{count_in, rows_from, records_in, missed, not_marked, bad_count, bad_word, bad_order}
+use Rattle.salvage.specs.Met.{count_in, rows_from, records_in, missed, not_marked, bad_count, bad_word, bad_order}
 
 -- a number that is not in a range, and one that is
 below-range : (lo hi x : ℕ) → x < lo → between lo hi x ≡ false

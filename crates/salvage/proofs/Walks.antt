@@ -18,7 +18,7 @@ use Rattle.drum.specs.Blocks.{block_at}
 use Rattle.drum.proofs.Good.{caps}
 use Rattle.drum.proofs.Blocks.{block_within}
 use Rattle.salvage.specs.declared.Going.{Going}
-use Rattle.salvage.specs.Meeting.{Met, over, found, count_in, rows_from, records_in, missed, places, met_in, met_from, met}
+use Rattle.salvage.specs.Met.{Met, over, found, count_in, rows_from, records_in, missed, places, met_in, met_from, met}
 use Rattle.salvage.specs.Salvage.{Walk, lined, step, run}
 use Rattle.salvage.specs.Promise.{walking, Spare, Ready, Taken, Copied}
 use Rattle.salvage.proofs.Rows.{part-lent, rows-less, rows-length}

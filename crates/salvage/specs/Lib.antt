@@ -1,3 +1,3 @@
-pub mod Meeting
+pub mod Met
 pub mod Salvage
 pub mod Promise

@@ -5,7 +5,7 @@ use Rattle.drum.specs.Params.{D, file_size, good_params, detail_kind}
 use Rattle.searchfile.specs.Promise.{held}
 use Rattle.salvage.specs.declared.Going.{Going}
 use Rattle.salvage.specs.declared.Salvaged.{Salvaged}
-use Rattle.salvage.specs.Meeting.{count_in}
+use Rattle.salvage.specs.Met.{count_in}
 use Rattle.salvage.specs.Salvage.{Walk, Salvaging, after, tried}
 
 -- the walk as the code has it: what goes by value, with the words lent

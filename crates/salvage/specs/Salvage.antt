@@ -9,7 +9,7 @@ use Rattle.layout.specs.Create.{created}
 use Rattle.rules.specs.State.{Session, Outcome, key_in, lent}
 use Rattle.rules.specs.Close.{close}
 use Rattle.rules.specs.NsertDone.{nsert}
-use Rattle.salvage.specs.Meeting.{Met, over, found, met}
+use Rattle.salvage.specs.Met.{Met, over, found, met}
 
 -- the fresh file as it is being built, the report, and what is counted
 pub record Walk : Type 0 where

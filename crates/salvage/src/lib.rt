@@ -7,7 +7,7 @@ mod walk;
 
 ghost use Rattle.std.specs.Prelude.{◌≡◌, true, [], ◌+◌, ◌*◌, ◌≤◌, length};
 ghost use Rattle.drum.specs.Params.{D, good_params, file_size};
-ghost use Rattle.salvage.specs.Meeting.{met};
+ghost use Rattle.salvage.specs.Met.{met};
 ghost use Rattle.salvage.specs.Salvage.{run, begun, ended, roomy, salvage as salvaged};
 ghost use Rattle.salvage.specs.Promise.{walking, answered_with, Spare, Copied, Roomy};
 

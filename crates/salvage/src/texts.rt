@@ -2,7 +2,7 @@
 ghost use Rattle.std.specs.Prelude.{◌≡◌, true, ◌+◌, ◌*◌, ◌≤◌, ◌<◌, length, get_or};
 ghost use Rattle.drum.specs.Params.{good_params, detail_kind};
 ghost use Rattle.layout.specs.Holds.{ascending, keys_of};
-ghost use Rattle.salvage.specs.Meeting.{count_in, rows_from, missed as first_missed};
+ghost use Rattle.salvage.specs.Met.{count_in, rows_from, missed as first_missed};
 
 use drum::Description;
 

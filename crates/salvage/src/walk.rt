@@ -3,7 +3,7 @@ ghost use Rattle.std.specs.Prelude.{◌≡◌, [], ◌∷◌, ◌+◌, ◌*◌, 
 ghost use Rattle.words.specs.Words.{put};
 ghost use Rattle.drum.specs.Params.{D};
 ghost use Rattle.drum.specs.Blocks.{block_at};
-ghost use Rattle.salvage.specs.Meeting.{found, places, records_in, met_in, met};
+ghost use Rattle.salvage.specs.Met.{found, places, records_in, met_in, met};
 ghost use Rattle.salvage.specs.Salvage.{why_not, settled, step, run};
 ghost use Rattle.salvage.specs.Promise.{walking, tells, inserted, Spare, Ready, Taken, Copied};
 

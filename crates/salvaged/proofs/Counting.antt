@@ -15,7 +15,7 @@ use Rattle.layout.specs.Tree.{Leaf, Tree, leaf_blocks, leaves_of, contents, time
 use Rattle.layout.specs.Tree as lay
 use Rattle.layout.specs.Holds.{All, Holds}
 use Rattle.rules.specs.State.{key_in}
-use Rattle.salvage.specs.Meeting.{Met, over, found, records_in, missed, places, met_in, met_from, met}
+use Rattle.salvage.specs.Met.{Met, over, found, records_in, missed, places, met_in, met_from, met}
 use Rattle.salvaged.specs.Spots.{spots, rows_of}
 use Rattle.salvaged.proofs.GoodBlocks.{Whole, Either, detail, other, details-whole, block-either, leaf-blocks}
 

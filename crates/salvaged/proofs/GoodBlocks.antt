@@ -29,7 +29,7 @@ use Rattle.layout.proofs.OneFile.{all-times}
 use Rattle.layout.proofs.TurnedMarks.{reached-either}
 use Rattle.layout.proofs.TurnedKinds.{kinds-told}
 use Rattle.layout.proofs.Texts.{block-part}
-use Rattle.salvage.specs.Meeting.{count_in, rows_from, records_in, missed, not_marked}
+use Rattle.salvage.specs.Met.{count_in, rows_from, records_in, missed, not_marked}
 use Rattle.salvage.proofs.Tests.{missed-low, missed-high, missed-nothing}
 use Rattle.salvaged.proofs.Rows.{all_both}
 

@@ -19,7 +19,7 @@ use Rattle.rules.specs.State.{State, Outcome, key_in}
 use Rattle.rules.specs.Requests.{inserting, answer, left}
 use Rattle.demands.specs.History.{with_key}
 use Rattle.demands.specs.Answers.{Inserted}
-use Rattle.salvage.specs.Meeting.{Met, over, found, records_in, missed, not_marked, places, met_in, met_from, met}
+use Rattle.salvage.specs.Met.{Met, over, found, records_in, missed, not_marked, places, met_in, met_from, met}
 use Rattle.salvage.specs.Salvage.{why_not}
 use Rattle.salvaged.specs.Spots.{Spot, spots, spots_of, rows_of, inserts, started, tried_after, Lent}
 use Rattle.salvaged.specs.Reported.{Line, lines_by}

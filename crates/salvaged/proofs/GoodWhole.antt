@@ -23,7 +23,7 @@ use Rattle.rules.specs.State.{State, Outcome, key_in}
 use Rattle.rules.specs.Requests.{inserting, answer}
 use Rattle.demands.specs.History.{stored}
 use Rattle.demands.specs.Contents.{records_below, records_above, changed, Contains}
-use Rattle.salvage.specs.Meeting.{Met, over, found, not_marked, met}
+use Rattle.salvage.specs.Met.{Met, over, found, not_marked, met}
 use Rattle.salvage.specs.Salvage.{why_not}
 use Rattle.salvaged.specs.Spots.{Spot, spots, spots_of, rows_of, started, carried_of, Lent}
 use Rattle.salvaged.specs.Reported.{Line, lines_by, lines_of}

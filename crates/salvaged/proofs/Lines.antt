@@ -14,7 +14,7 @@ use Rattle.drum.specs.declared.Description.{Description}
 use Rattle.drum.specs.Params.{D}
 use Rattle.rules.specs.State.{State, Outcome, key_in}
 use Rattle.rules.specs.Requests.{inserting, lending, answer}
-use Rattle.salvage.specs.Meeting.{Met, over, found, met}
+use Rattle.salvage.specs.Met.{Met, over, found, met}
 use Rattle.salvage.specs.Salvage.{Walk, Salvaging, lined, why_not, after, tried, settled, step, run, begun, ended, roomy, salvage}
 use Rattle.salvage.specs.Promise.{Roomy}
 use Rattle.salvage.proofs.Steps.{step-grown}

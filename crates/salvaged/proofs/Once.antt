@@ -10,7 +10,7 @@ use lib.Dec.{eqb}
 use Rattle.drum.specs.declared.Description.{Description}
 use Rattle.drum.specs.Blocks.{block_at}
 use Rattle.layout.specs.Holds.{All}
-use Rattle.salvage.specs.Meeting.{Met, over, found, records_in, missed, places, met_in, met_from}
+use Rattle.salvage.specs.Met.{Met, over, found, records_in, missed, places, met_in, met_from}
 use Rattle.salvaged.proofs.Rows.{all_both, all-at}
 
 abbrev pub block_of : Met → ℕ

@@ -15,7 +15,7 @@ use Rattle.drum.specs.Blocks.{Block, block_at}
 use Rattle.layout.specs.Holds.{All}
 use Rattle.rules.specs.State.{State, Outcome, key_in}
 use Rattle.rules.specs.Requests.{inserting, answer, left}
-use Rattle.salvage.specs.Meeting.{Met, over, found, records_in, missed, places, met_in, met_from, met}
+use Rattle.salvage.specs.Met.{Met, over, found, records_in, missed, places, met_in, met_from, met}
 use Rattle.salvage.specs.Salvage.{why_not}
 use Rattle.salvaged.specs.Spots.{Spot, spots, spots_of, inserts, started, tried_after, carried_of}
 use Rattle.salvaged.specs.Reported.{Line, lines_by, lines_of, lines_at, passed_over, Reported, CarriedOrReported}

@@ -19,7 +19,7 @@ use Rattle.drum.proofs.Good.{caps}
 use Rattle.drum.proofs.Blocks.{length-block}
 use Rattle.layout.specs.Holds.{All}
 use Rattle.rules.specs.State.{key_in}
-use Rattle.salvage.specs.Meeting.{Met, over, found, count_in, rows_from, records_in, missed, places, met_in, met_from, met}
+use Rattle.salvage.specs.Met.{Met, over, found, count_in, rows_from, records_in, missed, places, met_in, met_from, met}
 use Rattle.salvage.proofs.Tests.{range-facts, whole}
 use Rattle.salvaged.specs.Spots.{Spot, spots, rows_of, Lent}
 

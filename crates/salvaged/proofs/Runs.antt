@@ -30,7 +30,7 @@ use Rattle.demands.proofs.Opens.{open-tests}
 use Rattle.demands.proofs.Made.{made-opens}
 use Rattle.demands.proofs.Whole.{run-contents}
 use Rattle.demands.proofs.Came.{Stays, settled-stays}
-use Rattle.salvage.specs.Meeting.{Met, over, found}
+use Rattle.salvage.specs.Met.{Met, over, found}
 use Rattle.salvage.specs.Salvage.{Walk, lined, why_not, after, tried, settled, step, run, begun}
 use Rattle.salvage.proofs.Steps.{step-grown}
 use Rattle.salvaged.specs.Spots.{Spot, spots, rows_of, inserts, started, carried_of}

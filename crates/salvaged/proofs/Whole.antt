@@ -19,7 +19,7 @@ use Rattle.demands.specs.Durable.{ClosesBy}
 use Rattle.demands.specs.Formula.{of_xtend, started_new, share, new_details, new_indexes, X, x, shares, all_transfers, Within}
 use Rattle.demands.proofs.Durable.{closed-stands}
 use Rattle.demands.proofs.Demands.{session-formula}
-use Rattle.salvage.specs.Meeting.{met}
+use Rattle.salvage.specs.Met.{met}
 use Rattle.salvage.specs.Salvage.{Walk, Salvaging, run, begun, ended, roomy, salvage}
 use Rattle.salvaged.specs.Spots.{Spot, spots, spots_of, rows_of, inserts, started, carried_of}
 use Rattle.salvaged.specs.Carried.{SalvageOpens, SalvageCost}

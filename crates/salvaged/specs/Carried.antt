@@ -12,7 +12,7 @@ use Rattle.demands.specs.Contents.{changed, Contains}
 use Rattle.demands.specs.Answers.{Inserted}
 use Rattle.demands.specs.Formula.{S, s}
 use Rattle.salvage.specs.Salvage.{salvage}
-use Rattle.salvage.specs.Meeting.{met}
+use Rattle.salvage.specs.Met.{met}
 use Rattle.salvaged.specs.Spots.{Spot, spots_of, rows_of, inserts, started, tried_after, carried_of, Lent, EachSpot}
 
 -- a call that is not refused: what it was lent, and its report has room

@@ -7,7 +7,7 @@ use Rattle.drum.specs.declared.Description.{Description}
 use Rattle.drum.specs.Blocks.{Block, block_at}
 use Rattle.rules.specs.State.{State, key_in}
 use Rattle.rules.specs.Requests.{inserting, answer}
-use Rattle.salvage.specs.Meeting.{Met, over, found, missed, met}
+use Rattle.salvage.specs.Met.{Met, over, found, missed, met}
 use Rattle.salvage.specs.Salvage.{why_not, salvage}
 use Rattle.salvaged.specs.Spots.{Spot, spots_of, started, tried_after, carried_of}
 use Rattle.salvaged.specs.Carried.{OfCall}

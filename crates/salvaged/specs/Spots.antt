@@ -6,7 +6,7 @@ use Rattle.drum.specs.declared.Description.{Description}
 use Rattle.drum.specs.Params.{good_params, file_size}
 use Rattle.rules.specs.State.{State, Outcome, key_in, lent}
 use Rattle.rules.specs.Requests.{Request, inserting, closing, answer, left}
-use Rattle.salvage.specs.Meeting.{Met, over, found, met}
+use Rattle.salvage.specs.Met.{Met, over, found, met}
 use Rattle.salvage.specs.Salvage.{Walk, begun}
 
 -- "Every ordinary record in a block not passed over": its block, its place there, its words [Z8]

@@ -3,7 +3,7 @@ use Rattle.std.specs.Prelude.{ℕ, ◌≡◌, ◌⊎◌, List}
 use Rattle.drum.specs.declared.Description.{Description}
 use Rattle.layout.specs.Tree.{Tree, contents}
 use Rattle.layout.specs.Holds.{All, Holds}
-use Rattle.salvage.specs.Meeting.{not_marked}
+use Rattle.salvage.specs.Met.{not_marked}
 use Rattle.salvage.specs.Salvage.{salvage}
 use Rattle.salvaged.specs.Spots.{Lent}
 use Rattle.salvaged.specs.Carried.{OfCall, OpensWith}

@@ -1,15 +1,22 @@
 -- The names are tried in the order of the definition.
-use borrow.Author.Rules.{rules}
 use Rattle.texts.specs.Texts.{bytes}
 use Rattle.texts.specs.Results.{spelling}
 use Rattle.lines.specs.Lines.{named, kinds}
 use Rattle.lines.proofs.Turns.{first_of, second-of, third_of, rest_of}
 use Rattle.lines.proofs.names.call_spelled.Goals as goal
 
-pub is_name-requires-2 : goal.is_name-requires-2
+pub returns-then-is_name : goal.returns-then-is_name
 unfolding named kinds spelling bytes
-is_name-requires-2 c = search first_of
+returns-then-is_name c = search first_of
 
-pub kind-requires-then-is_name-3 : goal.kind-requires-then-is_name-3
+pub returns-then-is_name-2 : goal.returns-then-is_name-2
 unfolding named kinds spelling bytes
-kind-requires-then-is_name-3 c = search second-of
+returns-then-is_name-2 c = search second-of
+
+pub returns-then-is_name-3 : goal.returns-then-is_name-3
+unfolding named kinds spelling bytes
+returns-then-is_name-3 c = search third_of
+
+pub returns : goal.returns
+unfolding named kinds spelling bytes
+returns c = search rest_of

@@ -5,7 +5,7 @@ use native.Mathlib.Omega.{arith}
 use borrow.Author.Rules.{rules}
 use lib.ListN.{length}
 use Rattle.layout.specs.Holds.{ascending, keys_of}
-use Rattle.salvage.specs.Meeting.{rows_from}
+use Rattle.salvage.specs.Met.{rows_from}
 use Rattle.salvage.proofs.Rows.{key_here, key-next, next_fits, rest-rows, keys-told, keys-done, keys-again}
 use Rattle.salvage.proofs.texts.keys_ascend.Goals as goal
 

@@ -5,7 +5,7 @@ use native.Mathlib.Omega.{arith}
 use borrow.Author.Rules.{rules}
 use lib.ListN.{length}
 use Rattle.drum.specs.Params.{D}
-use Rattle.salvage.specs.Meeting.{met, met_from}
+use Rattle.salvage.specs.Met.{met, met_from}
 use Rattle.salvage.specs.Salvage.{run}
 use Rattle.salvage.specs.Promise.{walking, Spare, Copied}
 use Rattle.salvage.proofs.Walks.{blocks-first, spare-first, copied_on, spare-block, number-most, spare-next, desc-next, block-turn, blocks_end, blocks-fit}

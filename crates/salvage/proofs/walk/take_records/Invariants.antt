@@ -6,7 +6,7 @@ use native.Mathlib.Omega.{arith}
 use borrow.Author.Rules.{rules}
 use lib.ListN.{length}
 use Rattle.drum.specs.Params.{good_params}
-use Rattle.salvage.specs.Meeting.{places, records_in, rows_from}
+use Rattle.salvage.specs.Met.{places, records_in, rows_from}
 use Rattle.salvage.specs.Salvage.{run}
 use Rattle.salvage.specs.Promise.{walking, Spare}
 use Rattle.salvage.proofs.Walks.{text-some, marked-least, block-small, desc-good, count-few, rows-within, records-spare, records-first}
