@@ -1,5 +1,6 @@
 // Calls as values: a call is its kind, and where its key or record begins in an array of words kept beside it.
 #![tactic(auto)]
+
 ghost use Rattle.std.specs.Prelude.{◌≡◌};
 ghost use Rattle.searchfile.specs.Promise.{given, counted_open};
 ghost use Rattle.calls.specs.Perform.{staged, staged_as, staged_for, done, performed_as};
