@@ -5,9 +5,15 @@ use Rattle.words.proofs.Parts.{put-none}
 use Rattle.texts.specs.Texts.{bytes}
 use Rattle.faults.specs.Sentences.{suggestion}
 use Rattle.faults.proofs.Three.{three-written}
-use borrow.Author.Rules.{rules}
 use Rattle.faults.proofs.figures.put_suggestion.Goals as goal
 
-pub returns-in-Kind : goal.returns-in-Kind
+pub returns-in-Nothing : goal.returns-in-Nothing
 unfolding suggestion
-returns-in-Kind c = rw c.enum_told.given.1 (sym (put-none _ _), omega arith, omega arith)
+returns-in-Nothing c = rw c.in-Nothing.is (sym (put-none _ _), omega arith, omega arith)
+
+pub returns-in-Kind : goal.returns-in-Kind
+unfolding suggestion bytes
+returns-in-Kind c =
+    let n = c.put_name-named.ensures in
+    let w = three-written _ _ _ _ _ _ _ _ _ _ _ c.put_bytes-mark.ensures (n.0, n.1) c.put_bytes.ensures (omega arith) in
+    rw c.in-Kind.is (w.0, w.1, omega arith)

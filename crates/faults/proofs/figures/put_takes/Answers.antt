@@ -3,10 +3,16 @@ use native.Mathlib.Omega.{arith}
 use borrow.Author.Tests.{eq-eqb, ne_eqb}
 use Rattle.texts.specs.Texts.{bytes}
 use Rattle.faults.specs.Sentences.{takes_text}
-use borrow.Author.Rules.{rules}
 use Rattle.faults.proofs.figures.put_takes.Goals as goal
 
-pub put_figure-requires : goal.put_figure-requires
+pub returns-then-takes-eq1 : goal.returns-then-takes-eq1
 unfolding takes_text bytes
-put_figure-requires c =
-    rw (eq-eqb _ _ c.if-takes-eq1.true) (c.put-bytes.ensures.0, c.put-bytes.ensures.1, omega (arith, c.put-bytes.ensures.1))
+returns-then-takes-eq1 c =
+    let b = c.put_bytes.ensures in
+    rw (eq-eqb _ _ c.if-takes-eq1.true) (b.0, b.1, omega (arith, b.1))
+
+pub returns : goal.returns
+unfolding takes_text bytes
+returns c =
+    let f = c.put_figure.ensures in
+    rw (ne_eqb _ _ c.if-takes-eq1.false) (f.0, f.1, omega (arith, f.2))

@@ -1,5 +1,6 @@
 -- `first::first_fault` meets its contract.
 use mathlib.Core.Path.{ap}
+use Rattle.std.proofs.lemmas.Bool.{not_from_true}
 use borrow.Author.Tests.{not-true, not-false}
 use Rattle.drum.proofs.Good.{was-good, size-good}
 use Rattle.faults.specs.declared.Fault.TheVariants.{TooLarge}
@@ -18,5 +19,5 @@ returns-in-Nothing c = rw c.in-Nothing.is c.words_fault.ensures
 pub returns-else-not-is_good : goal.returns-else-not-is_good
 unfolding first_fault
 returns-else-not-is_good c =
-    let good = was-good _ c.is_good.result c.is_good.ensures c.if-not-is_good.false in
+    let good = was-good _ c.is_good.result c.is_good.ensures (not_from_true _ c.if-not-is_good.false) in
     rw (c.in-Given.is, good) (ap TooLarge (size-good _ _ _ c.file_size.ensures good))

@@ -1,23 +1,42 @@
--- Each fault has its text.
+-- `sentence::put_fault` meets its contract.
 use native.Mathlib.Omega.{arith}
 use Rattle.texts.specs.Texts.{bytes}
 use Rattle.faults.specs.Sentences.{fault_text}
-use borrow.Author.Rules.{rules}
 use Rattle.faults.proofs.Told.{fault-put, fault-end}
 use Rattle.faults.proofs.sentence.put_fault.Goals as goal
 
-pub shape_of-out-in-AboveTop : goal.shape_of-out-in-AboveTop
+pub returns-in-Empty : goal.returns-in-Empty
 unfolding fault_text bytes
-shape_of-out-in-AboveTop c = (search fault-put, search fault-end, omega arith)
+returns-in-Empty c = (search fault-put, search fault-end, omega arith)
 
-pub shape_of-out-in-NotSix : goal.shape_of-out-in-NotSix
+pub returns-in-NotPlayed : goal.returns-in-NotPlayed
 unfolding fault_text bytes
-shape_of-out-in-NotSix c = (search fault-put, search fault-end, omega arith)
+returns-in-NotPlayed c = (search fault-put, search fault-end, omega arith)
 
-pub shape_of-out-in-OutOfRange : goal.shape_of-out-in-OutOfRange
+pub returns-in-NoCall : goal.returns-in-NoCall
 unfolding fault_text bytes
-shape_of-out-in-OutOfRange c = (search fault-put, search fault-end, omega arith)
+returns-in-NoCall c = (search fault-put, search fault-end, omega arith)
 
-pub shape_of-out-in-TooLarge : goal.shape_of-out-in-TooLarge
+pub returns-in-Count : goal.returns-in-Count
 unfolding fault_text bytes
-shape_of-out-in-TooLarge c = (search fault-put, search fault-end, omega arith)
+returns-in-Count c = (search fault-put, search fault-end, omega arith)
+
+pub returns-in-NoNumber : goal.returns-in-NoNumber
+unfolding fault_text bytes
+returns-in-NoNumber c = (search fault-put, search fault-end, omega arith)
+
+pub returns-in-AboveTop : goal.returns-in-AboveTop
+unfolding fault_text bytes
+returns-in-AboveTop c = (search fault-put, search fault-end, omega arith)
+
+pub returns-in-NotSix : goal.returns-in-NotSix
+unfolding fault_text bytes
+returns-in-NotSix c = (search fault-put, search fault-end, omega arith)
+
+pub returns-in-OutOfRange : goal.returns-in-OutOfRange
+unfolding fault_text bytes
+returns-in-OutOfRange c = (search fault-put, search fault-end, omega arith)
+
+pub returns-in-TooLarge : goal.returns-in-TooLarge
+unfolding fault_text bytes
+returns-in-TooLarge c = (search fault-put, search fault-end, omega arith)

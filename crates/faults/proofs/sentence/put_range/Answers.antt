@@ -1,0 +1,15 @@
+-- `sentence::put_range` meets its contract.
+use native.Mathlib.Omega.{arith}
+use Rattle.texts.specs.Texts.{bytes}
+use Rattle.faults.specs.Sentences.{range_text}
+use Rattle.faults.proofs.Three.{three-written}
+use Rattle.faults.proofs.sentence.put_range.Goals as goal
+
+pub returns : goal.returns
+unfolding range_text bytes
+returns c =
+    let x = c.put_is-is.ensures in
+    let y = c.put_figure-low.ensures in
+    let z = c.put_figure.ensures in
+    let w = three-written _ _ _ _ _ _ _ _ _ _ _ (x.0, x.1) (y.0, y.1) (z.0, z.1) (omega arith) in
+    (w.0, w.1, omega arith)
