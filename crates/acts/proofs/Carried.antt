@@ -19,7 +19,6 @@ use Rattle.drum.proofs.Blocks.{text-current, text-other, block-still}
 use Rattle.rules.specs.declared.Path.{Path}
 use Rattle.rules.specs.declared.Way.{Way}
 use Rattle.rules.specs.declared.Way.TheVariants.{Here, By}
-use Rattle.rules.specs.declared.Done.{Done}
 use Rattle.rules.specs.Lookup.{flush_moves, reached, stopping}
 use Rattle.rules.specs.Fits.{FlushFits, WayFits}
 use Rattle.rules.specs.Told.{gave, told}

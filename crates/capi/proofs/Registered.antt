@@ -2,7 +2,7 @@
 use Prim.Native.Nat.{ℕ, ◌≤◌}
 use mathlib.Core.Path.{◌≡◌, refl, ◌∙◌}
 use mathlib.Core.Bool.{Bool, true, false, cond, not, ◌&&◌}
-use mathlib.Core.List.{List, ◌++◌}
+use mathlib.Core.List.{List}
 use native.Mathlib.Omega.{arith}
 use lib.Dec.{eqb}
 use mir.Syntax.{w32}
@@ -10,9 +10,8 @@ use mir.Val.{Fits}
 use lib.ListN.{length, get_or, length-append}
 use Rattle.numbers.specs.Numbers.{done, not_allowed}
 use Rattle.numbers.specs.Checked.{Checked, passed, refused}
-use Rattle.rules.specs.State.{State, Outcome, desc, unchanged}
+use Rattle.rules.specs.State.{State, Outcome, desc}
 use Rattle.rules.specs.Seek.{seek, updat}
-use Rattle.rules.specs.NsertDone.{nsert}
 use Rattle.rules.specs.Requests.{lending}
 use Rattle.register.specs.Names.{raw, romanised, on_hold, state_of}
 use Rattle.register.specs.Register.{has_state, name_ok, spelled_ok, checked, raw_name, stopped, joined, sought, followed, move, spelled, turned, turn, enter, ask, romanise, hold, free}

@@ -1,15 +1,15 @@
 -- Salvage's promise, told in words; and two results allowed by it are equal.
-use Prim.Native.Nat.{ℕ, ◌≤◌}
+use Prim.Native.Nat.{ℕ}
 use mathlib.Core.Path.{◌≡◌, sym, ap, ◌∙◌}
 use mathlib.Core.Bool.{Bool, true, false, cond, not, ◌&&◌}
-use mathlib.Core.List.{List, [], ◌∷◌}
+use mathlib.Core.List.{List}
 use borrow.Author.Tests.{not-true, not-false, eq-eqb, ne_eqb}
 use lib.Dec.{eqb}
 use lib.ListN.{length, set}
 use Rattle.numbers.specs.Numbers.{wrong_size}
 use Rattle.drum.specs.declared.Description.{Description}
 use Rattle.salvage.specs.declared.Salvaged.{Salvaged}
-use Rattle.salvage.specs.Salvage.{Salvaging, salvage}
+use Rattle.salvage.specs.Salvage.{salvage}
 use Rattle.salvage.specs.Promise.{answered_with}
 use Rattle.capi.specs.Words.{is_session, parameters_in}
 use Rattle.capi.specs.Salvage.{ReturnedSalvage, returned_salvage, told_salvage, called_salvage, OneReturnedSalvage}

@@ -26,7 +26,7 @@ use Rattle.searchfile.specs.Promise.{held, given}
 use Rattle.searchfile.specs.Turning.{CountedTurn, counted_turn, answered_turn}
 use Rattle.capi.specs.Words.{is_session, parameters_in, session_of, words_of, most_word, bit, packed}
 use Rattle.capi.specs.Turning.{ReturnedTurn, returned_turn, told_turn, called_turn, OnlyForm, OneReturnedTurn}
-use Rattle.capi.proofs.Words.{session-facts, form-read, words-kept}
+use Rattle.capi.proofs.Words.{form-read, words-kept}
 
 -- ---- the call hands back the session with another form at most
 

@@ -13,7 +13,6 @@ use lib.ListN.{length}
 use Rattle.numbers.specs.Numbers.{wrong_size}
 use Rattle.numbers.specs.Checked.{between}
 use Rattle.numbers.proofs.Passed.{both}
-use Rattle.words.specs.Words.{part}
 use Rattle.drum.specs.declared.Description.{Description}
 use Rattle.drum.specs.Params.{good_params, sized, start}
 use Rattle.drum.specs.Blocks.{block_at, text_of}

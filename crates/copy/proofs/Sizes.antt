@@ -17,7 +17,7 @@ use Rattle.drum.specs.Blocks.{sections}
 use Rattle.drum.proofs.Good.{caps}
 use Rattle.layout.specs.Copied.{under_control}
 use Rattle.rules.specs.Copy.{copy_sizes}
-use Rattle.rules.proofs.Copies.{CopySized, copy-yes, copy-no}
+use Rattle.rules.proofs.Copies.{copy-yes, copy-no}
 
 -- the description that `with_control` gives
 abbrev pub controlled : ℕ → Description → Description

@@ -6,7 +6,6 @@ use mathlib.Core.List.{List}
 use lib.ListN.{length}
 use borrow.Author.Tests.{not-true, not-false}
 use Rattle.numbers.specs.Numbers.{done, wrong_size, already_open, bad_file}
-use Rattle.numbers.specs.Checked.{Checked, passed}
 use Rattle.drum.specs.declared.Description.{Description}
 use Rattle.layout.specs.Inspect.{layout_marks}
 use Rattle.layout.specs.Inspected.{flagged, left_marks, Fit}

@@ -4,13 +4,12 @@ use mathlib.Core.Path.{◌≡◌, refl}
 use mathlib.Core.Bool.{Bool, true, false}
 use mathlib.Core.List.{List}
 use lib.Dec.{eqb}
-use lib.ListN.{get_or, drop}
+use lib.ListN.{drop}
 use Rattle.numbers.specs.Numbers.{bad_file}
-use Rattle.numbers.specs.Checked.{Checked, passed, refused, ◌>>=◌, ◌>>◌, require}
-use Rattle.words.specs.Words.{part, all_are}
+use Rattle.numbers.specs.Checked.{Checked, passed, refused, require}
+use Rattle.words.specs.Words.{all_are}
 use Rattle.table.specs.declared.Shape.{Shape}
 use Rattle.drum.specs.declared.Description.{Description}
-use Rattle.drum.specs.Params.{start}
 use Rattle.drum.specs.Blocks.{Texts, is_free, link_in, link_place, block_at}
 use Rattle.layout.specs.Inspect.{marked, rows_in, detail_held, index_held, through, chain_held, walked, layout_marks}
 use Rattle.rules.specs.declared.Which.{Which}

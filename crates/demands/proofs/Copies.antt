@@ -1,7 +1,7 @@
 -- A copy is opened and used as the file it was made from: one tree stands in both.
 use Prim.Native.Nat.{ℕ, ◌≤◌}
 use mathlib.Core.Path.{◌≡◌, sym, ap, ◌∙◌, subst}
-use mathlib.Core.Bool.{Bool, true, false}
+use mathlib.Core.Bool.{true}
 use mathlib.Core.List.{List}
 use native.Mathlib.Omega.{arith}
 use lib.ListN.{length}
@@ -11,10 +11,10 @@ use Rattle.drum.specs.Params.{good_params}
 use Rattle.layout.specs.Tree.{Tree, contents}
 use Rattle.layout.specs.Holds.{Holds, WellFormed}
 use Rattle.layout.specs.Copied.{under_control, copied}
-use Rattle.layout.proofs.Good.{Sized, good-facts}
+use Rattle.layout.proofs.Good.{good-facts}
 use Rattle.layout.proofs.Unique.{master-words, one-tree}
 use Rattle.layout.proofs.Copied.{copy_holds}
-use Rattle.rules.specs.State.{Session, State, lent, desc}
+use Rattle.rules.specs.State.{State, lent, desc}
 use Rattle.rules.specs.Open.{open_file}
 use Rattle.rules.specs.Copy.{Copy, copy}
 use Rattle.rules.proofs.Copies.{copy-facts, copy-exact, copy-opens}

@@ -11,11 +11,11 @@ use borrow.Author.Tests.{eq-eqb, ne_eqb}
 use Rattle.numbers.specs.Numbers.{done}
 use Rattle.numbers.specs.Checked.{passed}
 use Rattle.words.specs.Keys.{val}
-use Rattle.table.specs.Tables.{count, removed, key_at, laid}
+use Rattle.table.specs.Tables.{count, removed, key_at}
 use Rattle.drum.proofs.Blocks.{length-free_text}
 use Rattle.drum.specs.declared.Description.{Description}
 use Rattle.drum.specs.Params.{I, good_params, master_shape, index_shape, detail_shape}
-use Rattle.drum.specs.Blocks.{Transfer, text_of, free_text, written}
+use Rattle.drum.specs.Blocks.{Transfer, text_of, written}
 use Rattle.drum.proofs.Good.{good-facts}
 use Rattle.rules.specs.declared.Path.{Path}
 use Rattle.rules.specs.declared.Way.{Way}

@@ -11,7 +11,6 @@ use borrow.Author.Tests.{lt-ltb, le-ltb, eq-eqb, ne_eqb}
 use Rattle.numbers.specs.Numbers.{done, none_free, bad_file}
 use Rattle.numbers.specs.Checked.{Checked, passed, ◌>>=◌, ◌>>◌, up_to, require}
 use Rattle.words.specs.Words.{zeros}
-use Rattle.table.specs.Tables.{laid}
 use Rattle.drum.proofs.FreeTexts.{kind-free_text, link-free_text}
 use Rattle.drum.specs.declared.Description.{Description}
 use Rattle.drum.specs.Params.{D, good_params}

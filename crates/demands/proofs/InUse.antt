@@ -9,7 +9,7 @@ use native.Mathlib.Numerals.{add-one}
 use lib.ListN.{length, length-append}
 use Rattle.table.specs.Tables.{count, block_in}
 use Rattle.drum.specs.declared.Description.{Description}
-use Rattle.drum.specs.Params.{master_shape, detail_shape, index_shape}
+use Rattle.drum.specs.Params.{master_shape, index_shape}
 use Rattle.drum.specs.Blocks.{Texts, block_at}
 use Rattle.rules.specs.State.{State, desc, texts}
 use Rattle.demands.specs.Formula.{details_under, detail_blocks, index_blocks}

@@ -4,7 +4,6 @@ use Prim.Native.Nat.{ℕ}
 use mathlib.Core.Path.{◌≡◌, refl}
 use mathlib.Core.List.{List, [], ◌∷◌, map}
 use Rattle.words.specs.Words.{zeros}
-use Rattle.table.specs.Tables.{count}
 use lib.ListN.{get_or}
 use Rattle.drum.specs.declared.Description.{Description}
 use Rattle.drum.specs.Blocks.{block_at, chain_head, lowest_unused}

@@ -1,13 +1,13 @@
 -- Document 01, "Numbers returned (octal)": "Checked in this order; the first that applies is given, and none otherwise", of the first four.
 use Prim.Native.Nat.{ℕ}
-use mathlib.Core.Path.{◌≡◌, refl, ◌∙◌, ap}
+use mathlib.Core.Path.{◌≡◌, refl, ap}
 use mathlib.Core.Bool.{Bool, true, false, not, ◌&&◌, ◌||◌}
 use mathlib.Core.List.{List}
 use lib.Dec.{eqb}
 use lib.ListN.{length}
 use native.Mathlib.Omega.{arith}
 use Rattle.numbers.specs.Numbers as number_is
-use Rattle.numbers.specs.Checked.{Checked, passed, refused, ◌>>=◌, ◌>>◌, require}
+use Rattle.numbers.specs.Checked.{Checked, passed, refused, ◌>>◌, require}
 use Rattle.layout.specs.Inspect.{layout_marks}
 use Rattle.rules.specs.State.{State, Outcome, Effect, desc, texts, outcome, unchanged, settle}
 use Rattle.rules.specs.Checks.{sizes_ok, work_ok, is_open, key_ok, keyed_call}

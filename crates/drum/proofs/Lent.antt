@@ -11,7 +11,7 @@ use Rattle.table.specs.declared.Shape.{Shape}
 use Rattle.table.specs.Tables.{count, place, inserted, replaced, laid}
 use Rattle.table.specs.Splits.{renamed}
 use Rattle.drum.specs.declared.Description.{Description}
-use Rattle.drum.specs.Params.{file_size, start, index_kind, index_shape, tag_of}
+use Rattle.drum.specs.Params.{start, index_kind, index_shape, tag_of}
 use Rattle.drum.specs.Blocks.{Fitting, Block, block_at, put_block}
 use Rattle.drum.specs.Inside.{HasBlock, Takes}
 use Rattle.drum.proofs.Good.{caps}

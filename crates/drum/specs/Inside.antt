@@ -4,7 +4,6 @@ use Rattle.table.specs.declared.Shape.{Shape}
 use Rattle.table.specs.Tables.{count, place}
 use Rattle.drum.specs.declared.Description.{Description}
 use Rattle.drum.specs.Params.{file_size, good_params}
-use Rattle.drum.specs.Blocks.{Block}
 
 -- a file of the right length, and the number of one of its blocks [P8, P10]
 pub record HasBlock (p : Description) (f : List ℕ) (b : ℕ) : Type 0 where

@@ -1,5 +1,5 @@
 -- The refusals before a call's steps: told one by one or together, what they leave to rely on, and each return of the code that makes them.
-use mathlib.Core.Path.{◌≡◌, refl, sym, ap, ◌∙◌}
+use mathlib.Core.Path.{◌≡◌, refl, sym, ◌∙◌}
 use mathlib.Core.Bool.{Bool, true, false, not, ◌&&◌}
 use mathlib.Core.List.{List}
 use Prim.Native.Nat.{ℕ, zero, suc, ◌+◌, ◌≤◌}
@@ -8,7 +8,7 @@ use borrow.Author.Tests.{eqb-true, not-true, not-false, eq-eqb, ne_eqb}
 use lib.Dec.{eqb}
 use lib.ListN.{length}
 use Rattle.numbers.specs.Numbers.{wrong_size, is_closed, wrong_key}
-use Rattle.numbers.specs.Checked.{Checked, passed, refused, ◌>>=◌, ◌>>◌, require}
+use Rattle.numbers.specs.Checked.{Checked, passed, refused, ◌>>◌, require}
 use Rattle.numbers.proofs.Passed.{Passed, chain, required}
 use Rattle.words.specs.Words.{top_word, part, all_words, all_are}
 use Rattle.words.specs.Keys.{is_ones}

@@ -1,5 +1,5 @@
 -- What is wrong with a line of calls that document 01 calls a bad one. The word is the first of the line.
-use Rattle.std.specs.Prelude.{ℕ, ◌-◌, Bool, cond, List, eqb}
+use Rattle.std.specs.Prelude.{ℕ, ◌-◌, cond, List, eqb}
 use Rattle.std.proofs.Math.Option.{Option, none, some}
 use Rattle.words.specs.Keys.{same_key}
 use Rattle.drum.specs.declared.Description.{Description}

@@ -1,5 +1,5 @@
 -- What a fault is told by, beside what is kept of a line: its words counted, and the first that is not all digits.
-use Rattle.std.specs.Prelude.{ℕ, suc, Bool, true, false, cond, not, ◌&&◌, List, [], ◌∷◌, ltb, eqb}
+use Rattle.std.specs.Prelude.{ℕ, suc, Bool, true, false, cond, ◌&&◌, List, [], ◌∷◌, ltb, eqb}
 use Rattle.lines.specs.Lines.{is_blank, is_line_feed, is_digit, top_number}
 use Rattle.faults.specs.declared.watch.Watch.{Watch}
 

@@ -1,18 +1,17 @@
 -- One new block and two, by what the code found: each grant, and the tests of what was granted.
-use Prim.Native.Nat.{ℕ, ◌≤◌}
+use Prim.Native.Nat.{ℕ}
 use mathlib.Core.Path.{◌≡◌, refl, sym, ap, ◌∙◌}
 use mathlib.Core.Bool.{Bool, true, false, not, ◌&&◌, and-false, and-true}
 use mathlib.Core.List.{List}
 use borrow.Author.Tests.{eq-eqb, ne_eqb, not-true, not-false}
 use lib.Dec.{eqb, leb}
 use Rattle.numbers.specs.Numbers.{bad_file}
-use Rattle.numbers.specs.Checked.{Checked, passed, refused, ◌>>◌, require}
+use Rattle.numbers.specs.Checked.{passed, refused, ◌>>◌, require}
 use Rattle.words.proofs.Keys.{clash}
 use Rattle.drum.specs.declared.Description.{Description}
 use Rattle.drum.specs.Blocks.{Texts, seen, chain_head, lowest_unused, sections}
 use Rattle.rules.specs.declared.Path.{Path}
 use Rattle.rules.specs.declared.Taken.{Taken}
-use Rattle.rules.specs.declared.Pair.{Pair}
 use Rattle.rules.specs.Free.{granted, is_new, is_short, take_one, take_two}
 use Rattle.free.specs.declared.Grant.{Grant}
 use Rattle.free.specs.declared.Grant.TheVariants.{Bad, Got}

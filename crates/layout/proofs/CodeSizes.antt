@@ -1,5 +1,5 @@
 -- Where rows, the master and the blocks of a file that fits lie.
-use mathlib.Core.Path.{◌≡◌, refl, ap, ◌∙◌}
+use mathlib.Core.Path.{◌≡◌, ap, ◌∙◌}
 use mathlib.Core.Bool.{Bool, false, not}
 use mathlib.Core.List.{List}
 use Prim.Native.Nat.{ℕ, ◌+◌, ◌*◌, ◌-◌, ◌^◌, ◌≤◌, ◌<◌}
@@ -11,7 +11,7 @@ use Rattle.table.proofs.Places.{row-le, row_next}
 use Rattle.drum.specs.declared.Description.{Description}
 use Rattle.drum.specs.Params.{D, I, start, master_size, file_size, size_if}
 use Rattle.words.specs.Words.{part}
-use Rattle.drum.specs.Blocks.{block_at, Block}
+use Rattle.drum.specs.Blocks.{block_at}
 use Rattle.drum.proofs.Good.{caps, size-good}
 use Rattle.drum.proofs.Blocks.{block_within, length-block}
 use Rattle.layout.specs.Inspect.{marked}

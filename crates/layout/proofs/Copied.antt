@@ -14,9 +14,9 @@ use Rattle.drum.specs.Params.{D, I, master_size, file_size, start, good_params, 
 use Rattle.drum.specs.Blocks.{sections, block_at, link_place, free_text}
 use Rattle.layout.specs.Create.{end_record}
 use Rattle.layout.specs.Tree.{Leaf, Section, Tree, head_of, leaves_of}
-use Rattle.layout.specs.Holds.{All, OneTo, LeafOk, LeavesOk, IndexIn, DetailIn, ChainIn, Holds, master_entries, master_text}
+use Rattle.layout.specs.Holds.{All, LeavesOk, IndexIn, DetailIn, ChainIn, Holds, master_entries, master_text}
 use Rattle.layout.specs.Copied.{under_control, entries_end, copied, CopyBlocks, CopyHolds, CopyBack}
-use Rattle.layout.proofs.Good.{Sized, good-facts, master-fits, master-in}
+use Rattle.layout.proofs.Good.{Sized, good-facts, master-fits}
 use Rattle.layout.proofs.Texts.{three-words}
 use Rattle.layout.proofs.Trees.{master-length}
 use Rattle.layout.proofs.Unique.{master-words}

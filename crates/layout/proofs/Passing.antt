@@ -8,7 +8,7 @@ use native.Mathlib.Nat.{not-suc-le-zero}
 use lib.ListN.{length, get_or, drop}
 use borrow.Author.Tests.{le-leb, ne_eqb}
 use Rattle.words.specs.Words.{all_are, zeros}
-use Rattle.numbers.specs.Checked.{passed, ◌>>=◌}
+use Rattle.numbers.specs.Checked.{passed}
 use Rattle.table.specs.declared.Shape.{Shape}
 use Rattle.drum.specs.declared.Description.{Description}
 use Rattle.drum.specs.Params.{D, I, start, index_shape, detail_shape}

@@ -2,7 +2,7 @@
 use Prim.Native.Nat.{ℕ, zero, suc, ◌+◌, ◌-◌, ◌≤◌}
 use mathlib.Core.Path.{◌≡◌, refl, sym, ap, subst, ◌∙◌}
 use mathlib.Core.Bool.{Bool, true, false, cond}
-use mathlib.Core.List.{List, [], ◌∷◌, ◌++◌}
+use mathlib.Core.List.{List, [], ◌∷◌}
 use native.Mathlib.Omega.{arith}
 use lib.Dec.{leb}
 use lib.ListN.{length}
@@ -12,17 +12,16 @@ use Rattle.words.proofs.Parts.{part-all}
 use Rattle.words.proofs.All.{all_words-cons, cons-all_words, append-all_words, all_words-part, all_words-set, all_words-replicate, all_words-get_or}
 use Rattle.table.specs.Tables.{laid}
 use Rattle.drum.specs.declared.Description.{Description}
-use Rattle.drum.specs.Params.{D, I, master_size, file_size, start, good_params, tag_of, free_kind, index_shape, detail_shape}
+use Rattle.drum.specs.Params.{D, I, master_size, file_size, start, good_params, tag_of, free_kind}
 use Rattle.drum.specs.Blocks.{block_at, link_place, link_in, free_text, Block}
 use Rattle.drum.proofs.Good.{caps}
 use Rattle.drum.proofs.Forms.{tag-most, index-tag, detail-tag}
 use Rattle.drum.proofs.FreeTexts.{link-free_text}
 use Rattle.layout.specs.Create.{end_record}
-use Rattle.layout.specs.Tree.{Leaf, Section, Tree, leaves_in, leaves_of, leaf_blocks, blocks_in, reached_blocks, head_of, times, marks_of}
-use Rattle.layout.specs.Holds.{All, OneTo, LeafOk, LeavesOk, IndexIn, DetailIn, ChainIn, Holds, master_text}
+use Rattle.layout.specs.Tree.{Leaf, Section, Tree, leaves_of, leaf_blocks, reached_blocks, head_of, times, marks_of}
+use Rattle.layout.specs.Holds.{All, OneTo, LeavesOk, IndexIn, DetailIn, ChainIn, Holds, master_text}
 use Rattle.layout.specs.Turned.{other_form, turned_text, turned, indexes_in, TurnHolds, TurnBack, TurnOpens}
 use Rattle.layout.proofs.Good.{start_first, start-end}
-use Rattle.layout.proofs.Lists.{all_append, all_left, all_right}
 use Rattle.layout.proofs.Marked.{marks-length}
 use Rattle.layout.proofs.Exact.{open-exact}
 use Rattle.layout.proofs.OneFile.{all-times, one_more_lem, one-file}

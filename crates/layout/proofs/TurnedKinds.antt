@@ -9,7 +9,6 @@ use native.Mathlib.Nat.{not-suc-le-zero, mul-le-mul}
 use lib.Dec.{leb}
 use lib.ListN.{length, get_or}
 use borrow.Author.Tests.{leb-true, leb-false}
-use Rattle.words.specs.Words.{zeros}
 use Rattle.table.specs.Tables.{laid}
 use Rattle.drum.specs.declared.Description.{Description}
 use Rattle.drum.specs.Params.{D, I, good_params, index_kind, detail_kind, index_shape, detail_shape}
@@ -21,7 +20,7 @@ use Rattle.layout.specs.Inspect.{named}
 use Rattle.layout.specs.Tree.{Leaf, Section, Tree, leaves_of, leaf_blocks, reached_blocks, head_of, times}
 use Rattle.layout.specs.Holds.{All, OneTo, LeavesOk, IndexIn, DetailIn, ChainIn, Holds, WellFormed}
 use Rattle.layout.specs.Turned.{other_form, indexes_in, kind_of, KindsTold, OneForm}
-use Rattle.layout.proofs.Good.{Sized, good-facts}
+use Rattle.layout.proofs.Good.{good-facts}
 use Rattle.layout.proofs.Lists.{get_or-zeros}
 use Rattle.layout.proofs.Read.{section_at, sections_at, tree_at, sections-length}
 use Rattle.layout.proofs.Unique.{tree-at}

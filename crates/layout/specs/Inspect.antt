@@ -1,9 +1,9 @@
 -- Document 01, "Layout", as OPEN tests it: one walk through the file that marks each block it comes to and ends at the first fault.
 -- All places are places in the file's words f. `low` is where the key stands that the next keys must be above, 0 where there is none
 -- (word 0 is no key's place). The marks are all that the walk carries.
-use Rattle.std.specs.Prelude.{ℕ, zero, suc, ◌+◌, ◌*◌, ◌-◌, List, [], ◌∷◌, ◌++◌, Bool, true, false, cond, not, ◌&&◌, ◌||◌, leb, ltb, eqb, length, get_or, take, drop, set}
+use Rattle.std.specs.Prelude.{ℕ, zero, suc, ◌+◌, ◌*◌, ◌-◌, List, Bool, true, false, not, ◌&&◌, ◌||◌, eqb, length, get_or, take, drop, set}
 use Rattle.numbers.specs.Numbers.{bad_file}
-use Rattle.numbers.specs.Checked.{Checked, passed, refused, ◌>>=◌, ◌>>◌, require, within}
+use Rattle.numbers.specs.Checked.{Checked, passed, refused, require, within}
 use Rattle.words.specs.Words.{part, zeros, all_are, none_is, all_words}
 use Rattle.words.specs.Keys.{key_lt, key_le, same_key, is_ones}
 use Rattle.drum.specs.declared.Description.{Description}

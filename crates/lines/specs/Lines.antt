@@ -1,5 +1,5 @@
 -- Document 01, "One session, printed": what an input is. Its lines, their words, and the call that a line is. docs/DECISIONS.md, readings 7 to 11.
-use Rattle.std.specs.Prelude.{ℕ, ◌+◌, ◌*◌, ◌-◌, Bool, true, false, cond, ◌&&◌, ◌||◌, List, [], ◌∷◌, leb, eqb, length, get_or}
+use Rattle.std.specs.Prelude.{ℕ, ◌+◌, ◌*◌, ◌-◌, Bool, true, cond, ◌&&◌, ◌||◌, List, [], ◌∷◌, leb, eqb, length, get_or}
 use Rattle.std.proofs.Math.Option.{Option, none, some}
 use Rattle.words.specs.Keys.{same_key}
 use Rattle.drum.specs.declared.Description.{Description}

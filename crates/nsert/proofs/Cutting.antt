@@ -2,35 +2,30 @@
 use mathlib.Core.Path.{◌≡◌, refl, sym, ap, ◌∙◌}
 use mathlib.Core.Bool.{Bool}
 use mathlib.Core.List.{List, [], ◌∷◌, ◌++◌}
-use Prim.Native.Nat.{ℕ, ◌+◌, ◌≤◌, ◌<◌}
-use native.Mathlib.Omega.{arith}
+use Prim.Native.Nat.{ℕ, ◌+◌, ◌<◌}
 use lib.ListN.{length}
 use Rattle.words.specs.Words.{part}
-use Rattle.words.proofs.Parts.{length_part}
-use Rattle.table.specs.declared.Shape.{Shape}
 use Rattle.table.specs.Tables.{count}
 use Rattle.table.specs.Splits.{renamed, entered}
 use Rattle.drum.specs.declared.Description.{Description}
-use Rattle.drum.specs.Params.{D, I, file_size, master_shape, index_shape, detail_shape}
-use Rattle.drum.specs.Blocks.{Fitting, Block, Transfer, Write, written, block_at, put_block, Texts, seen, text_of, sections}
+use Rattle.drum.specs.Params.{I, file_size, master_shape, index_shape}
+use Rattle.drum.specs.Blocks.{Fitting, Block, Transfer, Write, written, block_at, put_block, Texts, text_of, sections}
 use Rattle.drum.proofs.Forms.{count-master}
 use Rattle.drum.proofs.Blocks.{length-put_block, block_same, block-other, block-over, block-swap, length-text_of}
 use Rattle.drum.proofs.Written.{Moves, written-append, moves-append}
 use Rattle.rules.specs.declared.Path.{Path}
 use Rattle.rules.specs.declared.Way.TheVariants.{By}
-use Rattle.rules.specs.declared.Taken.{Taken}
-use Rattle.rules.specs.Lookup.{reached, text_at}
+use Rattle.rules.specs.Lookup.{reached}
 use Rattle.rules.specs.Free.{with_free}
-use Rattle.rules.specs.State.{record_in}
 use Rattle.rules.specs.NsertDone.{detail_low, detail_high, detail_entry, index_entered, index_low, index_high, index_entry}
 use Rattle.rules.specs.NsertDone.{split_moves, both_split_moves, split_file, both_split_file}
 use Rattle.rules.proofs.Kept.{index-block, detail-block, reached-moves, freed-count}
-use Rattle.rules.proofs.NsertKept.{low-length, high-length, entry_length, entered-length, index-low-length}
+use Rattle.rules.proofs.NsertKept.{low-length, high-length, entered-length, index-low-length}
 use Rattle.free.specs.Readied.{ReadyFits, reached_file, ready_file}
 use Rattle.free.proofs.Readying.{length-reached, length-ready}
 use Rattle.split.specs.Halves.{halved, low_entry}
 use Rattle.nsert.specs.declared.splits.Overflow.{Overflow}
-use Rattle.nsert.specs.Fits.{CutFits, SplitFits, BothFits, second_of}
+use Rattle.nsert.specs.Fits.{CutFits, second_of}
 use Rattle.nsert.specs.Steps.{cut_file, above_file}
 
 -- block i written, then d and n, then i again

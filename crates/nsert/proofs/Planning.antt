@@ -17,7 +17,7 @@ use Rattle.table.specs.Tables.{count, place, row_above, first_where, fits}
 use Rattle.table.specs.Splits.{low_count}
 use Rattle.drum.specs.declared.Description.{Description}
 use Rattle.drum.specs.Params.{D, I, detail_shape, index_shape}
-use Rattle.drum.specs.Blocks.{Fitting, Block, Texts, seen, text_of, chain_head, lowest_unused}
+use Rattle.drum.specs.Blocks.{Fitting, Texts, seen, text_of, chain_head, lowest_unused}
 use Rattle.drum.proofs.Good.{caps}
 use Rattle.drum.proofs.Blocks.{length-text_of}
 use Rattle.rules.specs.declared.Path.{Path}

@@ -14,16 +14,14 @@ use Rattle.table.proofs.Lengths.{length-low, length_high}
 use Rattle.drum.specs.declared.Description.{Description}
 use Rattle.drum.specs.Params.{D, I, good_params, master_size, file_size, master_shape, index_shape, detail_shape}
 use Rattle.drum.specs.Blocks.{Fitting, Block, block_at, put_block, Texts, seen, text_of, sections}
-use Rattle.drum.specs.Inside.{HasBlock}
 use Rattle.drum.proofs.Good.{caps}
 use Rattle.drum.proofs.Forms.{index-tag, detail-tag, count-master}
 use Rattle.drum.proofs.Blocks.{length-put_block, length-text_of, master-word}
-use Rattle.rules.specs.declared.Path.{Path}
 use Rattle.rules.specs.declared.Way.TheVariants.{By}
 use Rattle.rules.specs.State.{record_in}
 use Rattle.rules.specs.NsertDone.{detail_low, detail_high, detail_entry, split_file, both_split_file}
 use Rattle.rules.proofs.Kept.{index-block, detail-block}
-use Rattle.rules.proofs.Rooms.{master-base, master-row}
+use Rattle.rules.proofs.Rooms.{master-row}
 use Rattle.free.specs.Readied.{ready_file}
 use Rattle.free.proofs.Readying.{length-ready}
 use Rattle.split.specs.Halves.{FullTable, halved, low_entry}

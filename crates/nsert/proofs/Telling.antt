@@ -1,7 +1,7 @@
 -- What the code tells of a record stored, of a block split and of both blocks split, is what the definition tells.
 use mathlib.Core.Path.{◌≡◌, refl, sym, ap, ◌∙◌, subst}
 use mathlib.Core.Bool.{Bool, true, false, cond}
-use mathlib.Core.List.{List, [], ◌∷◌, ◌++◌}
+use mathlib.Core.List.{List, [], ◌++◌}
 use Prim.Native.Nat.{ℕ, ◌+◌, ◌≤◌, ◌<◌}
 use native.Mathlib.Omega.{arith}
 use borrow.Author.Tests.{lt-ltb, le-ltb}
@@ -42,7 +42,7 @@ use Rattle.acts.proofs.Moves.{stopped}
 use Rattle.acts.proofs.Ways.{moves-most}
 use Rattle.nsert.specs.declared.splits.Overflow.{Overflow}
 use Rattle.nsert.specs.Answers.{as_insert}
-use Rattle.nsert.specs.Fits.{RoomFits, CutFits, HalfFits, SplitFits, BothFits, InsertFits, one_split, first_split, second_of}
+use Rattle.nsert.specs.Fits.{RoomFits, CutFits, HalfFits, SplitFits, BothFits, InsertFits, one_split, first_split}
 
 -- a key lies in a record
 pub key-within : (p : Description) (f b : List ℕ) → Fitting p f b → p.k ≤ p.wpr

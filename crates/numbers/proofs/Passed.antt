@@ -1,7 +1,7 @@
 -- A property that every value has which a chain of checks passes: one law for each form of a chain, so that `search` walks it; and what
 -- a single line that was passed tells.
 use Prim.Native.Nat.{ℕ, ◌≤◌}
-use mathlib.Core.Path.{◌≡◌, refl, sym, subst}
+use mathlib.Core.Path.{◌≡◌, refl, subst}
 use mathlib.Core.Bool.{Bool, true, false, cond, ◌&&◌}
 use lib.Dec.{leb}
 use borrow.Author.Tests.{leb-true}

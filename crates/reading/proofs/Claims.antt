@@ -1,18 +1,16 @@
 -- The claims of the reading set's calls, for all sessions and words.
-use Prim.Native.Nat.{ℕ, ◌+◌, ◌≤◌, ◌<◌}
-use mathlib.Core.Path.{◌≡◌, refl, sym, ap, ◌∙◌}
+use Prim.Native.Nat.{ℕ, ◌≤◌}
+use mathlib.Core.Path.{◌≡◌, refl, ap, ◌∙◌}
 use mathlib.Core.Bool.{Bool, true, false, cond}
 use mathlib.Core.Logic.{◌⊎◌, inl, inr}
-use mathlib.Core.List.{List, [], ◌∷◌}
+use mathlib.Core.List.{List}
 use native.Mathlib.Omega.{arith}
 use borrow.Author.Tests.{eq-eqb, eqb-true}
-use lib.Dec.{eqb}
 use lib.ListN.{length}
 use Rattle.numbers.specs.Checked.{Checked, passed, refused, ◌>>=◌, ◌>>◌, require}
 use Rattle.numbers.specs.Numbers.{wrong_size, bad_file}
 use Rattle.numbers.proofs.Passed.{Passed, chain, by-refused, by-bind, by-passed}
-use Rattle.drum.specs.Params.{sized}
-use Rattle.drum.specs.Blocks.{Texts, Transfer, Read, written, writes}
+use Rattle.drum.specs.Blocks.{Texts, written, writes}
 use Rattle.layout.specs.Inspect.{layout_marks}
 use Rattle.rules.specs.declared.Path.{Path}
 use Rattle.rules.specs.declared.Way.{Way}
@@ -21,8 +19,8 @@ use Rattle.rules.specs.declared.Look.{Look}
 use Rattle.rules.specs.declared.Look.TheVariants as look_is
 use Rattle.rules.specs.declared.Step.{Step}
 use Rattle.rules.specs.declared.Step.TheVariants as step_is
-use Rattle.rules.specs.State.{State, Outcome, Effect, desc, texts, key_in, position_key, lent, at_rest, holding, positioned, outcome, unchanged, settle}
-use Rattle.rules.specs.Checks.{sizes_ok, work_ok, is_open, key_ok}
+use Rattle.rules.specs.State.{State, Outcome, Effect, desc, texts, key_in, at_rest, holding, positioned, outcome, unchanged, settle}
+use Rattle.rules.specs.Checks.{sizes_ok, work_ok, is_open}
 use Rattle.rules.specs.Lookup.{look, flush_moves, bringing, reached, stopping}
 use Rattle.rules.specs.Fits.{PathFits}
 use Rattle.rules.specs.Seek.{seek, seek_done, seek_steps, giving}
@@ -32,7 +30,7 @@ use Rattle.rules.specs.Close.{close, close_checks, close_done}
 use Rattle.rules.proofs.Fits.{covering-fits, next-passed}
 use Rattle.reading.specs.declared.ReadingSession.{ReadingSession}
 use Rattle.reading.specs.Finished.{finished, finished_marks}
-use Rattle.reading.specs.Reading.{as_session, given, one_section, profile, altering, read_open, read_open_done, read_seek, read_adv, read_close, read_alter}
+use Rattle.reading.specs.Reading.{as_session, given, one_section, profile, altering, read_open, read_open_done}
 use Rattle.reading.specs.Claims.{ReadingIsRules, SeekTwo, AdvThree, Unwritten, FileKept, Refused020010}
 use Rattle.reading.proofs.Kept.{Kept, seek-kept, adv-kept}
 use Rattle.reading.proofs.Profile.{profile-is}

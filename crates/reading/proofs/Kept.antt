@@ -1,10 +1,10 @@
 -- SEEK and ADV where nothing is flagged: they only read, so the file and the flag stay.
-use Prim.Native.Nat.{ℕ, ◌≤◌}
+use Prim.Native.Nat.{ℕ}
 use mathlib.Core.Path.{◌≡◌, refl, ap, ◌∙◌}
 use mathlib.Core.Bool.{Bool, true, false, cond}
 use mathlib.Core.List.{List, [], ◌∷◌}
 use lib.Dec.{eqb}
-use Rattle.numbers.specs.Checked.{Checked, passed, refused, ◌>>=◌}
+use Rattle.numbers.specs.Checked.{Checked, passed, refused}
 use Rattle.numbers.proofs.Passed.{Passed, by-refused, by-bind, by-passed}
 use Rattle.drum.specs.declared.Description.{Description}
 use Rattle.drum.specs.Blocks.{Transfer, Read, written, writes, Texts, seen}

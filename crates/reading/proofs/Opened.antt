@@ -6,7 +6,7 @@ use mathlib.Core.List.{List, []}
 use borrow.Author.Tests.{eq-eqb, ne_eqb}
 use lib.ListN.{length}
 use Rattle.numbers.specs.Numbers.{done, wrong_size, already_open, bad_file}
-use Rattle.numbers.specs.Checked.{Checked, passed, refused, ◌>>=◌, ◌>>◌}
+use Rattle.numbers.specs.Checked.{passed, refused}
 use Rattle.words.specs.Words.{zeros}
 use Rattle.drum.specs.declared.Description.{Description}
 use Rattle.drum.specs.Params.{sized}
@@ -16,7 +16,7 @@ use Rattle.layout.proofs.CodeFlags.{halted, moved}
 use Rattle.rules.specs.State.{State, desc, lent, at_rest, unchanged}
 use Rattle.rules.specs.Checks.{sizes_ok}
 use Rattle.rules.specs.Open.{Opened, open_checks, open_layout}
-use Rattle.face.specs.Counted.{CountedOpen, counted_open}
+use Rattle.face.specs.Counted.{counted_open}
 use Rattle.reading.specs.declared.ReadingSession.{ReadingSession}
 use Rattle.reading.specs.declared.Answer.{Answer}
 use Rattle.reading.specs.Finished.{finished_marks}

@@ -1,6 +1,6 @@
 -- Whether the detail blocks are 2, 3, .. with FD records each but the last: one law for each return, and what a file that was inspected leaves to rely on.
 use Prim.Native.Nat.{ℕ, zero, suc, ◌+◌, ◌*◌, ◌-◌, ◌≤◌, ◌<◌}
-use mathlib.Core.Path.{◌≡◌, refl, sym, ap, ◌∙◌, subst}
+use mathlib.Core.Path.{◌≡◌, sym, ap, ◌∙◌, subst}
 use mathlib.Core.Bool.{Bool, true, false, not, ◌&&◌}
 use mathlib.Core.List.{List}
 use native.Mathlib.Nat.{not-suc-le-zero}
@@ -11,7 +11,7 @@ use lib.ListN.{length, get_or}
 use mir.Syntax.{w64}
 use mir.Val.{Fits}
 use Rattle.numbers.specs.Numbers.{bad_file}
-use Rattle.numbers.specs.Checked.{Checked, passed, refused, ◌>>=◌, ◌>>◌, require}
+use Rattle.numbers.specs.Checked.{passed, refused}
 use Rattle.words.specs.Words.{zeros}
 use Rattle.words.proofs.Parts.{get_d_part}
 use Rattle.table.specs.declared.Shape.{Shape}
@@ -19,7 +19,7 @@ use Rattle.table.specs.Tables.{count}
 use Rattle.table.proofs.Places.{row-le}
 use Rattle.drum.specs.declared.Description.{Description}
 use Rattle.drum.specs.Params.{I, FD, start, index_shape, detail_shape}
-use Rattle.drum.specs.Blocks.{chain_head, sections, block_at, Block}
+use Rattle.drum.specs.Blocks.{sections, block_at, Block}
 use Rattle.drum.proofs.Good.{caps}
 use Rattle.layout.specs.Inspect.{named, layout_marks}
 use Rattle.layout.specs.Inspected.{Fit, flagged, left_marks}

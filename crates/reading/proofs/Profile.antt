@@ -2,27 +2,25 @@
 -- the first refusal, d what the steps gave, r the answer, and b₁, w₁ are the words left.
 use Prim.Native.Nat.{ℕ}
 use mathlib.Core.Path.{◌≡◌, refl, sym, ap, ◌∙◌}
-use mathlib.Core.Bool.{Bool, true, false, cond, not, ◌&&◌}
+use mathlib.Core.Bool.{Bool, true, false, not, ◌&&◌}
 use mathlib.Core.List.{List, []}
-use borrow.Author.Tests.{eqb-true, eq-eqb, ne_eqb, not-true, not-false}
-use lib.Dec.{eqb}
+use borrow.Author.Tests.{eq-eqb, ne_eqb, not-true, not-false}
 use lib.ListN.{length}
 use Rattle.numbers.specs.Numbers.{done, wrong_size, is_closed, reading_only}
-use Rattle.numbers.specs.Checked.{Checked, passed, refused, ◌>>=◌, ◌>>◌}
+use Rattle.numbers.specs.Checked.{Checked, passed, refused, ◌>>◌}
 use Rattle.words.specs.Words.{part, put}
 use Rattle.words.proofs.All.{and_both}
 use Rattle.words.proofs.Keys.{clash}
 use Rattle.drum.specs.declared.Description.{Description}
 use Rattle.drum.specs.Params.{sized}
 use Rattle.rules.specs.State.{State, Effect, Outcome, desc, lent, texts, holding, positioned, at_rest, unchanged, settle}
-use Rattle.rules.specs.Checks.{sizes_ok, work_ok, is_open}
 use Rattle.rules.specs.Close.{close}
 use Rattle.rules.specs.Told.{gave, told}
 use Rattle.rules.specs.declared.Done.{Done}
 use Rattle.rules.specs.Lookup.{flush_moves}
 use Rattle.drum.specs.Blocks.{written}
 use Rattle.face.specs.Checks.{refusing, plain_checks}
-use Rattle.face.specs.Counted.{Counted, counted, next}
+use Rattle.face.specs.Counted.{counted, next}
 use Rattle.face.proofs.Refusing.{refusing-some, refusing-none, plain, plain-chain}
 use Rattle.face.proofs.Chains.{Chain, seen_of, told-seen, refused-by}
 use Rattle.face.proofs.Closing.{sizes-no, opened-no, all_yes}

@@ -12,7 +12,6 @@ use Rattle.drum.specs.Params.{sized}
 use Rattle.drum.specs.Parts.{Borrowed, Part, part_of, part_text, text_part}
 use Rattle.drum.specs.Blocks.{Fitting, seen, text_of}
 use Rattle.drum.proofs.Good.{sized-facts}
-use Rattle.rules.specs.State.{lent}
 use Rattle.rules.specs.Close.{view}
 use Rattle.face.specs.Parts.{shown}
 use Rattle.reading.specs.declared.ReadingSession.{ReadingSession}

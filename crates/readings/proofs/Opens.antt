@@ -5,11 +5,11 @@ use mathlib.Core.Bool.{Bool, true, false, ◌&&◌}
 use mathlib.Core.Logic.{◌⊎◌, inl, inr}
 use mathlib.Core.List.{List, [], ◌∷◌}
 use native.Mathlib.Omega.{arith}
-use borrow.Author.Tests.{eqb-true, eq-eqb}
+use borrow.Author.Tests.{eq-eqb}
 use lib.Dec.{eqb}
 use lib.ListN.{length}
 use Rattle.numbers.specs.Numbers.{done, wrong_size, is_closed, bad_file}
-use Rattle.numbers.specs.Checked.{Checked, passed, refused, ◌>>=◌, ◌>>◌, require}
+use Rattle.numbers.specs.Checked.{Checked, passed, refused, ◌>>◌, require}
 use Rattle.words.specs.Words.{zeros}
 use Rattle.words.proofs.All.{and_both}
 use Rattle.drum.specs.declared.Description.{Description}
@@ -19,14 +19,14 @@ use Rattle.layout.specs.Inspect.{layout_marks}
 use Rattle.layout.specs.Tree.{Leaf, Tree, leaves_of, marks_of}
 use Rattle.layout.specs.Holds.{Holds}
 use Rattle.layout.proofs.Exact.{open-exact, refused_none}
-use Rattle.rules.specs.State.{Session, State, desc, texts, lent, at_rest, unchanged}
+use Rattle.rules.specs.State.{State, desc, texts, lent}
 use Rattle.rules.specs.Checks.{sizes_ok, is_open}
-use Rattle.rules.specs.Lookup.{flush_ok, flush_moves}
+use Rattle.rules.specs.Lookup.{flush_ok}
 use Rattle.rules.specs.Open.{Opened, create, open_file, open_layout}
 use Rattle.rules.specs.Close.{close, close_checks, close_done}
 use Rattle.rules.specs.Requests.{Request, answer, left}
 use Rattle.demands.specs.Promises.{put_back}
-use Rattle.demands.specs.Filled.{ButLast, Full, Most, Any, Filled, OnlyXtends}
+use Rattle.demands.specs.Filled.{ButLast, Full, Most, Any, Filled}
 use Rattle.demands.proofs.Came.{same-parameters}
 use Rattle.demands.proofs.Demands.{opened-desc}
 use Rattle.demands.proofs.Filled.{extended-filled}
@@ -35,7 +35,7 @@ use Rattle.reading.specs.Finished.{finished, finished_marks}
 use Rattle.reading.specs.Reading.{given, read_open}
 use Rattle.reading.proofs.Order.{not-laid, is-laid, not-finished}
 use Rattle.reading.proofs.Opened.{read-inspected}
-use Rattle.readings.specs.Trees.{Finished, OpensFinished, ReadingOpens, FinishedWhileOne, ExtendedFinished, AllExtended}
+use Rattle.readings.specs.Trees.{Finished, OpensFinished, ReadingOpens, AllExtended}
 use Rattle.readings.proofs.Trees.{finished-tree, tree-finished}
 
 -- ---- the inspection comes to one of two

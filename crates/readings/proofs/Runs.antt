@@ -3,20 +3,19 @@ use Prim.Native.Nat.{ℕ}
 use mathlib.Core.Path.{◌≡◌, refl, sym, ap, ◌∙◌, subst}
 use mathlib.Core.Bool.{Bool, true, false, cond, not}
 use mathlib.Core.List.{List, [], ◌∷◌, ◌++◌}
-use borrow.Author.Tests.{eqb-true, eq-eqb}
+use borrow.Author.Tests.{eqb-true}
 use lib.Dec.{eqb}
 use lib.ListN.{length}
 use native.Mathlib.Omega.{arith}
 use Rattle.numbers.specs.Numbers.{done, wrong_size, is_closed, already_open, reading_only}
-use Rattle.numbers.specs.Checked.{Checked, passed, refused, ◌>>=◌, ◌>>◌, require}
-use Rattle.words.specs.Words.{part}
+use Rattle.numbers.specs.Checked.{Checked, passed, refused, ◌>>◌, require}
 use Rattle.drum.specs.declared.Description.{Description}
 use Rattle.drum.specs.Params.{sized}
 use Rattle.drum.proofs.Good.{sized-facts}
 use Rattle.layout.specs.Tree.{Tree, contents}
 use Rattle.layout.specs.Holds.{Holds}
 use Rattle.layout.specs.Inspect.{layout_marks}
-use Rattle.rules.specs.State.{Session, State, Outcome, Effect, desc, key_in, lent, unchanged, settle}
+use Rattle.rules.specs.State.{Session, State, Outcome, desc, key_in, lent, unchanged, settle}
 use Rattle.rules.specs.Checks.{sizes_ok, work_ok, is_open}
 use Rattle.rules.specs.Lookup.{flush_moves}
 use Rattle.drum.specs.Blocks.{written}
@@ -32,12 +31,10 @@ use Rattle.demands.specs.Answers.{Answered, Sought, Advanced, ordinary, above_po
 use Rattle.demands.proofs.Came.{same-parameters}
 use Rattle.demands.proofs.Answered.{call-answers}
 use Rattle.reading.specs.declared.ReadingSession.{ReadingSession}
-use Rattle.reading.specs.Finished.{finished, finished_marks}
+use Rattle.reading.specs.Finished.{finished}
 use Rattle.reading.specs.Reading.{one_section, as_session, given, profile, read_open, read_open_done, read_close, read_seek, read_adv, read_alter}
 use Rattle.reading.specs.Reading as reading-is
-use Rattle.reading.specs.Claims.{Unwritten}
 use Rattle.reading.proofs.Claims.{reading-is-rules, file-kept}
-use Rattle.readings.specs.Trees.{Finished}
 use Rattle.readings.specs.Runs.{Reading, opening, closing, seeking, advancing, altering, read, read_left, ReadsRight, ReadingRun}
 use Rattle.readings.proofs.Trees.{tree-finished}
 use Rattle.readings.proofs.Opens.{reading-opens}

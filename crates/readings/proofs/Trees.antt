@@ -1,8 +1,8 @@
 -- The words of a finished file and the tree that stands in it.
-use Prim.Native.Nat.{ℕ, zero, suc, ◌+◌, ◌-◌, ◌≤◌, ◌<◌}
+use Prim.Native.Nat.{ℕ, zero, suc, ◌+◌, ◌-◌, ◌<◌}
 use mathlib.Core.Path.{◌≡◌, refl, sym, ap, ◌∙◌, subst}
-use mathlib.Core.Bool.{Bool, true, false, ◌&&◌, ◌||◌}
-use mathlib.Core.List.{List, [], ◌∷◌, ◌++◌, append-nil}
+use mathlib.Core.Bool.{Bool, true, false, ◌||◌}
+use mathlib.Core.List.{List, [], ◌∷◌, append-nil}
 use native.Mathlib.Omega.{arith}
 use borrow.Author.Tests.{eqb-true, eq-eqb, ne_eqb}
 use lib.Dec.{eqb}
@@ -11,13 +11,12 @@ use Rattle.words.proofs.All.{and_both, both-and}
 use Rattle.words.proofs.Keys.{clash}
 use Rattle.table.specs.Tables.{count}
 use Rattle.drum.specs.declared.Description.{Description}
-use Rattle.drum.specs.Params.{FD, good_params, file_size, start, index_shape, detail_shape}
+use Rattle.drum.specs.Params.{FD, good_params, start, index_shape, detail_shape}
 use Rattle.drum.specs.Blocks.{chain_head, lowest_unused, sections, block_at}
 use Rattle.drum.proofs.Good.{good-facts}
 use Rattle.layout.specs.Inspect.{named}
-use Rattle.layout.specs.Tree.{Leaf, Section, Tree, leaf_blocks, leaves_in, leaves_of}
+use Rattle.layout.specs.Tree.{Leaf, Tree, leaf_blocks}
 use Rattle.layout.specs.Holds.{Holds}
-use Rattle.layout.proofs.Good.{Sized}
 use Rattle.layout.proofs.Read.{leaf_at, leaves_at, section_at, sections_at, chain_at, tree_at, records_at, entries_at, rows-length, leaves-length, sections-length}
 use Rattle.layout.proofs.Read.{next_free, chain-none, chain-some}
 use Rattle.layout.proofs.Unique.{tree-at}

@@ -5,13 +5,13 @@ use mathlib.Core.Bool.{Bool}
 use mathlib.Core.List.{List}
 use native.Mathlib.Omega.{arith}
 use lib.ListN.{length}
-use Rattle.numbers.specs.Checked.{Checked, passed, refused, ◌>>=◌, ◌>>◌}
-use Rattle.numbers.proofs.Passed.{Passed, chain, by-passed, by-bind}
+use Rattle.numbers.specs.Checked.{Checked, passed, refused}
+use Rattle.numbers.proofs.Passed.{Passed, chain, by-passed}
 use Rattle.drum.specs.Blocks.{Texts}
 use Rattle.rules.specs.declared.Way.TheVariants.{By}
 use Rattle.rules.specs.declared.Look.{Look}
 use Rattle.rules.specs.declared.Look.TheVariants as look_is
-use Rattle.rules.specs.State.{State, Effect, Outcome, desc, texts, outcome, settle}
+use Rattle.rules.specs.State.{State, Effect, desc, texts, outcome, settle}
 use Rattle.rules.specs.Checks.{keyed_call}
 use Rattle.rules.specs.Lookup.{stopping, storing}
 use Rattle.rules.specs.Seek.{giving, seek_done, seek_steps, seek, updat_done, updat_steps, updat}

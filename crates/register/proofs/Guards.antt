@@ -2,12 +2,10 @@
 -- first refusal, r the answer, and f₁, b₁, w₁ are the words left.
 use Prim.Native.Nat.{ℕ, ◌-◌, ◌≤◌, ◌<◌}
 use mathlib.Core.Path.{◌≡◌, refl, sym, ap, ◌∙◌}
-use mathlib.Core.Bool.{Bool, true, false}
+use mathlib.Core.Bool.{Bool, true}
 use mathlib.Core.List.{List}
 use native.Mathlib.Omega.{arith}
 use borrow.Author.Tests.{lt-ltb, le-ltb}
-use lib.Dec.{ltb}
-use lib.ListN.{length}
 use Rattle.numbers.specs.Numbers.{wrong_size}
 use Rattle.numbers.specs.Checked.{Checked, passed, refused, require}
 use Rattle.words.specs.Words.{put, zeros}
@@ -18,11 +16,11 @@ use Rattle.rules.specs.NsertDone.{nsert}
 use Rattle.rules.specs.Requests.{lending}
 use Rattle.searchfile.specs.declared.Session as code
 use Rattle.searchfile.specs.declared.Answer.{Answer}
-use Rattle.searchfile.specs.Promise.{Counted, given, counted, answered}
+use Rattle.searchfile.specs.Promise.{given, counted, answered}
 use Rattle.face.specs.Checks.{refusing}
 use Rattle.face.proofs.Refusing.{refusing-some, refusing-none}
 use Rattle.register.specs.Names.{raw}
-use Rattle.register.specs.Register.{has_state, name_ok, spelled_ok, checked, raw_name, enter, ask, next, move, spelled, romanise, turned, turn}
+use Rattle.register.specs.Register.{has_state, checked, raw_name, enter, ask, next, move, spelled, romanise, turned, turn}
 use Rattle.register.proofs.Refusing.{name_tests, spelled_tests, name-chain, spelled-chain, name-fits}
 use Rattle.register.proofs.Records.{raw-written}
 

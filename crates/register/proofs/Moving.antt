@@ -3,7 +3,7 @@
 use Prim.Native.Nat.{ℕ, ◌+◌, ◌-◌, ◌≤◌}
 use mathlib.Core.Path.{◌≡◌, refl, sym, ap, ◌∙◌}
 use mathlib.Core.Bool.{Bool, true, false, cond, not, ◌&&◌, and-false}
-use mathlib.Core.List.{List, ◌++◌}
+use mathlib.Core.List.{List}
 use native.Mathlib.Omega.{arith}
 use borrow.Author.Tests.{eq-eqb, ne_eqb, not-true, not-false}
 use lib.Dec.{eqb}
@@ -13,13 +13,13 @@ use Rattle.numbers.specs.Checked.{Checked, passed, refused, ◌>>◌, require}
 use Rattle.words.specs.Words.{part, put, all_words}
 use Rattle.words.proofs.Parts.{part-all}
 use Rattle.drum.specs.declared.Description.{Description}
-use Rattle.rules.specs.State.{State, Outcome, desc, key_in}
+use Rattle.rules.specs.State.{State, desc, key_in}
 use Rattle.rules.specs.Seek.{seek, updat}
 use Rattle.rules.specs.Requests.{lending}
 use Rattle.searchfile.specs.declared.Session as code
 use Rattle.searchfile.specs.declared.Answer.{Answer}
 use Rattle.searchfile.specs.Promise.{Counted, given, counted, answered}
-use Rattle.register.specs.Names.{romanised, on_hold, spelling_size, name_of, state_of, spelling_of}
+use Rattle.register.specs.Names.{romanised, on_hold, name_of, state_of, spelling_of}
 use Rattle.register.specs.Register.{stopped, joined, sought, followed, move, spelled, turned, turn, hold, free}
 use Rattle.register.specs.Checks.{StateFits, SpellingFits, stopped_by, after}
 use Rattle.register.proofs.Records.{spelled-written, turned-written}

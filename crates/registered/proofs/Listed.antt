@@ -1,7 +1,7 @@
 -- No name is listed twice, and the listing goes on in order: what `demands` promises of SEEK and ADV, of the state that the register's calls left.
 use Prim.Native.Nat.{ℕ, ◌≤◌, ◌<◌}
-use mathlib.Core.Path.{◌≡◌, refl, sym, ap, ◌∙◌, subst}
-use mathlib.Core.Bool.{Bool, true}
+use mathlib.Core.Path.{◌≡◌, sym, ap, subst}
+use mathlib.Core.Bool.{Bool}
 use mathlib.Core.List.{List, [], ◌∷◌}
 use native.Mathlib.Omega.{arith}
 use borrow.Author.Tests.{lt-ltb}
@@ -14,7 +14,7 @@ use Rattle.rules.specs.Adv.{adv}
 use Rattle.rules.specs.Requests.{seeking, advancing, lending, answer, left}
 use Rattle.demands.specs.History.{with_key}
 use Rattle.demands.specs.Contents.{Contains}
-use Rattle.demands.specs.Answers.{Keyed, Sought, Advanced, Answered, ordinary, above_position}
+use Rattle.demands.specs.Answers.{Sought, Advanced, Answered, ordinary, above_position}
 use Rattle.demands.proofs.Mission.{second}
 use Rattle.register.specs.Register.{has_state, checked, next}
 use Rattle.registered.specs.Deeds.{Deed, listing, did, left_by, requests}

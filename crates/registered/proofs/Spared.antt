@@ -14,7 +14,7 @@ use Rattle.rules.specs.State.{State, desc, key_in}
 use Rattle.rules.specs.Requests.{opening, closing, seeking, advancing, inserting, deleting, updating, extending, answer, left}
 use Rattle.demands.specs.Story.{deed_of, deeds, stands, added, replaced, removed, added-to, in_place}
 use Rattle.demands.specs.Story as story
-use Rattle.register.specs.Names.{raw, romanised, state_of, spelling_of}
+use Rattle.register.specs.Names.{raw, state_of, spelling_of}
 use Rattle.registered.specs.Deeds.{Deed, entering, asking, listing, holding, freeing, romanising, calling, requests_of, requests}
 use Rattle.registered.specs.Kept.{Romanised, Moved, spelling, held, freed, Step, stays, enters, moves, Registers, Spares}
 use Rattle.registered.proofs.Runs.{deeds-append, stands-append}

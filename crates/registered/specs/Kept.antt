@@ -1,13 +1,13 @@
 -- What no sequence of register calls can do. Document 02, "The name register": "While only register calls touch the file, no sequence of them changes a
 -- romanised name's spelling or lists a name twice, and asking changes no record." Nothing is proved here.
-use Rattle.std.specs.Prelude.{ℕ, Bool, true, false, ◌⊎◌, ◌≡◌, List, [], ◌∷◌, ◌++◌}
+use Rattle.std.specs.Prelude.{ℕ, false, ◌⊎◌, ◌≡◌, List, [], ◌∷◌, ◌++◌}
 use Rattle.numbers.specs.Numbers.{done}
 use Rattle.words.specs.Words.{zeros}
 use Rattle.words.specs.Keys.{same_key}
 use Rattle.drum.specs.declared.Description.{Description}
-use Rattle.layout.specs.Tree.{Tree, contents, fresh_tree}
+use Rattle.layout.specs.Tree.{Tree, contents}
 use Rattle.layout.specs.Holds.{Holds, All}
-use Rattle.rules.specs.State.{State, Outcome, desc, key_in, lent}
+use Rattle.rules.specs.State.{State, desc, key_in}
 use Rattle.rules.specs.Open.{open_file}
 use Rattle.rules.specs.Requests.{opening, closing, seeking, advancing, inserting, deleting, updating, extending, lending, left}
 use Rattle.demands.specs.Refusals.{leaves_all}

@@ -2,7 +2,7 @@
 -- code does: t is its test of the row, l and q what it reads from it, a the call's answer, us the row written back, r what it returns.
 use Prim.Native.Nat.{ℕ, ◌+◌, ◌*◌, ◌-◌, ◌≤◌, ◌<◌}
 use mathlib.Core.Path.{◌≡◌, refl, sym, ap, ◌∙◌, subst}
-use mathlib.Core.Bool.{Bool, true, false, cond, not}
+use mathlib.Core.Bool.{Bool, true, false, not}
 use mathlib.Core.List.{List}
 use native.Mathlib.Nat.{mul-le-mul_right}
 use native.Mathlib.Omega.{arith}
@@ -19,13 +19,13 @@ use Rattle.sequential.specs.declared.Row.{Row}
 use Rattle.sequential.specs.declared.Spot.TheVariants.{At}
 use Rattle.sequential.specs.declared.PutAnswer.{PutAnswer}
 use Rattle.sequential.specs.declared.GetAnswer.{GetAnswer}
-use Rattle.sequential.specs.Rows.{behind, blocks}
-use Rattle.sequential.specs.Calls.{Stored, Read, put_spot, get_spot, put_told, get_told, put_row, get_row, put_gave, get_gave}
+use Rattle.sequential.specs.Rows.{behind}
+use Rattle.sequential.specs.Calls.{put_spot, get_spot, put_told, get_told, put_row, get_row, put_gave, get_gave}
 use Rattle.sequential.specs.Lent.{LiesIn}
 use Rattle.sequential.proofs.Good.{good-facts, whole-good, block-end, lies-few}
 use Rattle.sequential.proofs.Laid.{put-finds, get-lies}
 use Rattle.rowcalls.specs.Words.{is_row, layout_of, place_of, at_place, most_word, Small}
-use Rattle.rowcalls.specs.Calls.{Returned, returned, told_put, told_get, put_called, get_called}
+use Rattle.rowcalls.specs.Calls.{returned, told_put, told_get, put_called, get_called}
 use Rattle.rowcalls.proofs.Words.{row-facts}
 
 -- the place behind a record of a file with few enough blocks

@@ -18,7 +18,7 @@ use Rattle.layout.specs.Holds.{Holds, WellFormed}
 use Rattle.layout.specs.Inspect.{layout_marks}
 use Rattle.layout.specs.Copied.{under_control, copied}
 use Rattle.layout.proofs.Exact.{open-exact, refused_none}
-use Rattle.layout.proofs.Good.{Sized, good-facts}
+use Rattle.layout.proofs.Good.{good-facts}
 use Rattle.layout.proofs.Unique.{master-words}
 use Rattle.layout.proofs.Copied.{copy_holds}
 use Rattle.rules.specs.State.{Session, State, desc, lent}

@@ -25,7 +25,7 @@ use Rattle.rules.specs.declared.Look.TheVariants as look_is
 use Rattle.rules.specs.declared.Delete.{Delete}
 use Rattle.rules.specs.declared.Delete.TheVariants as delete-is
 use Rattle.rules.specs.Paths.{path_to}
-use Rattle.rules.specs.Lookup.{look, reached, text_at}
+use Rattle.rules.specs.Lookup.{reached, text_at}
 use Rattle.rules.specs.Dlete.{empty_deed, empty_at, delete_after, delete_deed, entry_gone, empty_moves, empty_all, both_all, empty_file, both_file, emptying}
 use Rattle.rules.specs.Dlete.{delete_done, dlete_steps}
 use Rattle.rules.specs.Fits.{PathFits, WayFits, LookFits}

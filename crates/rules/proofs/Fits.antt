@@ -1,14 +1,14 @@
 -- What the checks of a way tell once they are passed: of an entry, of a path, of the buffered block, of a lookup, of ADV's step, of XTEND's
 -- last block.
-use Prim.Native.Nat.{ℕ, ◌+◌, ◌-◌, ◌≤◌, ◌<◌}
+use Prim.Native.Nat.{ℕ, ◌-◌, ◌≤◌, ◌<◌}
 use mathlib.Core.Path.{◌≡◌, refl, sym, ◌∙◌, subst}
-use mathlib.Core.Bool.{Bool, true, false, cond, not, ◌&&◌, ◌||◌}
+use mathlib.Core.Bool.{Bool, true, false, cond, not, ◌&&◌}
 use mathlib.Core.List.{List, []}
 use native.Mathlib.Omega.{arith}
 use borrow.Author.Tests.{leb-true, ltb-true, ltb-false, eqb-false, not-true}
 use lib.Dec.{leb, ltb, eqb}
 use Rattle.numbers.specs.Numbers.{bad_file}
-use Rattle.numbers.specs.Checked.{passed, require, within, up_to}
+use Rattle.numbers.specs.Checked.{passed, require, within}
 use Rattle.words.proofs.Keys.{clash}
 use Rattle.words.specs.Keys.{key_lt, key_le}
 use Rattle.table.specs.declared.Shape.{Shape}
@@ -17,7 +17,7 @@ use Rattle.table.specs.declared.Want.TheVariants.{Over}
 use Rattle.table.proofs.Searches.{first-before}
 use Rattle.drum.specs.declared.Description.{Description}
 use Rattle.drum.specs.Params.{D, I, master_shape, index_shape, detail_shape}
-use Rattle.drum.specs.Blocks.{Texts, text_of, Block}
+use Rattle.drum.specs.Blocks.{Texts, text_of}
 use Rattle.drum.proofs.Forms.{count-master}
 use Rattle.rules.specs.declared.Which.{Which}
 use Rattle.rules.specs.declared.Entry.{Entry}
@@ -32,7 +32,7 @@ use Rattle.rules.specs.Lookup.{on_buffer, flush_ok, in_buffer, look_at, look_out
 use Rattle.rules.specs.Adv.{next_row, next_in_buffer, next_path, adv_beyond, adv_at, adv_outside, adv_step}
 use Rattle.rules.specs.Xtend.{ends_in_ones, last_outside, last_way, last_of}
 use Rattle.rules.specs.Fits.{PathFits, FlushFits, BufferFits, WayFits, LookFits, StepFits}
-use Rattle.numbers.proofs.Passed.{Passed, chain, required, ranged, limited, both}
+use Rattle.numbers.proofs.Passed.{Passed, chain, required, ranged, both}
 
 -- an entry of the table t
 pub record EntryFits (p : Description) (h : Shape) (t : List ℕ) (most : ℕ) (e : Entry) : Type 0 where

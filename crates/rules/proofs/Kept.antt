@@ -25,8 +25,8 @@ use Rattle.rules.specs.declared.Look.{Look}
 use Rattle.rules.specs.declared.Look.TheVariants as look_is
 use Rattle.rules.specs.declared.Step.{Step}
 use Rattle.rules.specs.declared.Step.TheVariants as step_is
-use Rattle.rules.specs.State.{Effect, key_in, record_in}
-use Rattle.rules.specs.Lookup.{Reached, flush_moves, bringing, reached, look, text_at, stopping, storing, landing}
+use Rattle.rules.specs.State.{Effect, record_in}
+use Rattle.rules.specs.Lookup.{Reached, flush_moves, bringing, reached, text_at, stopping, storing, landing}
 use Rattle.rules.specs.Free.{with_free}
 use Rattle.rules.specs.Fits.{PathFits, FlushFits, WayFits, LookFits, StepFits}
 use Rattle.rules.specs.Seek.{giving, seek_done, seek_steps, updat_done, updat_steps}

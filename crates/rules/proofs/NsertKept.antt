@@ -30,7 +30,7 @@ use Rattle.rules.specs.declared.Pair.{Pair}
 use Rattle.rules.specs.declared.Insert.{Insert}
 use Rattle.rules.specs.declared.Insert.TheVariants as insert-is
 use Rattle.rules.specs.State.{record_in}
-use Rattle.rules.specs.Lookup.{look, reached}
+use Rattle.rules.specs.Lookup.{reached}
 use Rattle.rules.specs.Free.{take_one, take_two, with_free}
 use Rattle.rules.specs.Nsert.{room_deed, split_deed, both_deed, insert_at, insert_after, insert_deed}
 use Rattle.rules.specs.NsertDone.{detail_low, detail_high, detail_entry, index_entered, index_low, index_high, index_entry, split_moves, both_split_moves, split_file, both_split_file, half_of, insert_done, nsert_steps}

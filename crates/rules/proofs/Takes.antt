@@ -1,7 +1,7 @@
 -- What new blocks tell once their tests are passed: one, and two with a section.
 use Prim.Native.Nat.{ℕ, ◌+◌, ◌≤◌}
 use mathlib.Core.Path.{◌≡◌, refl, sym, ◌∙◌}
-use mathlib.Core.Bool.{Bool, true, false, cond, not, ◌&&◌, ◌||◌}
+use mathlib.Core.Bool.{Bool, true, false, not, ◌&&◌, ◌||◌}
 use native.Mathlib.Omega.{arith}
 use borrow.Author.Tests.{ltb-false, leb-false, eqb-false, not-true}
 use lib.Dec.{leb, ltb, eqb}
@@ -10,7 +10,7 @@ use Rattle.numbers.specs.Checked.{passed, require, within, up_to}
 use Rattle.words.proofs.Keys.{clash}
 use Rattle.words.proofs.All.{and_both}
 use Rattle.drum.specs.declared.Description.{Description}
-use Rattle.drum.specs.Blocks.{Texts, text_of, link_in, sections, chain_head, lowest_unused, Block}
+use Rattle.drum.specs.Blocks.{Texts, text_of, link_in, sections, chain_head, lowest_unused}
 use Rattle.rules.specs.declared.Path.{Path}
 use Rattle.rules.specs.declared.Taken.{Taken}
 use Rattle.rules.specs.declared.Pair.{Pair}

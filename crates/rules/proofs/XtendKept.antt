@@ -6,7 +6,7 @@ use mathlib.Core.List.{List, ◌++◌}
 use native.Mathlib.Omega.{arith}
 use borrow.Author.Tests.{ltb-true, eqb-true}
 use lib.Dec.{eqb, ltb}
-use lib.ListN.{length, length-append, length-replicate}
+use lib.ListN.{length}
 use Rattle.numbers.specs.Checked.{passed}
 use Rattle.words.specs.Words.{part}
 use Rattle.words.proofs.Parts.{length_part}

@@ -8,7 +8,7 @@ use Rattle.layout.specs.Holds.{Holds, WellFormed}
 use Rattle.layout.specs.Copied.{under_control, copied}
 use Rattle.rules.specs.State.{Session, lent}
 use Rattle.rules.specs.Open.{Opened, open_file}
-use Rattle.rules.specs.Copy.{Copy, copy_left, copy_sizes, copy}
+use Rattle.rules.specs.Copy.{copy_left, copy_sizes, copy}
 
 -- of all words, which number comes and what it leaves: the four cases leave no other [M3, M4, M5, M6]
 pub record CopyExact (p : Description) (opened : Bool) (c : ℕ) (f second marks : List ℕ) : Type 0 where

@@ -1,12 +1,12 @@
 -- Document 01, "One session, printed": calls held as their kind, the words beside, and what is printed of each.
-use Rattle.std.specs.Prelude.{ℕ, Bool, true, false, cond, ◌||◌, List, [], ◌∷◌, eqb, length}
+use Rattle.std.specs.Prelude.{ℕ, Bool, false, cond, ◌||◌, List, [], ◌∷◌, eqb, length}
 use Rattle.numbers.specs.Numbers.{done, at_end}
 use Rattle.words.specs.Words.{part, put, zeros}
 use Rattle.drum.specs.declared.Description.{Description}
 use Rattle.drum.specs.Params.{file_size}
 use Rattle.rules.specs.declared.Call.{Call}
 use Rattle.rules.specs.declared.Call.TheVariants.{Create, Open, Close, Seek, Adv, Nsert, Dlete, Updat, Xtend}
-use Rattle.rules.specs.State.{Session, State, Outcome, desc, lent}
+use Rattle.rules.specs.State.{State, Outcome, desc, lent}
 use Rattle.rules.specs.Open.{Created, create}
 use Rattle.rules.specs.Requests.{opening, closing, seeking, advancing, inserting, deleting, updating, extending, answer}
 

@@ -1,5 +1,5 @@
 -- What a call is given and what it leaves. Document 01, "The session".
-use Rattle.std.specs.Prelude.{ℕ, Bool, true, false, cond, List, [], ◌∷◌, length}
+use Rattle.std.specs.Prelude.{ℕ, Bool, true, false, cond, List, []}
 use Rattle.numbers.specs.Checked.{Checked, passed, refused}
 use Rattle.words.specs.Words.{part, put, zeros}
 use Rattle.drum.specs.declared.Description.{Description}

@@ -1,5 +1,5 @@
 -- Before and after the walk: the sizes, the session that goes in, the CLOSE.
-use mathlib.Core.Path.{◌≡◌, refl, sym, ap, ◌∙◌}
+use mathlib.Core.Path.{◌≡◌, sym, ap, ◌∙◌}
 use mathlib.Core.Bool.{Bool, true, false, cond, not, ◌&&◌}
 use mathlib.Core.List.{List, []}
 use Prim.Native.Nat.{ℕ, ◌+◌, ◌*◌, ◌≤◌}
@@ -17,7 +17,7 @@ use Rattle.drum.specs.declared.Description.{Description}
 use Rattle.drum.specs.Params.{D, file_size, good_params, sized}
 use Rattle.drum.proofs.Good.{caps, Sized, sized-facts}
 use Rattle.layout.specs.Create.{created}
-use Rattle.rules.specs.State.{Session, Outcome, lent}
+use Rattle.rules.specs.State.{Session}
 use Rattle.rules.specs.Close.{close}
 use Rattle.rules.specs.Requests.{closing, answer}
 use Rattle.searchfile.specs.declared.Session as code

@@ -2,7 +2,7 @@
 use mathlib.Core.Path.{◌≡◌, refl, sym, ap, ◌∙◌}
 use mathlib.Core.Bool.{Bool, true, false, cond}
 use mathlib.Core.List.{List, [], ◌∷◌, ◌++◌}
-use Prim.Native.Nat.{ℕ, suc, ◌+◌, ◌*◌, ◌≤◌}
+use Prim.Native.Nat.{ℕ, ◌+◌, ◌*◌, ◌≤◌}
 use native.Mathlib.Omega.{arith}
 use mir.Syntax.{w64}
 use mir.Val.{Fits}
@@ -12,12 +12,11 @@ use lib.ListN.{length}
 use Rattle.numbers.specs.Numbers.{accepted, not_found}
 use Rattle.words.specs.Words.{part, put, all_are}
 use Rattle.words.specs.Keys.{is_ones}
-use Rattle.drum.specs.declared.Description.{Description}
-use Rattle.rules.specs.State.{Session, Outcome, key_in, lent}
+use Rattle.rules.specs.State.{Outcome, key_in, lent}
 use Rattle.rules.specs.NsertDone.{nsert}
 use Rattle.rules.specs.Requests.{inserting, lending, answer}
 use Rattle.searchfile.specs.declared.Answer.{Answer}
-use Rattle.searchfile.specs.Promise.{Counted, given, counted, answered, held}
+use Rattle.searchfile.specs.Promise.{Counted, given, counted, answered}
 use Rattle.demands.proofs.Costs.{few-transfers}
 use Rattle.demands.proofs.Came.{same-parameters}
 use Rattle.salvage.specs.declared.Going.{Going}

@@ -1,14 +1,14 @@
 -- The four tests of a text: each return of the code that makes them.
 use mathlib.Core.Path.{◌≡◌, refl, sym, ap, ◌∙◌}
 use mathlib.Core.Bool.{Bool, true, false, cond, not, ◌&&◌}
-use mathlib.Core.List.{List, [], ◌∷◌}
+use mathlib.Core.List.{List}
 use Prim.Native.Nat.{ℕ, ◌+◌, ◌*◌, ◌-◌, ◌≤◌, ◌<◌}
 use native.Mathlib.Nat.{mul-le-mul_right}
 use native.Mathlib.Omega.{arith}
 use mir.Syntax.{w64}
 use mir.Val.{Fits}
-use borrow.Author.Tests.{not-true, not-false, le-leb, lt-leb, eqb-true, leb-true}
-use lib.Dec.{leb, eqb}
+use borrow.Author.Tests.{not-true, not-false, le-leb, lt-leb, leb-true}
+use lib.Dec.{leb}
 use lib.ListN.{length, get_or}
 use Rattle.words.specs.Words.{part, all_words}
 use Rattle.words.proofs.All.{and_both}

@@ -2,7 +2,7 @@
 use mathlib.Core.Path.{◌≡◌, refl, sym, ap, ◌∙◌, subst}
 use mathlib.Core.Bool.{Bool, true, false, cond}
 use mathlib.Core.Logic.{◌⊎◌, inl, inr}
-use mathlib.Core.List.{List, [], ◌∷◌, ◌++◌, map}
+use mathlib.Core.List.{List, [], ◌∷◌, map}
 use Prim.Native.Nat.{ℕ, ◌-◌}
 use native.Mathlib.Omega.{arith}
 use lib.ListN.{length, length-replicate}
@@ -17,13 +17,13 @@ use Rattle.drum.specs.Params.{good_params}
 use Rattle.layout.specs.Create.{end_record}
 use Rattle.layout.specs.Holds.{All}
 use Rattle.rules.specs.State.{State, Outcome, desc, key_in}
-use Rattle.rules.specs.Requests.{Request, inserting, answer, left}
+use Rattle.rules.specs.Requests.{inserting, answer, left}
 use Rattle.demands.specs.History.{stored, with_key}
 use Rattle.demands.specs.Contents.{changed, Contains}
 use Rattle.demands.specs.Answers.{Keyed, Inserted, Answered}
 use Rattle.demands.proofs.Answered.{call-answers}
 use Rattle.salvage.specs.Salvage.{begun}
-use Rattle.salvaged.specs.Spots.{Spot, rows_of, inserts, started, tried_after, carried_of, Lent}
+use Rattle.salvaged.specs.Spots.{Spot, rows_of, inserts, started, tried_after, carried_of}
 use Rattle.salvaged.specs.Carried.{SecondCopy, OnlyNumbers}
 use Rattle.salvaged.proofs.Stored.{Under, none, one, with-changed}
 use Rattle.salvaged.proofs.Rows.{Fit, all-at, all_fit}

@@ -1,9 +1,8 @@
 -- The report: the words of the lines, in the order of the walk.
 use mathlib.Core.Path.{◌≡◌, refl, sym, ap, ◌∙◌, subst}
 use mathlib.Core.Bool.{Bool, true, false, cond}
-use mathlib.Core.List.{List, [], ◌∷◌, ◌++◌}
+use mathlib.Core.List.{List, [], ◌∷◌}
 use Prim.Native.Nat.{ℕ, ◌+◌, ◌*◌, ◌≤◌}
-use native.Mathlib.Nat.{mul-le-mul}
 use native.Mathlib.Omega.{arith}
 use lib.ListN.{length}
 use Rattle.numbers.specs.Numbers.{done, wrong_size, accepted}
@@ -11,7 +10,6 @@ use Rattle.words.specs.Words.{put}
 use Rattle.words.specs.Keys.{is_ones}
 use Rattle.words.proofs.Parts.{put-none, put-after, length-put}
 use Rattle.drum.specs.declared.Description.{Description}
-use Rattle.drum.specs.Params.{D}
 use Rattle.rules.specs.State.{State, Outcome, key_in}
 use Rattle.rules.specs.Requests.{inserting, lending, answer}
 use Rattle.salvage.specs.Met.{Met, over, found, met}
@@ -20,8 +18,7 @@ use Rattle.salvage.specs.Promise.{Roomy}
 use Rattle.salvage.proofs.Steps.{step-grown}
 use Rattle.salvage.proofs.Walks.{met-most}
 use Rattle.salvage.proofs.Ends.{roomy-facts}
-use Rattle.salvaged.specs.Spots.{started}
-use Rattle.salvaged.specs.Reported.{Line, lines_by, lines_of, line_words, ReportIs}
+use Rattle.salvaged.specs.Reported.{Line, lines_by, line_words, ReportIs}
 use Rattle.salvaged.proofs.Runs.{state_of, found_left, found-tried}
 use Rattle.salvaged.proofs.Whole.{called, starts}
 

@@ -11,14 +11,14 @@ use lib.ListN.{length}
 use Rattle.numbers.specs.Numbers.{accepted}
 use Rattle.words.specs.Keys.{is_ones}
 use Rattle.drum.specs.declared.Description.{Description}
-use Rattle.drum.specs.Blocks.{Block, block_at}
+use Rattle.drum.specs.Blocks.{block_at}
 use Rattle.layout.specs.Holds.{All}
-use Rattle.rules.specs.State.{State, Outcome, key_in}
+use Rattle.rules.specs.State.{State, key_in}
 use Rattle.rules.specs.Requests.{inserting, answer, left}
 use Rattle.salvage.specs.Met.{Met, over, found, records_in, missed, places, met_in, met_from, met}
 use Rattle.salvage.specs.Salvage.{why_not}
 use Rattle.salvaged.specs.Spots.{Spot, spots, spots_of, inserts, started, tried_after, carried_of}
-use Rattle.salvaged.specs.Reported.{Line, lines_by, lines_of, lines_at, passed_over, Reported, CarriedOrReported}
+use Rattle.salvaged.specs.Reported.{Line, lines_by, lines_of, lines_at, passed_over, CarriedOrReported}
 use Rattle.salvaged.proofs.Once.{block_of, place_of, here, Away, Asc, Within, From, all_map, other_block, other_place}
 use Rattle.salvaged.proofs.Once.{asc-away, places-in, in_block, blocks_from, walk-asc}
 

@@ -7,18 +7,17 @@ use native.Mathlib.Omega.{arith}
 use borrow.Author.Tests.{eq-eqb}
 use lib.ListN.{length, length-replicate}
 use Rattle.numbers.specs.Numbers.{done, wrong_size, accepted}
-use Rattle.numbers.specs.Checked.{passed}
 use Rattle.words.specs.Words.{zeros}
 use Rattle.words.specs.Keys.{is_ones}
 use Rattle.words.proofs.All.{both-and}
 use Rattle.drum.specs.declared.Description.{Description}
 use Rattle.drum.specs.Params.{good_params, file_size}
 use Rattle.layout.specs.Create.{created, end_record}
-use Rattle.layout.specs.Tree.{Tree, contents, fresh_tree, fresh_section, fresh_leaf, marks_of}
+use Rattle.layout.specs.Tree.{contents, fresh_tree, fresh_section, fresh_leaf}
 use Rattle.layout.specs.Holds.{Holds}
 use Rattle.layout.proofs.Made.{created-length, created-marks}
 use Rattle.layout.proofs.Unique.{one-tree}
-use Rattle.rules.specs.State.{Session, State, Outcome, desc, key_in, lent, at_rest}
+use Rattle.rules.specs.State.{Session, State, desc, key_in, lent, at_rest}
 use Rattle.rules.specs.Open.{Created, Opened, create, open_layout, open_file}
 use Rattle.rules.specs.NsertDone.{nsert}
 use Rattle.rules.specs.Requests.{Request, inserting, lending, answer, left, tally}

@@ -1,14 +1,13 @@
 -- Records put in their places, one after the other: which of them have a key.
 use mathlib.Core.Path.{◌≡◌, refl, sym, ap, ◌∙◌}
 use mathlib.Core.Bool.{Bool, true, false, cond}
-use mathlib.Core.Logic.{◌⊎◌, inl, inr}
 use mathlib.Core.List.{List, [], ◌∷◌, ◌++◌, map}
 use Prim.Native.Nat.{ℕ}
 use Rattle.words.specs.Keys.{key_lt, same_key}
-use Rattle.words.proofs.Keys.{Stands, below, same, above, stands, clash, key_lt-irrefl, key_lt-trans, same_key-refl, same_key-eq, same_key-true}
+use Rattle.words.proofs.Keys.{Stands, below, same, above, stands, clash, key_lt-irrefl, key_lt-trans, same_key-eq, same_key-true}
 use Rattle.drum.specs.declared.Description.{Description}
 use Rattle.rules.specs.State.{key_in}
-use Rattle.demands.specs.History.{Event, stored, with_key}
+use Rattle.demands.specs.History.{stored, with_key}
 use Rattle.demands.specs.Contents.{records_below, records_above, changed}
 
 pub with_append : (p : Description) (key : List ℕ) (xs ys : List (List ℕ)) → with_key p key (xs ++ ys) ≡ with_key p key xs ++ with_key p key ys

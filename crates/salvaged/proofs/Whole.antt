@@ -2,17 +2,17 @@
 use mathlib.Core.Path.{◌≡◌, refl, sym, ap, ◌∙◌, subst}
 use mathlib.Core.Bool.{Bool, true, false, cond}
 use mathlib.Core.List.{List, [], ◌∷◌, ◌++◌, map}
-use Prim.Native.Nat.{ℕ, ◌+◌, ◌*◌, ◌≤◌}
+use Prim.Native.Nat.{ℕ, ◌+◌, ◌*◌}
 use native.Mathlib.Omega.{arith}
 use lib.ListN.{length}
 use Rattle.numbers.specs.Numbers.{done, wrong_size}
 use Rattle.numbers.specs.Checked.{Checked, passed, refused}
 use Rattle.drum.specs.declared.Description.{Description}
 use Rattle.layout.specs.Create.{end_record}
-use Rattle.rules.specs.State.{Session, State, Outcome, desc, lent}
+use Rattle.rules.specs.State.{State, Outcome, desc, lent}
 use Rattle.rules.specs.Checks.{sizes_ok, is_open}
 use Rattle.rules.specs.Close.{close_checks, close_done, close}
-use Rattle.rules.specs.Requests.{Request, inserting, opening, closing, lending, answer, left, tally}
+use Rattle.rules.specs.Requests.{inserting, opening, closing, lending, answer, left, tally}
 use Rattle.demands.specs.History.{stored}
 use Rattle.demands.specs.Contents.{changed, Contains}
 use Rattle.demands.specs.Durable.{ClosesBy}
@@ -21,7 +21,7 @@ use Rattle.demands.proofs.Durable.{closed-stands}
 use Rattle.demands.proofs.Demands.{session-formula}
 use Rattle.salvage.specs.Met.{met}
 use Rattle.salvage.specs.Salvage.{Walk, Salvaging, run, begun, ended, roomy, salvage}
-use Rattle.salvaged.specs.Spots.{Spot, spots, spots_of, rows_of, inserts, started, carried_of}
+use Rattle.salvaged.specs.Spots.{Spot, spots_of, rows_of, inserts, started, carried_of}
 use Rattle.salvaged.specs.Carried.{SalvageOpens, SalvageCost}
 use Rattle.salvaged.proofs.Runs.{left-stays, from-open, from-create, contains, state_of, ran}
 use Rattle.salvaged.proofs.Carried.{described}

@@ -1,19 +1,16 @@
 -- What salvage carries, and what the fresh file then is. Nothing is proved here.
-use Rattle.std.specs.Prelude.{ℕ, ◌+◌, ◌*◌, ◌≤◌, ◌≡◌, ◌⊎◌, true, false, cond, List, [], ◌∷◌, ◌++◌, map, length}
+use Rattle.std.specs.Prelude.{ℕ, ◌+◌, ◌*◌, ◌≤◌, ◌≡◌, ◌⊎◌, false, cond, List, [], ◌∷◌, ◌++◌, map, length}
 use Rattle.numbers.specs.Numbers.{done, accepted, not_found, none_free, no_room}
-use Rattle.words.specs.Keys.{same_key}
 use Rattle.drum.specs.declared.Description.{Description}
-use Rattle.drum.specs.Params.{file_size}
 use Rattle.layout.specs.Create.{end_record}
-use Rattle.rules.specs.State.{Session, State, key_in, lent}
+use Rattle.rules.specs.State.{Session, key_in, lent}
 use Rattle.rules.specs.Requests.{opening, closing, answer}
 use Rattle.demands.specs.History.{stored, with_key}
 use Rattle.demands.specs.Contents.{changed, Contains}
 use Rattle.demands.specs.Answers.{Inserted}
 use Rattle.demands.specs.Formula.{S, s}
 use Rattle.salvage.specs.Salvage.{salvage}
-use Rattle.salvage.specs.Met.{met}
-use Rattle.salvaged.specs.Spots.{Spot, spots_of, rows_of, inserts, started, tried_after, carried_of, Lent, EachSpot}
+use Rattle.salvaged.specs.Spots.{spots_of, rows_of, inserts, started, tried_after, carried_of, Lent, EachSpot}
 
 -- a call that is not refused: what it was lent, and its report has room
 abbrev pub OfCall : (Description → List ℕ → List ℕ → List ℕ → List ℕ → Type 0) → Type 0

@@ -1,5 +1,5 @@
 -- What salvage reports. Nothing is proved here.
-use Rattle.std.specs.Prelude.{ℕ, ◌+◌, ◌≡◌, Bool, true, false, cond, ◌&&◌, List, [], ◌∷◌, ◌++◌, eqb, length}
+use Rattle.std.specs.Prelude.{ℕ, ◌+◌, ◌≡◌, cond, ◌&&◌, List, [], ◌∷◌, ◌++◌, eqb, length}
 use Rattle.numbers.specs.Numbers.{accepted}
 use Rattle.words.specs.Words.{put}
 use Rattle.words.specs.Keys.{is_ones}

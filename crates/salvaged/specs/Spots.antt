@@ -1,13 +1,13 @@
 -- Salvage told by the NSERTs that it makes: one for each ordinary record of a block that is not passed over, in the order of the walk.
-use Rattle.std.specs.Prelude.{ℕ, ◌≡◌, Bool, true, cond, List, [], ◌∷◌, ◌++◌, map, length}
+use Rattle.std.specs.Prelude.{ℕ, ◌≡◌, true, cond, List, [], ◌∷◌, ◌++◌, map, length}
 use Rattle.numbers.specs.Numbers.{accepted}
 use Rattle.words.specs.Keys.{is_ones}
 use Rattle.drum.specs.declared.Description.{Description}
 use Rattle.drum.specs.Params.{good_params, file_size}
 use Rattle.rules.specs.State.{State, Outcome, key_in, lent}
-use Rattle.rules.specs.Requests.{Request, inserting, closing, answer, left}
+use Rattle.rules.specs.Requests.{Request, inserting, answer, left}
 use Rattle.salvage.specs.Met.{Met, over, found, met}
-use Rattle.salvage.specs.Salvage.{Walk, begun}
+use Rattle.salvage.specs.Salvage.{begun}
 
 -- "Every ordinary record in a block not passed over": its block, its place there, its words [Z8]
 pub record Spot : Type 0 where

@@ -5,7 +5,7 @@ use mathlib.Core.List.{List, []}
 use Rattle.rules.specs.Copy.{copy_left, copy, copy_file}
 use Rattle.searchfile.specs.declared.Session as code
 use Rattle.searchfile.specs.Promise.{given}
-use Rattle.searchfile.specs.Copying.{CountedCopy, counted_copy, answered_copy, OneCopied}
+use Rattle.searchfile.specs.Copying.{counted_copy, answered_copy, OneCopied}
 use Rattle.searchfile.proofs.OneResult.{one_answer}
 
 -- the number is the copying function's; session and file are those that came in

@@ -6,7 +6,7 @@ use Prim.Native.Nat.{ℕ}
 use lib.ListN.{length}
 use borrow.Author.Tests.{not-true, not-false, eq-eqb, ne_eqb}
 use Rattle.numbers.specs.Numbers.{done, wrong_size, already_open, bad_file}
-use Rattle.numbers.specs.Checked.{Checked, passed, refused}
+use Rattle.numbers.specs.Checked.{passed, refused}
 use Rattle.words.specs.Words.{zeros}
 use Rattle.drum.specs.Params.{sized}
 use Rattle.drum.proofs.Good.{sized-facts}
@@ -19,7 +19,7 @@ use Rattle.rules.specs.Checks.{sizes_ok}
 use Rattle.rules.specs.Open.{Opened, open_file, open_checks, open_done, open_layout}
 use Rattle.searchfile.specs.declared.Session as code
 use Rattle.searchfile.specs.declared.Answer.{Answer}
-use Rattle.searchfile.specs.Promise.{held, given, answered, answered_open, counted_open}
+use Rattle.searchfile.specs.Promise.{held, given, answered_open, counted_open}
 
 -- refused, these marks left; and opened
 abbrev shut : State → ℕ → List ℕ → Opened

@@ -6,7 +6,7 @@ use Rattle.rules.specs.Turning.{turn_left, turning, describing, turn_file}
 use Rattle.turn.specs.declared.Turned.{Turned}
 use Rattle.searchfile.specs.declared.Session as code
 use Rattle.searchfile.specs.Promise.{given}
-use Rattle.searchfile.specs.Turning.{CountedTurn, counted_turn, answered_turn, OneTurned}
+use Rattle.searchfile.specs.Turning.{counted_turn, answered_turn, OneTurned}
 use Rattle.searchfile.proofs.OneResult.{one_answer}
 
 -- number and parameters are the turning function's; the rest of the session is that which came in

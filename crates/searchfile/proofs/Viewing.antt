@@ -1,18 +1,17 @@
 -- VIEW: one law for each return of the test whether a block is shown, and of the code that lends its part.
 use Prim.Native.Nat.{ℕ, ◌≤◌, ◌<◌}
-use mathlib.Core.Path.{◌≡◌, refl, sym, ap, ◌∙◌}
-use mathlib.Core.Bool.{Bool, true, false, cond, not, ◌&&◌, and-false}
+use mathlib.Core.Path.{◌≡◌, sym, ap, ◌∙◌}
+use mathlib.Core.Bool.{Bool, true, false, cond, not}
 use mathlib.Core.List.{List, []}
 use borrow.Author.Tests.{not-true, not-false, lt-leb, le-leb, leb-true}
 use lib.Dec.{leb}
 use lib.ListN.{length}
 use Rattle.numbers.specs.Checked.{between}
 use Rattle.numbers.proofs.Passed.{both}
-use Rattle.drum.specs.declared.Description.{Description}
 use Rattle.drum.specs.Params.{good_params, sized}
 use Rattle.drum.specs.Blocks.{Fitting, seen, text_of}
 use Rattle.drum.proofs.Good.{sized-facts}
-use Rattle.rules.specs.State.{Session, lent}
+use Rattle.rules.specs.State.{Session}
 use Rattle.rules.specs.Close.{view}
 use Rattle.searchfile.specs.declared.Session as code
 use Rattle.searchfile.specs.Promise.{held}

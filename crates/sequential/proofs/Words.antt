@@ -16,7 +16,7 @@ use Rattle.words.proofs.Parts.{get_or-put-before, get_or-put-after}
 use Rattle.sequential.specs.declared.Layout.{Layout}
 use Rattle.sequential.specs.declared.Place.{Place}
 use Rattle.sequential.specs.declared.Row.{Row}
-use Rattle.sequential.specs.Rows.{area, size, word_of, behind, closed, row_words, laid, blocks}
+use Rattle.sequential.specs.Rows.{area, size, word_of, behind, closed, row_words, laid}
 use Rattle.sequential.specs.Calls.{put_spot, get_spot, put_row, put_told, get_row, get_told}
 use Rattle.sequential.specs.Laws.{File, puts, zeros_at, OnlyItsWords, LeadersKept, ZeroBehind, Unchanged}
 use Rattle.sequential.proofs.Good.{Good, good-facts, whole-good}

@@ -1,6 +1,6 @@
 -- Document 02, request 1, "Records in a row": blocks of one size; in each some leader words, which are the user's, and then the data area
 -- with records of one kind. Blocks count from 0, and words from the start of the data area.
-use Rattle.std.specs.Prelude.{ℕ, ◌+◌, ◌*◌, ◌-◌, ◌/◌, ◌%◌, Bool, false, cond, not, ◌&&◌, ◌||◌, List, [], ◌∷◌, ◌++◌, leb, ltb, eqb, length, get_or}
+use Rattle.std.specs.Prelude.{ℕ, ◌+◌, ◌*◌, ◌-◌, ◌/◌, ◌%◌, Bool, false, cond, not, ◌&&◌, ◌||◌, List, [], ◌∷◌, ◌++◌, leb, ltb, eqb, get_or}
 use Rattle.words.specs.Words.{part, put}
 use Rattle.sequential.specs.declared.Kind.{Kind}
 use Rattle.sequential.specs.declared.Kind.TheVariants.{Fixed, Variable}

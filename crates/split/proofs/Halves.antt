@@ -8,7 +8,7 @@ use native.Mathlib.Omega.{arith}
 use lib.ListN.{length}
 use Rattle.words.specs.Words.{part}
 use Rattle.table.specs.declared.Shape.{Shape}
-use Rattle.table.specs.Tables.{place, key_at, laid}
+use Rattle.table.specs.Tables.{place, key_at}
 use Rattle.table.specs.Splits.{low_count, low_text, high_text, low_bound}
 use Rattle.table.proofs.Lengths.{length-low, length_high}
 use Rattle.drum.specs.declared.Description.{Description}

@@ -1,13 +1,13 @@
 -- A row's key told from the key sought by one word: the first that differs, or any other.
 use mathlib.Core.Path.{◌≡◌, sym, ap, ◌∙◌}
-use mathlib.Core.Bool.{Bool, true, false, not}
+use mathlib.Core.Bool.{true, false, not}
 use mathlib.Core.List.{List}
 use Prim.Native.Nat.{ℕ, ◌+◌, ◌≤◌, ◌<◌}
 use native.Mathlib.Omega.{arith}
 use lib.ListN.{length, get_or}
 use lib.Seq.{ext_get_or}
 use lib.Dec.{eqb}
-use borrow.Author.Tests.{eq-eqb, ne_eqb, eqb-true, not-true, not-false}
+use borrow.Author.Tests.{eq-eqb, ne_eqb, eqb-true, not-false}
 use Rattle.words.specs.Words.{part}
 use Rattle.words.specs.Keys.{same_key}
 use Rattle.words.proofs.Parts.{length_part, get_d_part, part_none}

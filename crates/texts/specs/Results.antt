@@ -1,9 +1,9 @@
 -- Document 01, "One session, printed": the lines that the program prints, as bytes.
-use Rattle.std.specs.Prelude.{ℕ, List, [], ◌∷◌, ◌++◌}
+use Rattle.std.specs.Prelude.{ℕ, List, ◌∷◌, ◌++◌}
 use Rattle.rules.specs.declared.Call.{Call}
 use Rattle.rules.specs.declared.Call.TheVariants.{Create, Open, Close, Seek, Adv, Nsert, Dlete, Updat, Xtend}
 use Rattle.rules.specs.Run.{Line}
-use Rattle.texts.specs.Texts.{bytes, decimal, octal, listed}
+use Rattle.texts.specs.Texts.{bytes, octal, listed}
 
 -- "prints call": the name of its kind [O5]
 unfoldable pub spelling : Call → List ℕ

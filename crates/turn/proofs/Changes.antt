@@ -1,7 +1,6 @@
 -- One block turned where it lies: the count, the link, and each text by its mark.
-use Prim.Native.Nat.{ℕ, zero, suc, ◌+◌, ◌-◌, ◌≤◌, ◌<◌}
-use mathlib.Core.Path.{◌≡◌, refl, sym, ap, ◌∙◌}
-use mathlib.Core.Bool.{true}
+use Prim.Native.Nat.{ℕ, suc, ◌+◌, ◌-◌, ◌≤◌, ◌<◌}
+use mathlib.Core.Path.{◌≡◌, sym, ap, ◌∙◌}
 use mathlib.Core.List.{List, ◌∷◌}
 use native.Mathlib.Omega.{arith}
 use mir.Syntax.{w64}
@@ -13,7 +12,7 @@ use Rattle.words.proofs.Parts.{part-cons, put-cons, put-part, get_d_part, length
 use Rattle.words.proofs.All.{all_words-get_or}
 use Rattle.table.specs.Tables.{count}
 use Rattle.drum.specs.declared.Description.{Description}
-use Rattle.drum.specs.Params.{good_params, start, tag_of, index_kind, detail_kind, index_shape, detail_shape}
+use Rattle.drum.specs.Params.{start, tag_of, index_shape, detail_shape}
 use Rattle.drum.specs.Blocks.{block_at, put_block, free_text, link_place, link_in}
 use Rattle.drum.specs.Inside.{HasBlock}
 use Rattle.drum.proofs.Good.{caps}

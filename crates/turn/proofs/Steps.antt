@@ -10,7 +10,7 @@ use Rattle.words.specs.Words.{part, all_words}
 use Rattle.words.proofs.All.{all_words-take, all_words-drop}
 use Rattle.words.proofs.Parts.{length_part}
 use Rattle.drum.specs.declared.Description.{Description}
-use Rattle.drum.specs.Params.{good_params, file_size, start}
+use Rattle.drum.specs.Params.{start}
 use Rattle.drum.specs.Blocks.{sections, block_at, put_block}
 use Rattle.drum.proofs.Blocks.{block_within}
 use Rattle.layout.specs.Inspected.{Fit}

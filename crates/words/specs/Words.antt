@@ -1,5 +1,5 @@
 -- Words of a list at a place: read as a part, written over. Document 01: "file, buffer and workspace are lent slices of 32-bit words".
-use Rattle.std.specs.Prelude.{ℕ, ◌+◌, Bool, true, false, ◌&&◌, not, List, [], ◌∷◌, ◌++◌, leb, eqb, length, take, drop, replicate}
+use Rattle.std.specs.Prelude.{ℕ, ◌+◌, Bool, true, ◌&&◌, not, List, [], ◌∷◌, ◌++◌, leb, eqb, length, take, drop, replicate}
 
 -- "What is built": "A word is a number 0..262143" [W1]
 abbrev pub top_word : ℕ

@@ -1,6 +1,5 @@
 -- A flagged buffer that is written changes no text but its own block's, which is the buffer's.
 use Rattle.acts.proofs.Carried.{flushed-fits, brought}
-use borrow.Author.Rules.{rules}
 use Rattle.acts.proofs.bring.Goals as goal
 
 pub load-requires : goal.load-requires

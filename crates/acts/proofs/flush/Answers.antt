@@ -1,7 +1,6 @@
 -- A flagged buffer is the one transfer of the list, written; an unflagged one is no transfer.
 use borrow.Author.Tests.{not-false}
 use Rattle.acts.proofs.Carried.{unflagged-count, unflagged-file, flagged-count, flagged-file}
-use borrow.Author.Rules.{rules}
 use Rattle.acts.proofs.flush.Goals as goal
 
 pub returns-then-not-at : goal.returns-then-not-at

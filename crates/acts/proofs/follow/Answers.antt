@@ -1,6 +1,5 @@
 -- Nothing moves while the block is here; else the buffer is written if it is flagged, and the two reads are counted.
 use Rattle.acts.proofs.Carried.{way-due, two-more, here-count, here-file, way-count, way-file}
-use borrow.Author.Rules.{rules}
 use Rattle.acts.proofs.follow.Goals as goal
 
 pub flush-wrote-requires : goal.flush-wrote-requires

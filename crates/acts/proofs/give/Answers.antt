@@ -2,7 +2,6 @@
 use native.Mathlib.Omega.{arith}
 use Rattle.drum.specs.Params.{detail_shape}
 use Rattle.acts.proofs.Carried.{row-given}
-use borrow.Author.Rules.{rules}
 use Rattle.acts.proofs.give.Goals as goal
 
 pub overflow_mul-i : goal.overflow_mul-i

@@ -1,6 +1,5 @@
 -- The current block's text is in the buffer already; any other's is read from the file.
 use Rattle.acts.proofs.Carried.{loaded-already, loaded-now}
-use borrow.Author.Rules.{rules}
 use Rattle.acts.proofs.load.Goals as goal
 
 pub returns-then-b-current : goal.returns-then-b-current

@@ -1,6 +1,5 @@
 -- Nothing moves while the block is here; else the transfers are the buffer's and the two that are read.
 use Rattle.acts.proofs.Carried.{way-due, way-least, way-most, two-more, came-here, came-by}
-use borrow.Author.Rules.{rules}
 use Rattle.acts.proofs.reach.Goals as goal
 
 pub bring-wrote-requires : goal.bring-wrote-requires

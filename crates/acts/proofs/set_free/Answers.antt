@@ -1,6 +1,5 @@
 -- Two words stored, one after the other.
 use Rattle.rules.specs.Free.{with_free}
-use borrow.Author.Rules.{rules}
 use Rattle.acts.proofs.set_free.Goals as goal
 
 pub returns : goal.returns

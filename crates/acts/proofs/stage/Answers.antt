@@ -1,6 +1,5 @@
 -- The current block's text is the buffer, which is written; any other's stands in the file already.
 use Rattle.acts.proofs.Carried.{stored-already, stored-now}
-use borrow.Author.Rules.{rules}
 use Rattle.acts.proofs.stage.Goals as goal
 
 pub returns-then-b-current : goal.returns-then-b-current

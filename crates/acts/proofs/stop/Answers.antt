@@ -1,6 +1,5 @@
 -- The fields are those of `reach`.
 use Rattle.acts.proofs.Carried.{stop-told}
-use borrow.Author.Rules.{rules}
 use Rattle.acts.proofs.stop.Goals as goal
 
 pub returns : goal.returns

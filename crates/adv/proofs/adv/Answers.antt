@@ -1,5 +1,4 @@
 -- The step fits what the act requires, and the act is the rest of the steps.
-use borrow.Author.Rules.{rules}
 use Rattle.adv.proofs.Fits.{step_fits}
 use Rattle.adv.proofs.Steps.{adv-told}
 use Rattle.adv.proofs.adv.Goals as goal

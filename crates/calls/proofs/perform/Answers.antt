@@ -2,7 +2,6 @@
 -- nothing, so every other need is a search.
 use Rattle.calls.proofs.Performed.{refused-performed, create-performed, open-performed, close-performed}
 use Rattle.calls.proofs.Performed.{seek-performed, adv-performed, nsert-performed, dlete-performed, updat-performed, xtend-performed}
-use borrow.Author.Rules.{rules}
 use Rattle.calls.proofs.perform.Goals as goal
 
 pub returns-then-not-stage : goal.returns-then-not-stage

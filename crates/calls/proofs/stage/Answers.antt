@@ -1,7 +1,6 @@
 -- `calls::stage` meets its contract: each arm is the clause of its kind.
 use Rattle.calls.proofs.Performed.{create-staged, open-staged, close-staged, adv-staged}
 use Rattle.calls.proofs.Performed.{seek-staged, nsert-staged, dlete-staged, updat-staged, xtend-staged}
-use borrow.Author.Rules.{rules}
 use Rattle.calls.proofs.stage.Goals as goal
 
 pub returns-in-Create : goal.returns-in-Create

@@ -2,7 +2,6 @@
 use mathlib.Core.Path.{sym}
 use native.Mathlib.Omega.{arith}
 use Rattle.calls.proofs.Performed.{staged-copied, staged-long, staged-narrow}
-use borrow.Author.Rules.{rules}
 use Rattle.calls.proofs.stage_words.Goals as goal
 
 pub returns-then-work-n : goal.returns-then-work-n

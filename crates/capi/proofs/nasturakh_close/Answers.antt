@@ -2,7 +2,6 @@
 use Rattle.rules.specs.Close.{close}
 use Rattle.capi.proofs.Outcomes.{close-telling}
 use Rattle.capi.proofs.Told.{asked-whole, called-none, call-called, tellable}
-use borrow.Author.Rules.{rules}
 use Rattle.capi.proofs.nasturakh_close.Goals as goal
 
 pub returns-then-not-is_session : goal.returns-then-not-is_session

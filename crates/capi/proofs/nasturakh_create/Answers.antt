@@ -1,6 +1,5 @@
 -- `capi::nasturakh_create` meets its contract: the words are no session's, or CREATE's promise is told in words.
 use Rattle.capi.proofs.Told.{asked-whole, called-none, create-called, create-few}
-use borrow.Author.Rules.{rules}
 use Rattle.capi.proofs.nasturakh_create.Goals as goal
 
 pub returns-then-not-is_session : goal.returns-then-not-is_session

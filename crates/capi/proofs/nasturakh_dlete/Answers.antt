@@ -2,7 +2,6 @@
 use Rattle.rules.specs.Dlete.{dlete}
 use Rattle.capi.proofs.Outcomes.{dlete-telling}
 use Rattle.capi.proofs.Told.{asked-whole, called-none, call-called, tellable}
-use borrow.Author.Rules.{rules}
 use Rattle.capi.proofs.nasturakh_dlete.Goals as goal
 
 pub returns-then-not-is_session : goal.returns-then-not-is_session

@@ -1,7 +1,6 @@
 -- `capi::nasturakh_most_transfers` meets its contract: one of its three tests fails, or the bound of the plan.
 use Rattle.capi.proofs.Told.{asked-whole}
 use Rattle.capi.proofs.Most.{most-none, most-out, most-length, most-planned}
-use borrow.Author.Rules.{rules}
 use Rattle.capi.proofs.nasturakh_most_transfers.Goals as goal
 
 pub returns-then-not-is_session : goal.returns-then-not-is_session

@@ -1,6 +1,5 @@
 -- `capi::nasturakh_open` meets its contract: the words are no session's, or OPEN's promise is told in words, the marks beside.
 use Rattle.capi.proofs.Told.{asked-whole, open_none, open-called, open-tellable}
-use borrow.Author.Rules.{rules}
 use Rattle.capi.proofs.nasturakh_open.Goals as goal
 
 pub returns-then-not-is_session : goal.returns-then-not-is_session

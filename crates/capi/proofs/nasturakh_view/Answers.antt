@@ -1,7 +1,6 @@
 -- `capi::nasturakh_view` meets its contract: the words are no session's, or the place of the block as that session sees it.
 use Rattle.capi.proofs.Told.{asked-whole}
 use Rattle.capi.proofs.View.{viewed-none, viewed_by}
-use borrow.Author.Rules.{rules}
 use Rattle.capi.proofs.nasturakh_view.Goals as goal
 
 pub returns-then-not-is_session : goal.returns-then-not-is_session

@@ -2,7 +2,6 @@
 use Rattle.rules.specs.XtendDone.{xtend}
 use Rattle.capi.proofs.Outcomes.{xtend-telling}
 use Rattle.capi.proofs.Told.{asked-whole, called-none, call-called, tellable}
-use borrow.Author.Rules.{rules}
 use Rattle.capi.proofs.nasturakh_xtend.Goals as goal
 
 pub returns-then-not-is_session : goal.returns-then-not-is_session

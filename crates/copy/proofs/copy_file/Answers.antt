@@ -1,6 +1,5 @@
 -- `copy::copy_file` meets its contract: each return is one way through the call.
 use Rattle.copy.proofs.Ways.{way-wrong, way-already, way-fit, way-marks, way-bad, way-fits, way-done}
-use borrow.Author.Rules.{rules}
 use Rattle.copy.proofs.copy_file.Goals as goal
 
 pub returns-then-not-is_sized : goal.returns-then-not-is_sized

@@ -1,7 +1,6 @@
 -- `copy::entries_end` meets its contract.
 use native.Mathlib.Omega.{arith}
 use Rattle.copy.proofs.Laid.{fit-some, key-few, entries_fit, entries-add, end_is}
-use borrow.Author.Rules.{rules}
 use Rattle.copy.proofs.entries_end.Goals as goal
 
 pub word_at-sections-requires : goal.word_at-sections-requires

@@ -1,6 +1,5 @@
 -- `copy::is_file` meets its contract.
 use Rattle.copy.proofs.Sizes.{file-none, file-some}
-use borrow.Author.Rules.{rules}
 use Rattle.copy.proofs.is_file.Goals as goal
 
 pub returns-then-not-is_good : goal.returns-then-not-is_good

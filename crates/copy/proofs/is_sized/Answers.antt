@@ -1,6 +1,5 @@
 -- `copy::is_sized` meets its contract: each test is one of the sizes.
 use Rattle.copy.proofs.Sizes.{some_word, wrong_first, wrong-marks, wrong_second, too_few, right-sizes}
-use borrow.Author.Rules.{rules}
 use Rattle.copy.proofs.is_sized.Goals as goal
 
 pub returns-then-not-is_file : goal.returns-then-not-is_file

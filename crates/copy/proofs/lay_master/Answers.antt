@@ -1,7 +1,5 @@
 -- `copy::lay_master` meets its contract: two writes, one behind the other.
-use native.Mathlib.Omega.{arith}
 use Rattle.copy.proofs.Laid.{master-laid}
-use borrow.Author.Rules.{rules}
 use Rattle.copy.proofs.lay_master.Goals as goal
 
 pub returns : goal.returns

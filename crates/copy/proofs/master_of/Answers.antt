@@ -1,5 +1,4 @@
 -- `copy::master_of` meets its contract.
-use borrow.Author.Rules.{rules}
 use Rattle.drum.proofs.Good.{size-good}
 use Rattle.copy.proofs.master_of.Goals as goal
 

@@ -1,6 +1,5 @@
 -- `copy::new_master` meets its contract.
 use Rattle.copy.proofs.Laid.{new_is, new-good}
-use borrow.Author.Rules.{rules}
 use Rattle.copy.proofs.new_master.Goals as goal
 
 pub master_of-requires : goal.master_of-requires

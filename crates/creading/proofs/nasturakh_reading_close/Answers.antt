@@ -3,7 +3,6 @@ use Rattle.rules.specs.Close.{close}
 use Rattle.reading.specs.Reading.{read_close}
 use Rattle.capi.proofs.Outcomes.{close-telling}
 use Rattle.creading.proofs.Told.{asked-whole, asked-off, called-none, call-told, can-tell, profile-telling}
-use borrow.Author.Rules.{rules}
 use Rattle.creading.proofs.nasturakh_reading_close.Goals as goal
 
 pub returns-then-not-is_reading : goal.returns-then-not-is_reading

@@ -1,7 +1,6 @@
 -- The words are no reading session's, or the refusal is told in words.
 use Rattle.reading.specs.Reading.{altering, read_alter}
 use Rattle.creading.proofs.Told.{asked-whole, asked-off, called-none, call-told, can-tell, profile-telling, alter-telling}
-use borrow.Author.Rules.{rules}
 use Rattle.creading.proofs.nasturakh_reading_nsert.Goals as goal
 
 pub returns-then-not-is_reading : goal.returns-then-not-is_reading

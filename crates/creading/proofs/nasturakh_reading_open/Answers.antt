@@ -1,6 +1,5 @@
 -- The words are no reading session's, or OPEN's promise is told in words, the marks beside.
 use Rattle.creading.proofs.Told.{asked-whole, asked-off, open_none, open_told, can-tell-open}
-use borrow.Author.Rules.{rules}
 use Rattle.creading.proofs.nasturakh_reading_open.Goals as goal
 
 pub returns-then-not-is_reading : goal.returns-then-not-is_reading

@@ -3,7 +3,6 @@ use Rattle.rules.specs.Seek.{seek}
 use Rattle.reading.specs.Reading.{read_seek}
 use Rattle.capi.proofs.Outcomes.{seek-telling}
 use Rattle.creading.proofs.Told.{asked-whole, asked-off, called-none, call-told, can-tell, profile-telling}
-use borrow.Author.Rules.{rules}
 use Rattle.creading.proofs.nasturakh_reading_seek.Goals as goal
 
 pub returns-then-not-is_reading : goal.returns-then-not-is_reading

@@ -1,6 +1,5 @@
 -- The words are no reading session's, or the place of the block as that session sees it.
 use Rattle.creading.proofs.Told.{asked-whole, view-none, view-many, view-told}
-use borrow.Author.Rules.{rules}
 use Rattle.creading.proofs.nasturakh_reading_view.Goals as goal
 
 pub returns-then-not-is_reading : goal.returns-then-not-is_reading

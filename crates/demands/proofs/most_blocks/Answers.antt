@@ -1,6 +1,5 @@
 -- The most blocks of names put in by NSERT alone.
 use Rattle.demands.proofs.Planning.{names-blocks}
-use borrow.Author.Rules.{rules}
 use Rattle.demands.proofs.most_blocks.Goals as goal
 
 pub returns : goal.returns

@@ -1,7 +1,6 @@
 -- The most detail blocks of names put in by NSERT alone.
 use native.Mathlib.Omega.{arith}
 use Rattle.demands.proofs.Planning.{names-details}
-use borrow.Author.Rules.{rules}
 use Rattle.demands.proofs.nsert_details.Goals as goal
 
 pub returns : goal.returns

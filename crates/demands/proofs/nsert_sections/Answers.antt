@@ -1,7 +1,6 @@
 -- The most sections of names put in by NSERT alone.
 use native.Mathlib.Omega.{arith}
 use Rattle.demands.proofs.Planning.{names-sections}
-use borrow.Author.Rules.{rules}
 use Rattle.demands.proofs.nsert_sections.Goals as goal
 
 pub returns : goal.returns

@@ -3,7 +3,6 @@ use native.Mathlib.Omega.{arith}
 use Rattle.dlete.proofs.Decided.{key-within}
 use Rattle.dlete.proofs.Planned.{plan-fits}
 use Rattle.dlete.proofs.Ended.{dlete-told}
-use borrow.Author.Rules.{rules}
 use Rattle.dlete.proofs.dlete.Goals as goal
 
 pub plan_dlete-deed-requires : goal.plan_dlete-deed-requires

@@ -8,7 +8,6 @@ use mathlib.Core.List.{[], ◌∷◌}
 use Prim.Native.Nat.{◌-◌, ◌≤◌}
 use Rattle.drum.specs.declared.Description.{Description}
 use Rattle.drum.specs.Params.{D, I, most_sections, every}
-use borrow.Author.Rules.{rules}
 use Rattle.drum.proofs.has_room.Goals as goal
 
 -- where all tests but the last hold, the last decides

@@ -1,7 +1,6 @@
 -- The buffer, written over in full, is the block.
 use native.Mathlib.Omega.{arith}
 use Rattle.drum.proofs.Lent.{block-end, read_by}
-use borrow.Author.Rules.{rules}
 use Rattle.drum.proofs.read_block.Goals as goal
 
 pub copy_words-requires : goal.copy_words-requires

@@ -1,5 +1,4 @@
 -- The part that `text_part` lends, of which the words alone are told.
-use borrow.Author.Rules.{rules}
 use Rattle.drum.proofs.Lending.{text-words}
 use Rattle.drum.proofs.text_of.Goals as goal
 

@@ -1,6 +1,5 @@
 -- The current block is the buffer, any other a part of the file.
 use Rattle.drum.proofs.Lending.{text-here, text-elsewhere, text-end, text-bytes, text-within}
-use borrow.Author.Rules.{rules}
 use Rattle.drum.proofs.text_part.Goals as goal
 
 pub returns-then-b-current : goal.returns-then-b-current

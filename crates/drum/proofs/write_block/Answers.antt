@@ -1,7 +1,6 @@
 -- All of the buffer is written over the block.
 use native.Mathlib.Omega.{arith}
 use Rattle.drum.proofs.Lent.{block-end, written-by}
-use borrow.Author.Rules.{rules}
 use Rattle.drum.proofs.write_block.Goals as goal
 
 pub copy_words-requires : goal.copy_words-requires

@@ -1,5 +1,4 @@
 -- `face::refused_key` meets its contract: the refusals before it, then each test of the workspace's words.
-use borrow.Author.Rules.{rules}
 use Rattle.face.proofs.Refusing.{keyed-before, keyed-words, keyed-ones, keyed-none, reads-within, key-within}
 use Rattle.face.proofs.refused_key.Goals as goal
 

@@ -1,5 +1,4 @@
 -- `face::refused_plain` meets its contract: each early return is the first line of the chain that refuses.
-use borrow.Author.Rules.{rules}
 use Rattle.face.proofs.Refusing.{plain-sizes, plain-work, plain-shut, plain-none}
 use Rattle.face.proofs.refused_plain.Goals as goal
 

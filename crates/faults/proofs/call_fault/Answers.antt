@@ -1,6 +1,5 @@
 -- `call_fault` meets its contract.
 use Rattle.faults.proofs.Cases.{call_none, call-some}
-use borrow.Author.Rules.{rules}
 use Rattle.faults.proofs.call_fault.Goals as goal
 
 pub returns-in-Nothing : goal.returns-in-Nothing

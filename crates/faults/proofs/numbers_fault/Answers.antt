@@ -1,6 +1,5 @@
 -- `numbers_fault` meets its contract.
 use Rattle.faults.proofs.Cases.{numbers-odd, numbers-count, numbers-above}
-use borrow.Author.Rules.{rules}
 use Rattle.faults.proofs.numbers_fault.Goals as goal
 
 pub returns-then-w-ne0 : goal.returns-then-w-ne0

@@ -1,6 +1,5 @@
 -- They are compared, and then each is tested.
 use Rattle.free.proofs.Taking.{same_block, first-other, both-new}
-use borrow.Author.Rules.{rules}
 use Rattle.free.proofs.are_new.Goals as goal
 
 pub returns-then-x-d : goal.returns-then-x-d

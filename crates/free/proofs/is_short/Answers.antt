@@ -1,7 +1,5 @@
 -- The two blocks are looked at, and then the sections.
-use native.Mathlib.Omega.{arith}
 use Rattle.free.proofs.Taking.{short-first, short-second, short-section}
-use borrow.Author.Rules.{rules}
 use Rattle.free.proofs.is_short.Goals as goal
 
 pub returns-then-d-eq0 : goal.returns-then-d-eq0

@@ -1,7 +1,6 @@
 -- The tests come in the order of the definition, and only where the block then holds D.
 use native.Mathlib.Omega.{arith}
 use Rattle.free.proofs.Granting.{number_small, stored-less, stored-head-bad, stored-chain, stored-zero, stored-over, stored-none, stored_some}
-use borrow.Author.Rules.{rules}
 use Rattle.free.proofs.stored.Goals as goal
 
 pub returns-then-n-d : goal.returns-then-n-d

@@ -1,7 +1,5 @@
 -- The chain's head is tested; an empty chain leaves word 2, else the head's kind and its link, in its current text, are tested.
-use native.Mathlib.Omega.{arith}
 use Rattle.free.proofs.Granting.{number_small, head-bad, chain-empty, head-some, kind-bad, head-text, link-bad, chain_head_lem}
-use borrow.Author.Rules.{rules}
 use Rattle.free.proofs.take_block.Goals as goal
 
 pub returns-then-n-head : goal.returns-then-n-head

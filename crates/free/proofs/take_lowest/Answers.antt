@@ -1,7 +1,5 @@
 -- Word 2 is tested, and is N + 1, or a block never used.
-use native.Mathlib.Omega.{arith}
 use Rattle.free.proofs.Granting.{lowest-zero, lowest-over, lowest-none, lowest-some}
-use borrow.Author.Rules.{rules}
 use Rattle.free.proofs.take_lowest.Goals as goal
 
 pub returns-then-low-lt1 : goal.returns-then-low-lt1

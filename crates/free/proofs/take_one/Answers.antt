@@ -2,7 +2,6 @@
 use native.Mathlib.Omega.{arith}
 use Rattle.free.proofs.Granting.{master-some}
 use Rattle.free.proofs.Taking.{one-refused, one_none, one-other, one-new}
-use borrow.Author.Rules.{rules}
 use Rattle.free.proofs.take_one.Goals as goal
 
 pub word_at-head-requires : goal.word_at-head-requires

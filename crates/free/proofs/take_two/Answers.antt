@@ -2,7 +2,6 @@
 use native.Mathlib.Omega.{arith}
 use Rattle.free.proofs.Granting.{master-some}
 use Rattle.free.proofs.Taking.{two-refused, second-refused, two-short, two-other, two-new}
-use borrow.Author.Rules.{rules}
 use Rattle.free.proofs.take_two.Goals as goal
 
 pub word_at-head-requires : goal.word_at-head-requires

@@ -1,6 +1,4 @@
 -- The walk's marks where it came through, else none.
-use native.Mathlib.Omega.{arith}
-use borrow.Author.Rules.{rules}
 use Rattle.layout.proofs.CodeMarks.{emptied}
 use Rattle.layout.proofs.CodeWhole.{left-good, left-marks, left-bad, left-none}
 use Rattle.layout.proofs.inspect.Goals as goal

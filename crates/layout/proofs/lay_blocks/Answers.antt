@@ -1,6 +1,5 @@
 -- One block after the other.
 use native.Mathlib.Omega.{arith}
-use borrow.Author.Rules.{rules}
 use Rattle.layout.proofs.CodeCreate.{laid-blocks, tag-at-most}
 use Rattle.layout.proofs.lay_blocks.Goals as goal
 

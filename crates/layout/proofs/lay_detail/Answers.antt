@@ -1,6 +1,4 @@
 -- A word and the key ONES.
-use native.Mathlib.Omega.{arith}
-use borrow.Author.Rules.{rules}
 use Rattle.layout.proofs.CodeCreate.{laid-detail}
 use Rattle.layout.proofs.lay_detail.Goals as goal
 

@@ -1,6 +1,4 @@
 -- The key ONES, and the block behind it.
-use native.Mathlib.Omega.{arith}
-use borrow.Author.Rules.{rules}
 use Rattle.layout.proofs.CodeCreate.{entry-turn}
 use Rattle.layout.proofs.lay_entry.Goals as goal
 

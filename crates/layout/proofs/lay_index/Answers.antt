@@ -1,6 +1,4 @@
 -- A word and an entry.
-use native.Mathlib.Omega.{arith}
-use borrow.Author.Rules.{rules}
 use Rattle.layout.proofs.CodeCreate.{laid-index}
 use Rattle.layout.proofs.lay_index.Goals as goal
 

@@ -1,7 +1,6 @@
 -- Zeros, two words and an entry, one after the other.
 use lib.ListN.{length-set}
 use native.Mathlib.Omega.{arith}
-use borrow.Author.Rules.{rules}
 use Rattle.layout.proofs.CodeCreate.{sets-kept, laid-master}
 use Rattle.layout.proofs.lay_master.Goals as goal
 

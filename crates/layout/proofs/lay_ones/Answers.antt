@@ -1,10 +1,8 @@
 -- The words written so far are ONES.
-use mathlib.Core.Path.{◌≡◌, refl}
-use Prim.Native.Nat.{◌-◌, ◌≤◌}
+use mathlib.Core.Path.{refl}
+use Prim.Native.Nat.{◌-◌}
 use native.Mathlib.Omega.{arith}
-use lib.ListN.{length, length-set}
-use Rattle.words.specs.Words.{put}
-use Rattle.words.specs.Keys.{ones}
+use lib.ListN.{length-set}
 use Rattle.words.proofs.Parts.{put-none}
 use Rattle.layout.proofs.CodeCreate.{ones-turn, ones-done}
 use Rattle.layout.proofs.lay_ones.Goals as goal

@@ -1,12 +1,9 @@
 -- The words written so far are ONES.
-use mathlib.Core.Path.{◌≡◌, refl}
+use mathlib.Core.Path.{◌≡◌}
 use Prim.Native.Nat.{◌-◌, ◌≤◌}
-use native.Mathlib.Omega.{arith}
-use lib.ListN.{length, length-set}
+use lib.ListN.{length}
 use Rattle.words.specs.Words.{put}
 use Rattle.words.specs.Keys.{ones}
-use Rattle.words.proofs.Parts.{put-none}
-use Rattle.layout.proofs.CodeCreate.{ones-turn, ones-done}
 use Rattle.layout.proofs.lay_ones.Given as goal
 
 abbrev pub invariant-loop-i : goal.invariant-loop-i

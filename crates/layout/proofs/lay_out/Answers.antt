@@ -1,6 +1,5 @@
 -- What is written is a new file.
 use native.Mathlib.Omega.{arith}
-use borrow.Author.Rules.{rules}
 use Rattle.layout.proofs.CodeCreate.{laid_out, master-words, index-words, detail-words, two_blocks}
 use Rattle.layout.proofs.lay_out.Goals as goal
 

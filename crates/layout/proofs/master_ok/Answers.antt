@@ -1,6 +1,5 @@
 -- The words behind the entries and the last bound decide.
 use native.Mathlib.Omega.{arith}
-use borrow.Author.Rules.{rules}
 use Rattle.layout.proofs.CodeSizes.{entries-inside, entries-span, entries-end, behind-most, behind-inside, key-short}
 use Rattle.layout.proofs.CodeWhole.{master-behind, master-bound}
 use Rattle.layout.proofs.master_ok.Goals as goal

@@ -1,5 +1,4 @@
 -- The marks below the lowest block, those from it on, and the words from it on decide.
-use borrow.Author.Rules.{rules}
 use Rattle.layout.proofs.CodeSizes.{in-file-end, rest-inside}
 use Rattle.layout.proofs.CodeWhole.{rest-unset, rest-set, rest-words}
 use Rattle.layout.proofs.rest_ok.Goals as goal

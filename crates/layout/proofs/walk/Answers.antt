@@ -1,6 +1,5 @@
 -- No word too large, and the master's numbers in range: then the walk itself.
 use native.Mathlib.Omega.{arith}
-use borrow.Author.Rules.{rules}
 use Rattle.layout.proofs.CodeSizes.{file-long, blocks-few}
 use Rattle.layout.proofs.CodeWhole.{layout-words, layout-few, layout-many, layout-low, layout-high, layout-on}
 use Rattle.layout.proofs.walk.Goals as goal

@@ -1,6 +1,5 @@
 -- The master, the sections, the chain and the rest decide, in this order.
 use native.Mathlib.Omega.{arith}
-use borrow.Author.Rules.{rules}
 use Rattle.layout.proofs.CodeMarks.{length-zeros}
 use Rattle.layout.proofs.CodeSizes.{file-long, entries-inside}
 use Rattle.layout.proofs.CodeWhole.{sections-some, sections-few, lowest-some, lowest-few, walked-master, walked-tree, walked-chain, walked-rest}

@@ -1,11 +1,11 @@
 -- `lines::take` meets its contract: what is to be read from here on comes to what the whole comes to.
-use Prim.Native.Nat.{◌≤◌, ◌+◌, ◌-◌}
+use Prim.Native.Nat.{◌+◌, ◌-◌}
 use mathlib.Core.Bool.{true}
-use mathlib.Core.Path.{◌≡◌, refl, sym, ◌∙◌}
+use mathlib.Core.Path.{refl, sym, ◌∙◌}
 use native.Mathlib.Omega.{arith}
-use lib.ListN.{length, drop}
+use lib.ListN.{drop}
 use borrow.Author.Rules.{rules}
-use Rattle.lines.specs.Promise.{read, to_line_feed}
+use Rattle.lines.specs.Promise.{to_line_feed}
 use Rattle.lines.proofs.Turns.{line-out, line-over, line-more}
 use Rattle.lines.proofs.take.Goals as goal
 

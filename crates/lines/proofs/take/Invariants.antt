@@ -1,12 +1,8 @@
 -- `lines::take` meets its contract: what is to be read from here on comes to what the whole comes to.
-use Prim.Native.Nat.{◌≤◌, ◌+◌, ◌-◌}
-use mathlib.Core.Bool.{true}
-use mathlib.Core.Path.{◌≡◌, refl, sym, ◌∙◌}
-use native.Mathlib.Omega.{arith}
+use Prim.Native.Nat.{◌≤◌, ◌-◌}
+use mathlib.Core.Path.{◌≡◌}
 use lib.ListN.{length, drop}
-use borrow.Author.Rules.{rules}
 use Rattle.lines.specs.Promise.{read, to_line_feed}
-use Rattle.lines.proofs.Turns.{line-out, line-over, line-more}
 use Rattle.lines.proofs.take.Given as goal
 
 abbrev pub invariant-loop-at : goal.invariant-loop-at

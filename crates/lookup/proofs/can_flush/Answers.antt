@@ -1,5 +1,4 @@
 -- A buffer that is not flagged need not be written; else its block is one of 1..N.
-use borrow.Author.Rules.{rules}
 use Rattle.lookup.proofs.Looks.{flush-none, flush-most}
 use Rattle.lookup.proofs.can_flush.Goals as goal
 

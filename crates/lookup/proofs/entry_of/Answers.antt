@@ -1,6 +1,4 @@
 -- Each number is tested in the order of the definition, and the block's word lies in the table.
-use native.Mathlib.Omega.{arith}
-use borrow.Author.Rules.{rules}
 use Rattle.lookup.proofs.Entries.{rows-counted, block-there, entry-few, entry-many, entry-none, entry_zero, entry-high, entry_at}
 use Rattle.lookup.proofs.entry_of.Goals as goal
 

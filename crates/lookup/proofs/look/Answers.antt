@@ -1,6 +1,5 @@
 -- Whether a block is buffered decides where the lookup begins.
 use native.Mathlib.Omega.{arith}
-use borrow.Author.Rules.{rules}
 use Rattle.lookup.proofs.Sizes.{block-wide}
 use Rattle.lookup.proofs.Looks.{held_fits, look-bad, look-out}
 use Rattle.lookup.proofs.look.Goals as goal

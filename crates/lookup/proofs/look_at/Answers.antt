@@ -1,5 +1,4 @@
 -- One search of the detail block's current text.
-use borrow.Author.Rules.{rules}
 use Rattle.lookup.proofs.Sizes.{text-long, text-some, text-count, rows-within, width-within, key-there}
 use Rattle.lookup.proofs.Looks.{end-found, end-missing}
 use Rattle.lookup.proofs.look_at.Goals as goal

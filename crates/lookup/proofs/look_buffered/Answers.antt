@@ -1,6 +1,5 @@
 -- One search of the buffer, and else the lookup outside it.
 use native.Mathlib.Omega.{arith}
-use borrow.Author.Rules.{rules}
 use Rattle.lookup.proofs.Sizes.{block-wide, rows-within, width-within, key-there}
 use Rattle.lookup.proofs.Looks.{here_found, here-missing}
 use Rattle.lookup.proofs.look_buffered.Goals as goal

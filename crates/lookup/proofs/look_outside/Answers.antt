@@ -1,5 +1,4 @@
 -- The way, the test of the buffer's block, and the search at the end of the way.
-use borrow.Author.Rules.{rules}
 use Rattle.lookup.proofs.Ways.{route-fits}
 use Rattle.lookup.proofs.Looks.{outside-bad, outside-stuck, outside-at}
 use Rattle.lookup.proofs.look_outside.Goals as goal

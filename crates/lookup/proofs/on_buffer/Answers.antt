@@ -1,5 +1,4 @@
 -- No block is buffered, or its number and its count are in range.
-use borrow.Author.Rules.{rules}
 use Rattle.lookup.proofs.Looks.{buffered-none, buffered-high, buffered-few, buffered-many, buffered-good}
 use Rattle.lookup.proofs.on_buffer.Goals as goal
 

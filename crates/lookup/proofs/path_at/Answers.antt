@@ -1,5 +1,4 @@
 -- The two blocks differ, and the detail block's count, in its current text, is in range.
-use borrow.Author.Rules.{rules}
 use Rattle.lookup.proofs.Sizes.{text-some}
 use Rattle.lookup.proofs.Ways.{at_same, at-few, at-many, at-good}
 use Rattle.lookup.proofs.path_at.Goals as goal

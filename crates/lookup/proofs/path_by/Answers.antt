@@ -1,5 +1,4 @@
 -- The master's entry by `entry_of` on the file, and then the way under it.
-use borrow.Author.Rules.{rules}
 use Rattle.lookup.proofs.Sizes.{master-entries}
 use Rattle.lookup.proofs.Ways.{pick-least, pick-most, by-bad, by-entry}
 use Rattle.lookup.proofs.path_by.Goals as goal

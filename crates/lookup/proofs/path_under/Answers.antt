@@ -1,5 +1,4 @@
 -- The index block's entry by `entry_of` on its current text, and then the way by it.
-use borrow.Author.Rules.{rules}
 use Rattle.lookup.proofs.Sizes.{index-entries}
 use Rattle.lookup.proofs.Ways.{pick-least, pick-most, under-bad, under_at}
 use Rattle.lookup.proofs.path_under.Goals as goal

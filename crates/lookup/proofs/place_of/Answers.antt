@@ -1,6 +1,4 @@
 -- Each way to choose an entry is its line of the definition; a place by the key is one search.
-use native.Mathlib.Omega.{arith}
-use borrow.Author.Rules.{rules}
 use Rattle.lookup.proofs.Entries.{chosen-first, chosen_last, chosen-place, chosen-covering}
 use Rattle.lookup.proofs.place_of.Goals as goal
 

@@ -2,7 +2,6 @@
 use native.Mathlib.Omega.{arith}
 use Rattle.nsert.proofs.Fits.{plan-fits}
 use Rattle.nsert.proofs.Telling.{key-within, nsert-told}
-use borrow.Author.Rules.{rules}
 use Rattle.nsert.proofs.nsert.Goals as goal
 
 pub plan_nsert-deed-requires : goal.plan_nsert-deed-requires

@@ -1,7 +1,5 @@
 -- `plays::main` meets its contract: each turn leaves one argument fewer. Assumes nothing.
 use Prim.Native.Nat.{◌-◌}
-use native.Mathlib.Omega.{arith}
-use borrow.Author.Rules.{rules}
 use Rattle.plays.proofs.main.Given as goal
 
 abbrev pub invariant-loop-i : goal.invariant-loop-i

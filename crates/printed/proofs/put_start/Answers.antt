@@ -1,8 +1,5 @@
 -- `printed::put_start` meets its contract: two of the four kinds print their line, and two print nothing.
-use mathlib.Core.Path.{sym}
 use native.Mathlib.Omega.{arith}
-use borrow.Author.Rules.{rules}
-use Rattle.words.proofs.Parts.{put-none}
 use Rattle.texts.specs.Texts.{bytes}
 use Rattle.texts.specs.Results.{bad_line, too_large}
 use Rattle.printed.specs.Output.{start_text}

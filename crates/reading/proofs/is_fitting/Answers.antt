@@ -1,6 +1,5 @@
 -- CONTROL, and then the sizes.
 use Rattle.reading.proofs.Profile.{fitting-many, fitting-by}
-use borrow.Author.Rules.{rules}
 use Rattle.reading.proofs.is_fitting.Goals as goal
 
 pub returns-then-p-ne1 : goal.returns-then-p-ne1

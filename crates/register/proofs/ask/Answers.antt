@@ -1,5 +1,4 @@
 -- `register::ask` meets its contract: 020007 where a record has no data word, else the routine's call.
-use borrow.Author.Rules.{rules}
 use Rattle.register.proofs.Guards.{ask-guard, state-none, state-some}
 use Rattle.register.proofs.ask.Goals as goal
 

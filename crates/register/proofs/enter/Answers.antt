@@ -1,6 +1,5 @@
 -- `register::enter` meets its contract: the refusals, zeros behind the key, NSERT.
 use native.Mathlib.Omega.{arith}
-use borrow.Author.Rules.{rules}
 use Rattle.register.proofs.Refusing.{name-fits}
 use Rattle.register.proofs.Guards.{guard-refused, enter-guard, enter-passed}
 use Rattle.register.proofs.enter.Goals as goal

@@ -1,5 +1,4 @@
 -- `register::free` meets its contract: it is the move with its states.
-use borrow.Author.Rules.{rules}
 use Rattle.register.proofs.Moving.{free-is}
 use Rattle.register.proofs.free.Goals as goal
 

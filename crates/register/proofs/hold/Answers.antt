@@ -1,5 +1,4 @@
 -- `register::hold` meets its contract: it is the move with its states.
-use borrow.Author.Rules.{rules}
 use Rattle.register.proofs.Moving.{hold-is}
 use Rattle.register.proofs.hold.Goals as goal
 

@@ -1,5 +1,4 @@
 -- `register::romanise` meets its contract: the refusals, and then the move.
-use borrow.Author.Rules.{rules}
 use Rattle.register.proofs.Refusing.{spelled-fits}
 use Rattle.register.proofs.Guards.{romanise-refused, romanise-passed}
 use Rattle.register.proofs.romanise.Goals as goal

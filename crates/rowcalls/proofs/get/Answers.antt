@@ -1,6 +1,5 @@
 -- `rowcalls::get` meets its contract: the words are no row, or GET's promise is told in words.
 use Rattle.rowcalls.proofs.Told.{asked-whole, asked-six, get_none, get-tellable, get_left, get-called}
-use borrow.Author.Rules.{rules}
 use Rattle.rowcalls.proofs.get.Goals as goal
 
 pub returns-then-not-is_row : goal.returns-then-not-is_row

@@ -1,6 +1,5 @@
 -- `rowcalls::put` meets its contract: the words are no row, or PUT's promise is told in words.
 use Rattle.rowcalls.proofs.Told.{asked-whole, put-none, put-tellable, put-called}
-use borrow.Author.Rules.{rules}
 use Rattle.rowcalls.proofs.put.Goals as goal
 
 pub returns-then-not-is_row : goal.returns-then-not-is_row

@@ -1,5 +1,4 @@
 -- `salvage::begin` meets its contract.
-use borrow.Author.Rules.{rules}
 use Rattle.salvage.proofs.Ends.{begun-is}
 use Rattle.salvage.proofs.begin.Goals as goal
 

@@ -1,5 +1,4 @@
 -- `salvage::build` meets its contract.
-use borrow.Author.Rules.{rules}
 use Rattle.salvage.proofs.Ends.{first-copied, first-spare, build-done}
 use Rattle.salvage.proofs.build.Goals as goal
 

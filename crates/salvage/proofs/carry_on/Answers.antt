@@ -1,5 +1,4 @@
 -- `salvage::carry_on` meets its contract.
-use borrow.Author.Rules.{rules}
 use Rattle.salvage.proofs.Ends.{last-few, walk-done}
 use Rattle.salvage.proofs.carry_on.Goals as goal
 

@@ -1,5 +1,4 @@
 -- `salvage::finish` meets its contract.
-use borrow.Author.Rules.{rules}
 use Rattle.salvage.proofs.Ends.{close-fits, close-ends}
 use Rattle.salvage.proofs.finish.Goals as goal
 

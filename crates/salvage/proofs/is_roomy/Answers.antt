@@ -1,5 +1,4 @@
 -- `salvage::is_roomy` meets its contract.
-use borrow.Author.Rules.{rules}
 use Rattle.salvage.proofs.Ends.{sizes-wrong, copy-wrong, row_fits, most-fits, words-fit, report-tells}
 use Rattle.salvage.proofs.is_roomy.Goals as goal
 

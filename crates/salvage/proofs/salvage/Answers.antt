@@ -1,5 +1,4 @@
 -- `salvage::salvage` meets its contract: a refusal, or the file built.
-use borrow.Author.Rules.{rules}
 use Rattle.salvage.proofs.Ends.{call-refused, call-roomy, call-done}
 use Rattle.salvage.proofs.salvage.Goals as goal
 

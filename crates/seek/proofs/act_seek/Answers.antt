@@ -1,5 +1,4 @@
 -- A bad number moves nothing; a record found goes to the workspace from the block reached; else the lookup is all.
-use borrow.Author.Rules.{rules}
 use Rattle.seek.proofs.Found.{found-way, found-row, missing-path, missing-least, missing-most, seek-bad, seek_found, seek-missing}
 use Rattle.seek.proofs.act_seek.Goals as goal
 

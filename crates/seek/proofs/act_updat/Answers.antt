@@ -1,6 +1,5 @@
 -- A bad number moves nothing; a record found is replaced in the block reached; else the lookup is all.
 use native.Mathlib.Omega.{arith}
-use borrow.Author.Rules.{rules}
 use Rattle.drum.proofs.Sizes.{key-in-row}
 use Rattle.seek.proofs.Found.{found-way, found_part, whole, missing-path, missing-least, missing-most, updat-bad, updat-found, updat-missing}
 use Rattle.seek.proofs.act_updat.Goals as goal

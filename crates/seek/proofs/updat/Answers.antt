@@ -1,5 +1,4 @@
 -- The lookup's answer fits what the act requires, and the act is the rest of the steps.
-use borrow.Author.Rules.{rules}
 use Rattle.drum.proofs.Sizes.{key-within}
 use Rattle.seek.proofs.Steps.{act-fits, updat-told}
 use Rattle.seek.proofs.updat.Goals as goal

@@ -1,5 +1,4 @@
 use Rattle.sequential.specs.Rows.{behind}
-use borrow.Author.Rules.{rules}
 use Rattle.sequential.proofs.behind_row.Goals as goal
 
 pub returns : goal.returns

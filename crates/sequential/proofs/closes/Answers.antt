@@ -1,7 +1,6 @@
 use native.Mathlib.Omega.{arith}
 use Rattle.sequential.proofs.Good.{fine-leaders}
 use Rattle.sequential.proofs.Laid.{closed-fixed, closed-variable}
-use borrow.Author.Rules.{rules}
 use Rattle.sequential.proofs.closes.Goals as goal
 
 pub overflow_sub-result : goal.overflow_sub-result

@@ -1,6 +1,5 @@
 use Rattle.sequential.proofs.Good.{lies-inside}
 use Rattle.sequential.proofs.Laid.{get-lies, get_left, get-fits, get-few, get-end, get_refused, get-done}
-use borrow.Author.Rules.{rules}
 use Rattle.sequential.proofs.get.Goals as goal
 
 pub word_of-start-requires : goal.word_of-start-requires

@@ -1,5 +1,4 @@
 use Rattle.sequential.proofs.Laid.{put-lies, put-words, put-few, put_refused, put-done}
-use borrow.Author.Rules.{rules}
 use Rattle.sequential.proofs.put.Goals as goal
 
 pub lay-requires : goal.lay-requires

@@ -1,7 +1,6 @@
 -- The new block is written before the old one, which makes no difference; the bound is read off the rows that stay.
 use native.Mathlib.Omega.{arith}
 use Rattle.split.proofs.Divided.{rows-most, shares-low, old-small, last_fits, last-place-fits, last-key-end, halved-told, entry-told}
-use borrow.Author.Rules.{rules}
 use Rattle.split.proofs.divide.Goals as goal
 
 pub low_count-low-requires : goal.low_count-low-requires

@@ -1,7 +1,6 @@
 -- The block is brought to the buffer, its entry renamed, and then it is split like any other.
 use native.Mathlib.Omega.{arith}
 use Rattle.split.proofs.Divided.{cut-entry-end, divides-still, halved-in, entry_in}
-use borrow.Author.Rules.{rules}
 use Rattle.split.proofs.divide_in.Goals as goal
 
 pub read_block-requires : goal.read_block-requires

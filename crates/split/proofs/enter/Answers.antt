@@ -1,7 +1,6 @@
 -- The entry is renamed, and the row before it put in; the count is that of the table before.
 use native.Mathlib.Omega.{arith}
 use Rattle.split.proofs.Entered.{entry-end, named-room, named-place, named-most, entered_by}
-use borrow.Author.Rules.{rules}
 use Rattle.split.proofs.enter.Goals as goal
 
 pub rename-requires : goal.rename-requires

@@ -1,6 +1,5 @@
 -- The entry is renamed where it lies, and the row before it put in.
 use Rattle.split.proofs.Entered.{name-end, entry-long, named-held, named-takes, entered-in}
-use borrow.Author.Rules.{rules}
 use Rattle.split.proofs.enter_in.Goals as goal
 
 pub set_name_in-requires : goal.set_name_in-requires

@@ -1,6 +1,5 @@
 -- The words behind are cleared, and the count stored.
 use Rattle.split.proofs.Laid.{keep-by}
-use borrow.Author.Rules.{rules}
 use Rattle.split.proofs.keep.Goals as goal
 
 pub returns : goal.returns

@@ -1,6 +1,5 @@
 -- A key is copied, and the number stored after it.
 use Rattle.split.proofs.Entries.{entry-by}
-use borrow.Author.Rules.{rules}
 use Rattle.split.proofs.make_entry.Goals as goal
 
 pub returns : goal.returns

@@ -1,7 +1,6 @@
 -- A row moved up, or the row itself copied.
 use native.Mathlib.Omega.{arith}
 use Rattle.split.proofs.Taken.{row-start, row-end, behind-start, raised-behind, raised-itself}
-use borrow.Author.Rules.{rules}
 use Rattle.split.proofs.raise_row.Goals as goal
 
 pub overflow_mul-at : goal.overflow_mul-at

@@ -1,6 +1,5 @@
 -- The word after the entry's key is stored.
 use Rattle.table.specs.Splits.{renamed}
-use borrow.Author.Rules.{rules}
 use Rattle.split.proofs.rename.Goals as goal
 
 pub returns : goal.returns

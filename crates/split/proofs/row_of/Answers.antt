@@ -1,7 +1,6 @@
 -- The words of one of the rows in the buffer, or the row itself.
 use native.Mathlib.Omega.{arith}
 use Rattle.split.proofs.Taken.{row-start, behind-start, before-end, before-fits, lent-behind, lent-before, lent-itself}
-use borrow.Author.Rules.{rules}
 use Rattle.split.proofs.row_of.Goals as goal
 
 pub overflow_mul-at : goal.overflow_mul-at

@@ -1,8 +1,5 @@
 -- Row by row from the top down: those from row `low` on to the new block, the others up by one in the buffer.
-use native.Mathlib.Omega.{arith}
-use Rattle.split.proofs.Shared.{Moved, rows-most, tag-few, new-held, moved-start, moved-held, moved_row, moved-long, moved-place, moved-low}
-use Rattle.split.proofs.Shared.{moved-sent, moved-raised, moved-file, moved-text}
-use borrow.Author.Rules.{rules}
+use Rattle.split.proofs.Shared.{Moved}
 use Rattle.split.proofs.share_rows.Given as goal
 
 abbrev pub invariant-loop-j : goal.invariant-loop-j

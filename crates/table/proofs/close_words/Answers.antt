@@ -1,5 +1,4 @@
 -- A move down and zeros close the table.
-use borrow.Author.Rules.{rules}
 use Rattle.table.proofs.Moves.{closed-by}
 use Rattle.table.proofs.close_words.Goals as goal
 

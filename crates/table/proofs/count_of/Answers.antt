@@ -1,6 +1,5 @@
 -- Word 0 below the tag is a count of 0, as the subtraction of numbers has it.
 use native.Mathlib.Omega.{arith}
-use borrow.Author.Rules.{rules}
 use Rattle.table.specs.Tables.{count}
 use Rattle.table.proofs.count_of.Goals as goal
 

@@ -1,5 +1,4 @@
 -- Each kind of search has its function.
-use borrow.Author.Rules.{rules}
 use Rattle.table.proofs.Searches.{find-equal}
 use Rattle.table.proofs.find.Goals as goal
 

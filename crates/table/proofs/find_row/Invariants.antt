@@ -1,11 +1,8 @@
 -- Of every row passed the test is false: of the low ones at the front, and of those compared.
-use mathlib.Core.Path.{◌≡◌}
 use Prim.Native.Nat.{◌-◌}
-use native.Mathlib.Omega.{arith}
-use borrow.Author.Rules.{rules}
 use lib.ListN.{length}
 use Rattle.words.specs.Words.{part}
-use Rattle.table.proofs.Turns.{RowAt, Passed, row-next-at, key-inside, row_fits, passed-span, passed-place, unwanted, found_at, found_none, passed_over_lem}
+use Rattle.table.proofs.Turns.{RowAt, Passed}
 use Rattle.table.proofs.find_row.Given as goal
 
 abbrev pub invariant-loop-i : goal.invariant-loop-i

@@ -1,6 +1,4 @@
 -- The table is opened for the row, and the row counted.
-use native.Mathlib.Omega.{arith}
-use borrow.Author.Rules.{rules}
 use Rattle.table.proofs.Moves.{inserted_by, ends-before, ends-room, end-span, end-place, at-span, at_place, room-less}
 use Rattle.table.proofs.insert_row.Goals as goal
 

@@ -1,11 +1,7 @@
 -- A row passed begins with the key's first word, and its next two are below the key's.
-use mathlib.Core.Path.{◌≡◌}
-use Prim.Native.Nat.{◌-◌, ◌≤◌}
+use Prim.Native.Nat.{◌-◌}
 use native.Mathlib.Omega.{arith}
-use borrow.Author.Rules.{rules}
-use lib.ListN.{length}
-use Rattle.words.specs.Words.{part}
-use Rattle.table.proofs.Turns.{RowAt, Low, row-next-at, first-inside, first-scaled, some_words, next-inside, next_fits, row_fits}
+use Rattle.table.proofs.Turns.{row-next-at, first-inside, first-scaled, some_words, next-inside, next_fits, row_fits}
 use Rattle.table.proofs.Turns.{passed-span, passed-place, low-all, low-next-words}
 use Rattle.table.proofs.low_after.Goals as goal
 

@@ -1,11 +1,7 @@
 -- A row passed begins with a word below the key's first.
-use mathlib.Core.Path.{◌≡◌}
-use Prim.Native.Nat.{◌-◌, ◌≤◌}
+use Prim.Native.Nat.{◌-◌}
 use native.Mathlib.Omega.{arith}
-use borrow.Author.Rules.{rules}
-use lib.ListN.{length}
-use Rattle.words.specs.Words.{part}
-use Rattle.table.proofs.Turns.{RowAt, Low, row-next-at, first-inside, first-scaled, row_fits, low-none, below_none, low-all, low-first-word}
+use Rattle.table.proofs.Turns.{row-next-at, first-inside, first-scaled, row_fits, low-none, below_none, low-all, low-first-word}
 use Rattle.table.proofs.low_rows.Goals as goal
 
 pub returns-then-width-eq0 : goal.returns-then-width-eq0

@@ -1,5 +1,4 @@
 -- A move up and a copy open the table.
-use borrow.Author.Rules.{rules}
 use Rattle.table.proofs.Moves.{opened-by}
 use Rattle.table.proofs.open_words.Goals as goal
 

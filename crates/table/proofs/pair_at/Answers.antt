@@ -1,5 +1,4 @@
 -- Two words, the second below 2^32.
-use borrow.Author.Rules.{rules}
 use Rattle.table.proofs.Turns.{word_small}
 use Rattle.table.proofs.pair_at.Goals as goal
 

@@ -1,7 +1,5 @@
 -- The table is closed over the row, and the row counted off.
 use native.Mathlib.Nat.{le_of_lt}
-use native.Mathlib.Omega.{arith}
-use borrow.Author.Rules.{rules}
 use Rattle.table.proofs.Moves.{removed-by, ends-after, ends-inside, end-span, end-place, at-span, at_place}
 use Rattle.table.proofs.remove_row.Goals as goal
 

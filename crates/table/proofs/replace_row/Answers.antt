@@ -1,6 +1,5 @@
 -- The copied words are the row.
 use Rattle.table.specs.Tables.{replaced}
-use borrow.Author.Rules.{rules}
 use Rattle.table.proofs.replace_row.Goals as goal
 
 pub returns : goal.returns

@@ -1,10 +1,7 @@
 -- The words passed are the key's, and the one at which it stops is not.
-use mathlib.Core.Path.{◌≡◌}
-use mathlib.Core.Bool.{false}
-use Prim.Native.Nat.{ℕ, ◌-◌, ◌≤◌, ◌<◌}
+use Prim.Native.Nat.{◌-◌}
 use native.Mathlib.Nat.{not-suc-le-zero}
 use native.Mathlib.Omega.{arith}
-use Rattle.table.specs.Tables.{differs}
 use Rattle.table.proofs.Turns.{differs_at, same_more, differs_none}
 use Rattle.table.proofs.same_words.Goals as goal
 

@@ -2,10 +2,7 @@
 use mathlib.Core.Path.{◌≡◌}
 use mathlib.Core.Bool.{false}
 use Prim.Native.Nat.{ℕ, ◌-◌, ◌≤◌, ◌<◌}
-use native.Mathlib.Nat.{not-suc-le-zero}
-use native.Mathlib.Omega.{arith}
 use Rattle.table.specs.Tables.{differs}
-use Rattle.table.proofs.Turns.{differs_at, same_more, differs_none}
 use Rattle.table.proofs.same_words.Given as goal
 
 abbrev pub invariant-loop-m : goal.invariant-loop-m

@@ -1,6 +1,6 @@
 -- `texts::places` meets its contract.
 use mathlib.Core.Path.{◌≡◌}
-use Prim.Native.Nat.{suc, ◌+◌, ◌-◌, ◌^◌, ◌≤◌, ◌<◌}
+use Prim.Native.Nat.{◌-◌}
 use native.Mathlib.Omega.{arith}
 use Rattle.texts.specs.Texts.{places}
 use Rattle.texts.proofs.Digits.{places-one, places-turn}

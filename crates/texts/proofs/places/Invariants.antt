@@ -1,9 +1,7 @@
 -- `texts::places` meets its contract.
 use mathlib.Core.Path.{◌≡◌}
 use Prim.Native.Nat.{suc, ◌+◌, ◌-◌, ◌^◌, ◌≤◌, ◌<◌}
-use native.Mathlib.Omega.{arith}
 use Rattle.texts.specs.Texts.{places}
-use Rattle.texts.proofs.Digits.{places-one, places-turn}
 use Rattle.texts.proofs.places.Given as goal
 
 abbrev pub invariant-loop-rest : goal.invariant-loop-rest

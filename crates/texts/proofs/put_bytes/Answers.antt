@@ -1,9 +1,8 @@
 -- `texts::put_bytes` meets its contract.
 use mathlib.Core.Path.{◌≡◌, refl}
-use Prim.Native.Nat.{◌-◌, ◌≤◌}
+use Prim.Native.Nat.{◌-◌}
 use native.Mathlib.Omega.{arith}
 use lib.ListN.{length, length-set}
-use Rattle.words.specs.Words.{part, put}
 use Rattle.words.proofs.Parts.{put-none, part_none, part-all}
 use Rattle.texts.proofs.Puts.{bytes-turn}
 use Rattle.texts.proofs.put_bytes.Goals as goal

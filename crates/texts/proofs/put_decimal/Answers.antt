@@ -4,7 +4,6 @@ use lib.ListN.{length-set}
 use Rattle.texts.specs.Texts.{decimal}
 use Rattle.texts.proofs.Puts.{written-cons}
 use Rattle.texts.proofs.Lines.{length-decimal}
-use borrow.Author.Rules.{rules}
 use Rattle.texts.proofs.put_decimal.Goals as goal
 
 pub put_digits-requires : goal.put_digits-requires

@@ -1,12 +1,10 @@
 -- `texts::put_digits` meets its contract.
 use mathlib.Core.Path.{◌≡◌, refl, sym}
-use Prim.Native.Nat.{◌≤◌, ◌<◌}
+use Prim.Native.Nat.{◌<◌}
 use native.Mathlib.Nat.{mod-lt}
 use native.Mathlib.Omega.{arith}
-use lib.ListN.{length, length-set}
-use Rattle.words.specs.Words.{put}
+use lib.ListN.{length-set}
 use Rattle.words.proofs.Parts.{put-none}
-use Rattle.texts.specs.Texts.{digits}
 use Rattle.texts.proofs.Digits.{digit-turn, no_digit}
 use Rattle.texts.proofs.put_digits.Goals as goal
 

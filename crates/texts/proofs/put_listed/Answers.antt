@@ -2,12 +2,10 @@
 use mathlib.Core.Path.{◌≡◌, refl, sym}
 use mathlib.Core.List.{[]}
 use native.Mathlib.Omega.{arith}
-use Prim.Native.Nat.{◌+◌, ◌-◌, ◌*◌, ◌≤◌}
-use lib.ListN.{length, drop}
-use Rattle.words.specs.Words.{put}
+use Prim.Native.Nat.{◌-◌}
+use lib.ListN.{drop}
 use Rattle.words.proofs.Parts.{put-none}
 use Rattle.texts.specs.Texts.{listed}
-use Rattle.texts.proofs.Puts.{Written}
 use Rattle.texts.proofs.Lines.{listed-turn, listed-done}
 use Rattle.texts.proofs.put_listed.Goals as goal
 

@@ -1,14 +1,10 @@
 -- `texts::put_listed` meets its contract.
-use mathlib.Core.Path.{◌≡◌, refl, sym}
-use mathlib.Core.List.{[]}
-use native.Mathlib.Omega.{arith}
+use mathlib.Core.Path.{◌≡◌}
 use Prim.Native.Nat.{◌+◌, ◌-◌, ◌*◌, ◌≤◌}
 use lib.ListN.{length, drop}
 use Rattle.words.specs.Words.{put}
-use Rattle.words.proofs.Parts.{put-none}
 use Rattle.texts.specs.Texts.{listed}
 use Rattle.texts.proofs.Puts.{Written}
-use Rattle.texts.proofs.Lines.{listed-turn, listed-done}
 use Rattle.texts.proofs.put_listed.Given as goal
 
 abbrev pub invariant-loop-i : goal.invariant-loop-i

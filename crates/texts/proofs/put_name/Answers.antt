@@ -1,6 +1,5 @@
 -- Each call has its name.
 use native.Mathlib.Omega.{arith}
-use borrow.Author.Rules.{rules}
 use Rattle.texts.specs.Texts.{bytes}
 use Rattle.texts.specs.Results.{spelling}
 use Rattle.texts.proofs.Names.{name-put, name-end}

@@ -4,7 +4,6 @@ use lib.ListN.{length-set}
 use Rattle.texts.specs.Texts.{octal}
 use Rattle.texts.proofs.Puts.{written-cons}
 use Rattle.texts.proofs.Digits.{length_digits}
-use borrow.Author.Rules.{rules}
 use Rattle.texts.proofs.put_number.Goals as goal
 
 pub put_digits-requires : goal.put_digits-requires

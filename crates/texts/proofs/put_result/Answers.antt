@@ -1,6 +1,5 @@
 -- `texts::put_result` meets its contract.
 use native.Mathlib.Omega.{arith}
-use lib.ListN.{length-set}
 use Rattle.texts.specs.Texts.{bytes, listed}
 use Rattle.texts.specs.Results.{result_text}
 use Rattle.texts.proofs.Lines.{line-written}

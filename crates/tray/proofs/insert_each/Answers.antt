@@ -1,16 +1,8 @@
 -- `tray::insert_each` meets its contract: what it has so far and what is left come to what the whole tray comes to.
-use mathlib.Core.Path.{◌≡◌}
-use mathlib.Core.List.{[]}
-use Prim.Native.Nat.{◌+◌, ◌*◌, ◌-◌, ◌≤◌}
+use Prim.Native.Nat.{◌-◌}
 use native.Mathlib.Omega.{arith}
-use lib.ListN.{length}
-use borrow.Author.Rules.{rules}
-use Rattle.numbers.specs.Numbers.{done}
-use Rattle.searchfile.specs.Promise.{given}
-use Rattle.tray.specs.Tray.{count_of, records_at, inserts}
-use Rattle.tray.specs.Promise.{counted_tray}
 use Rattle.tray.proofs.Rows.{count_most, left-at-first, end_fits, next-end, left_after}
-use Rattle.tray.proofs.Turns.{Reached, sum_fits, sum-most, tray-starts, tray-ends, turn-stops, turn-goes}
+use Rattle.tray.proofs.Turns.{sum_fits, sum-most, tray-starts, tray-ends, turn-stops, turn-goes}
 use Rattle.tray.proofs.insert_each.Goals as goal
 
 pub loop-stored-init : goal.loop-stored-init

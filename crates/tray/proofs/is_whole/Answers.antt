@@ -1,5 +1,4 @@
 -- `tray::is_whole` meets its contract: no words, or as many as the first one says.
-use borrow.Author.Rules.{rules}
 use Rattle.tray.proofs.Rows.{product-fits, length-fits, matches-empty, matches-some}
 use Rattle.tray.proofs.is_whole.Goals as goal
 

@@ -1,5 +1,4 @@
 -- `tray::nsert_tray` meets its contract: a refusal, or the NSERTs.
-use borrow.Author.Rules.{rules}
 use Rattle.tray.proofs.Refusing.{tray-long, call-refused, call-made}
 use Rattle.tray.proofs.nsert_tray.Goals as goal
 

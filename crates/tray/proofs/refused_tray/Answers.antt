@@ -1,5 +1,4 @@
 -- `tray::refused_tray` meets its contract: each early return is the first line of the chain that refuses.
-use borrow.Author.Rules.{rules}
 use Rattle.tray.proofs.Refusing.{sizes-wrong, sizes-good, tray-wrong, tray-shut, tray-free}
 use Rattle.tray.proofs.refused_tray.Goals as goal
 

@@ -1,6 +1,5 @@
 -- `turn::is_sized` meets its contract: each test is one of the sizes.
 use Rattle.turn.proofs.Sizes.{wrong-params, wrong-file, last-size}
-use borrow.Author.Rules.{rules}
 use Rattle.turn.proofs.is_sized.Goals as goal
 
 pub returns-then-not-is_good : goal.returns-then-not-is_good

@@ -1,7 +1,6 @@
 -- `turn::other` meets its contract.
 use native.Mathlib.Omega.{arith}
 use Rattle.turn.proofs.Sizes.{form-few, other-is}
-use borrow.Author.Rules.{rules}
 use Rattle.turn.proofs.other.Goals as goal
 
 pub overflow_sub-p : goal.overflow_sub-p

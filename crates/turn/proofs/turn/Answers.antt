@@ -1,6 +1,5 @@
 -- `turn::turn` meets its contract: each return is one way through the call.
 use Rattle.turn.proofs.Ways.{way-wrong, way-already, way-fit, way-marks, way-closed}
-use borrow.Author.Rules.{rules}
 use Rattle.turn.proofs.turn.Goals as goal
 
 pub returns-then-not-is_sized : goal.returns-then-not-is_sized

@@ -1,6 +1,5 @@
 -- `turn::turn_closed` meets its contract: the inspection decides.
 use Rattle.turn.proofs.Ways.{closed-bad, closed-fits, closed-good, closed-done}
-use borrow.Author.Rules.{rules}
 use Rattle.turn.proofs.turn_closed.Goals as goal
 
 pub returns-then-not-inspect : goal.returns-then-not-inspect

@@ -1,7 +1,6 @@
 -- `turn::turn_file` meets its contract: marked, turned, and the marks given back.
 use Rattle.turn.proofs.Marks.{turn-fit}
 use Rattle.turn.proofs.Steps.{turn-words, marks-kept, whole-turned, marks-back}
-use borrow.Author.Rules.{rules}
 use Rattle.turn.proofs.turn_file.Goals as goal
 
 pub turn_blocks-requires : goal.turn_blocks-requires

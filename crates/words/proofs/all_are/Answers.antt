@@ -1,9 +1,8 @@
 -- `words::all_are` meets its contract.
 use mathlib.Core.Path.{◌≡◌, sym, ◌∙◌}
-use Prim.Native.Nat.{◌+◌, ◌-◌, ◌≤◌}
+use Prim.Native.Nat.{◌-◌}
 use native.Mathlib.Nat.{sub-zero, add-zero}
 use native.Mathlib.Omega.{arith}
-use Rattle.words.specs.Words.{part, all_are}
 use Rattle.words.proofs.Turns.{all-next, all-stop, all_done}
 use Rattle.words.proofs.all_are.Goals as goal
 

@@ -1,9 +1,8 @@
 -- `words::all_words` meets its contract.
 use mathlib.Core.Path.{◌≡◌, sym, ◌∙◌}
-use Prim.Native.Nat.{◌+◌, ◌-◌, ◌≤◌}
+use Prim.Native.Nat.{◌-◌}
 use native.Mathlib.Nat.{sub-zero, add-zero}
 use native.Mathlib.Omega.{arith}
-use Rattle.words.specs.Words.{part, all_words}
 use Rattle.words.proofs.Turns.{words-next, words-stop, words-done}
 use Rattle.words.proofs.all_words.Goals as goal
 

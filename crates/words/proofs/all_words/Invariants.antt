@@ -1,10 +1,7 @@
 -- `words::all_words` meets its contract.
-use mathlib.Core.Path.{◌≡◌, sym, ◌∙◌}
+use mathlib.Core.Path.{◌≡◌}
 use Prim.Native.Nat.{◌+◌, ◌-◌, ◌≤◌}
-use native.Mathlib.Nat.{sub-zero, add-zero}
-use native.Mathlib.Omega.{arith}
 use Rattle.words.specs.Words.{part, all_words}
-use Rattle.words.proofs.Turns.{words-next, words-stop, words-done}
 use Rattle.words.proofs.all_words.Given as goal
 
 abbrev pub invariant-loop-i : goal.invariant-loop-i

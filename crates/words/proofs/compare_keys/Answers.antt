@@ -1,10 +1,8 @@
 -- `words::compare_keys` meets its contract.
 use mathlib.Core.Path.{◌≡◌, sym, ◌∙◌}
-use Prim.Native.Nat.{◌+◌, ◌-◌, ◌≤◌}
+use Prim.Native.Nat.{◌-◌}
 use native.Mathlib.Nat.{sub-zero, add-zero}
 use native.Mathlib.Omega.{arith}
-use Rattle.words.specs.Words.{part}
-use Rattle.words.specs.Keys.{order}
 use Rattle.words.proofs.Turns.{order_below, order-above, order-next, order-done}
 use Rattle.words.proofs.compare_keys.Goals as goal
 

@@ -1,9 +1,7 @@
 -- `words::copy_words` meets its contract.
 use mathlib.Core.Path.{◌≡◌, refl}
-use Prim.Native.Nat.{◌-◌, ◌≤◌}
 use native.Mathlib.Omega.{arith}
-use lib.ListN.{length, length-set}
-use Rattle.words.specs.Words.{part, put}
+use lib.ListN.{length-set}
 use Rattle.words.proofs.Parts.{put-none, part_none}
 use Rattle.words.proofs.Turns.{copy-turn}
 use Rattle.words.proofs.copy_words.Goals as goal

@@ -1,11 +1,8 @@
 -- `words::copy_words` meets its contract.
-use mathlib.Core.Path.{◌≡◌, refl}
+use mathlib.Core.Path.{◌≡◌}
 use Prim.Native.Nat.{◌-◌, ◌≤◌}
-use native.Mathlib.Omega.{arith}
-use lib.ListN.{length, length-set}
+use lib.ListN.{length}
 use Rattle.words.specs.Words.{part, put}
-use Rattle.words.proofs.Parts.{put-none, part_none}
-use Rattle.words.proofs.Turns.{copy-turn}
 use Rattle.words.proofs.copy_words.Given as goal
 
 abbrev pub invariant-loop-i : goal.invariant-loop-i

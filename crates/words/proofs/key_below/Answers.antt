@@ -1,7 +1,6 @@
 -- `words::key_below` meets its contract: each answer of `compare_keys` decides it.
-use mathlib.Core.Path.{◌≡◌, refl, sym, ◌∙◌}
+use mathlib.Core.Path.{sym, ◌∙◌}
 use Rattle.words.proofs.Keys.{order-lt-of, order-eq-of, order-gt-of, same-not-lt, key_lt-asym}
-use borrow.Author.Rules.{rules}
 use Rattle.words.proofs.key_below.Goals as goal
 
 pub returns-in-Below : goal.returns-in-Below

@@ -1,9 +1,7 @@
 -- `words::move_down` meets its contract.
 use mathlib.Core.Path.{◌≡◌, refl}
-use Prim.Native.Nat.{◌-◌, ◌≤◌}
 use native.Mathlib.Omega.{arith}
-use lib.ListN.{length, length-set}
-use Rattle.words.specs.Words.{put, part}
+use lib.ListN.{length-set}
 use Rattle.words.proofs.Parts.{put-none, part_none}
 use Rattle.words.proofs.Turns.{down_turn}
 use Rattle.words.proofs.move_down.Goals as goal

@@ -1,10 +1,8 @@
 -- `words::move_up` meets its contract.
 use mathlib.Core.Path.{◌≡◌, refl}
-use Prim.Native.Nat.{◌+◌, ◌-◌, ◌≤◌}
 use native.Mathlib.Nat.{sub_self, sub-zero, add-zero}
 use native.Mathlib.Omega.{arith}
-use lib.ListN.{length, length-set}
-use Rattle.words.specs.Words.{put, part}
+use lib.ListN.{length-set}
 use Rattle.words.proofs.Parts.{put-none, part_none}
 use Rattle.words.proofs.Turns.{up_turn}
 use Rattle.words.proofs.move_up.Goals as goal

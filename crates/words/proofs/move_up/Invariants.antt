@@ -1,12 +1,8 @@
 -- `words::move_up` meets its contract.
-use mathlib.Core.Path.{◌≡◌, refl}
+use mathlib.Core.Path.{◌≡◌}
 use Prim.Native.Nat.{◌+◌, ◌-◌, ◌≤◌}
-use native.Mathlib.Nat.{sub_self, sub-zero, add-zero}
-use native.Mathlib.Omega.{arith}
-use lib.ListN.{length, length-set}
+use lib.ListN.{length}
 use Rattle.words.specs.Words.{put, part}
-use Rattle.words.proofs.Parts.{put-none, part_none}
-use Rattle.words.proofs.Turns.{up_turn}
 use Rattle.words.proofs.move_up.Given as goal
 
 abbrev pub invariant-loop-i : goal.invariant-loop-i

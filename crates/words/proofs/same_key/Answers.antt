@@ -1,7 +1,6 @@
 -- `words::same_key` meets its contract: each answer of `compare_keys` decides it.
-use mathlib.Core.Path.{◌≡◌, refl, sym, ◌∙◌}
+use mathlib.Core.Path.{sym, ◌∙◌}
 use Rattle.words.proofs.Keys.{order-lt-of, order-eq-of, order-gt-of, same_key-eq, key_lt-not-same, key_lt-ne, same_key-ne}
-use borrow.Author.Rules.{rules}
 use Rattle.words.proofs.same_key.Goals as goal
 
 pub returns-in-Below : goal.returns-in-Below

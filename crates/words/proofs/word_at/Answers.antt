@@ -1,6 +1,5 @@
 -- `words::word_at` meets its contract: a word of 32 bits is a place.
 use native.Mathlib.Omega.{arith}
-use borrow.Author.Rules.{rules}
 use Rattle.words.proofs.word_at.Goals as goal
 
 pub overflow_cast-result : goal.overflow_cast-result

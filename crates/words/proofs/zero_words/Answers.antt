@@ -1,9 +1,7 @@
 -- `words::zero_words` meets its contract.
 use mathlib.Core.Path.{◌≡◌, refl}
-use Prim.Native.Nat.{◌-◌, ◌≤◌}
 use native.Mathlib.Omega.{arith}
-use lib.ListN.{length, length-set, replicate}
-use Rattle.words.specs.Words.{put}
+use lib.ListN.{length-set}
 use Rattle.words.proofs.Parts.{put-none}
 use Rattle.words.proofs.Turns.{zero_turn}
 use Rattle.words.proofs.zero_words.Goals as goal

@@ -1,11 +1,8 @@
 -- `words::zero_words` meets its contract.
-use mathlib.Core.Path.{◌≡◌, refl}
+use mathlib.Core.Path.{◌≡◌}
 use Prim.Native.Nat.{◌-◌, ◌≤◌}
-use native.Mathlib.Omega.{arith}
-use lib.ListN.{length, length-set, replicate}
+use lib.ListN.{length, replicate}
 use Rattle.words.specs.Words.{put}
-use Rattle.words.proofs.Parts.{put-none}
-use Rattle.words.proofs.Turns.{zero_turn}
 use Rattle.words.proofs.zero_words.Given as goal
 
 abbrev pub invariant-loop-i : goal.invariant-loop-i

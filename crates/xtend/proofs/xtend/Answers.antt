@@ -2,7 +2,6 @@
 use native.Mathlib.Omega.{arith}
 use Rattle.xtend.proofs.Planned.{plan-fits}
 use Rattle.xtend.proofs.Ended.{key-within, xtend-told}
-use borrow.Author.Rules.{rules}
 use Rattle.xtend.proofs.xtend.Goals as goal
 
 pub plan_xtend-deed-requires : goal.plan_xtend-deed-requires

@@ -1,5 +1,4 @@
 -- A bad number moves nothing; else the block is reached or brought, and the record handed over.
-use borrow.Author.Rules.{rules}
 use Rattle.drum.proofs.Sizes.{key-in-row}
 use Rattle.adv.proofs.Given.{adv-bad, at-way, at_row, adv-at-told}
 use Rattle.adv.proofs.Given.{beyond-least, beyond-most, current-least, current-most, beyond-row, adv-beyond-told, transfers-few}

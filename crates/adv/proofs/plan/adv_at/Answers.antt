@@ -1,5 +1,4 @@
 -- The flag, and then the count and the row of the block at the end of the way, decide the step.
-use borrow.Author.Rules.{rules}
 use Rattle.drum.proofs.Sizes.{text-some, text-long}
 use Rattle.adv.proofs.Fits.{text-count}
 use Rattle.adv.proofs.Steps.{at-bad, at-found, at-beyond}

@@ -1,5 +1,4 @@
 -- The next path, and then the count and the row of its block, decide the step.
-use borrow.Author.Rules.{rules}
 use Rattle.drum.proofs.Sizes.{text-some, text-long}
 use Rattle.adv.proofs.Fits.{text-count, next_fits, next-least, next-most}
 use Rattle.adv.proofs.Steps.{beyond-none, beyond-bad, beyond-found}

@@ -1,5 +1,4 @@
 -- The first path is the definition's, with position and without.
-use borrow.Author.Rules.{rules}
 use Rattle.adv.proofs.Fits.{start_fits}
 use Rattle.adv.proofs.Steps.{outside-bad, outside-by}
 use Rattle.adv.proofs.plan.adv_outside.Goals as goal

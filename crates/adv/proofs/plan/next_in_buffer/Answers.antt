@@ -1,6 +1,5 @@
 -- The test is made where a block is buffered; every other answer is the definition's.
 use native.Mathlib.Omega.{arith}
-use borrow.Author.Rules.{rules}
 use Rattle.drum.proofs.Sizes.{block-wide}
 use Rattle.adv.proofs.Rows.{held-least, held-most, held-bad, held-no, held-yes}
 use Rattle.adv.proofs.plan.next_in_buffer.Goals as goal

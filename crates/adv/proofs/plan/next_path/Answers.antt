@@ -1,6 +1,5 @@
 -- By the next entry of the index block, or by the first of the next section's.
 use native.Mathlib.Omega.{arith}
-use borrow.Author.Rules.{rules}
 use Rattle.drum.proofs.Sizes.{entries-few, sections-few, text-some}
 use Rattle.adv.proofs.Steps.{next-entry, next-section}
 use Rattle.adv.proofs.plan.next_path.Goals as goal

@@ -1,6 +1,5 @@
 -- The search is the definition's, and none is made while position is none.
 use native.Mathlib.Omega.{arith}
-use borrow.Author.Rules.{rules}
 use Rattle.drum.proofs.Sizes.{block-wide}
 use Rattle.adv.proofs.Rows.{row-none, rows-within, width-within, key-there, row-above}
 use Rattle.adv.proofs.plan.next_row.Goals as goal

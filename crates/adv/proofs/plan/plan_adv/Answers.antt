@@ -1,5 +1,4 @@
 -- The buffer's test decides, if position is set.
-use borrow.Author.Rules.{rules}
 use Rattle.adv.proofs.Fits.{here-most}
 use Rattle.adv.proofs.Steps.{step-none, step-bad, step-out, step-here}
 use Rattle.adv.proofs.plan.plan_adv.Goals as goal

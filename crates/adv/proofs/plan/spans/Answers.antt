@@ -1,6 +1,5 @@
 -- Position is compared with the first key and the last.
 use native.Mathlib.Omega.{arith}
-use borrow.Author.Rules.{rules}
 use Rattle.drum.proofs.Sizes.{block-wide, key-short, last_within, last-span, last-place}
 use Rattle.adv.proofs.Rows.{not-spans, spans-by}
 use Rattle.adv.proofs.plan.spans.Goals as goal

@@ -1,7 +1,6 @@
 -- `capi::copying::nasturakh_copy` meets its contract: the words are no session's, or the copying call's promise is told in words.
 use Rattle.capi.proofs.Told.{asked-whole}
 use Rattle.capi.proofs.CopyTold.{copy-none, copy-called, copy-free}
-use borrow.Author.Rules.{rules}
 use Rattle.capi.proofs.copying.nasturakh_copy.Goals as goal
 
 pub returns-then-not-is_session : goal.returns-then-not-is_session

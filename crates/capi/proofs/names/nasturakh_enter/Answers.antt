@@ -2,7 +2,6 @@
 use Rattle.register.specs.Register.{enter}
 use Rattle.capi.proofs.Registered.{enter-telling}
 use Rattle.capi.proofs.Told.{asked-whole, called-none, call-called, tellable}
-use borrow.Author.Rules.{rules}
 use Rattle.capi.proofs.names.nasturakh_enter.Goals as goal
 
 pub returns-then-not-is_session : goal.returns-then-not-is_session

@@ -2,7 +2,6 @@
 use Rattle.register.specs.Register.{free}
 use Rattle.capi.proofs.Registered.{free-telling}
 use Rattle.capi.proofs.Told.{asked-whole, called-none, call-called, tellable}
-use borrow.Author.Rules.{rules}
 use Rattle.capi.proofs.names.nasturakh_free_name.Goals as goal
 
 pub returns-then-not-is_session : goal.returns-then-not-is_session

@@ -2,7 +2,6 @@
 use Rattle.register.specs.Register.{hold}
 use Rattle.capi.proofs.Registered.{hold-telling}
 use Rattle.capi.proofs.Told.{asked-whole, called-none, call-called, tellable}
-use borrow.Author.Rules.{rules}
 use Rattle.capi.proofs.names.nasturakh_hold.Goals as goal
 
 pub returns-then-not-is_session : goal.returns-then-not-is_session

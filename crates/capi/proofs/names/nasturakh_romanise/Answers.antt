@@ -1,7 +1,6 @@
 -- `capi::nasturakh_romanise` meets its contract: the words are no session's, or the register's promise is told in words.
 use Rattle.capi.proofs.Registered.{romanise-tellable}
 use Rattle.capi.proofs.Told.{asked-whole, called-none, call-called}
-use borrow.Author.Rules.{rules}
 use Rattle.capi.proofs.names.nasturakh_romanise.Goals as goal
 
 pub returns-then-not-is_session : goal.returns-then-not-is_session

@@ -1,7 +1,6 @@
 -- `capi::place::place_of` meets its contract: nowhere where VIEW shows no block, else the buffer or the file.
 use Rattle.searchfile.proofs.Viewing.{shown-good, shown-least, shown-most}
 use Rattle.capi.proofs.View.{place_none, place-buffer, place-file}
-use borrow.Author.Rules.{rules}
 use Rattle.capi.proofs.place.place_of.Goals as goal
 
 pub returns-then-not-shows : goal.returns-then-not-shows

@@ -1,7 +1,6 @@
 -- `capi::salvaging::nasturakh_salvage` meets its contract: the words are no session's, there are no two words to tell in, or salvage's promise is told in words.
 use native.Mathlib.Omega.{arith}
 use lib.ListN.{length-set}
-use borrow.Author.Rules.{rules}
 use Rattle.capi.proofs.Told.{asked-whole}
 use Rattle.capi.proofs.SalvageTold.{salvage-none, salvage-untold, salvage-called}
 use Rattle.capi.proofs.salvaging.nasturakh_salvage.Goals as goal

@@ -1,6 +1,5 @@
 -- `capi::session::is_session` meets its contract: one test of the definition after the other.
 use Rattle.capi.proofs.Words.{session-short, session-long, session-opened, session-flag, session-placed}
-use borrow.Author.Rules.{rules}
 use Rattle.capi.proofs.session.is_session.Goals as goal
 
 pub returns-then-words-lt-SESSION_WORDS : goal.returns-then-words-lt-SESSION_WORDS

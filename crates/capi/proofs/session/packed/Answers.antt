@@ -2,7 +2,6 @@
 use Prim.Native.Nat.{ℕ, ◌+◌, ◌*◌}
 use mathlib.Core.Path.{ap}
 use Rattle.capi.specs.Words.{packed}
-use borrow.Author.Rules.{rules}
 use Rattle.capi.proofs.session.packed.Goals as goal
 
 pub returns : goal.returns

@@ -1,7 +1,6 @@
 -- `capi::session::parameters_in` meets its contract: six words read and the form, each step handing the description on.
 use Rattle.drum.proofs.Setup.{set-up, set-form}
 use Rattle.capi.proofs.Words.{parameters-by}
-use borrow.Author.Rules.{rules}
 use Rattle.capi.proofs.session.parameters_in.Goals as goal
 
 -- the description after the last step, and before it the steps and the words read

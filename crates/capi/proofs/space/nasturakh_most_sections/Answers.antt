@@ -2,7 +2,6 @@
 use Rattle.demands.specs.Space.{most_sections}
 use Rattle.capi.proofs.Told.{asked-whole}
 use Rattle.capi.proofs.MostSpace.{space-none, space-out, space-is}
-use borrow.Author.Rules.{rules}
 use Rattle.capi.proofs.space.nasturakh_most_sections.Goals as goal
 
 pub returns-then-not-is_session : goal.returns-then-not-is_session

@@ -2,7 +2,6 @@
 -- words.
 use native.Mathlib.Omega.{arith}
 use lib.ListN.{length-set}
-use borrow.Author.Rules.{rules}
 use Rattle.capi.proofs.Told.{asked-whole}
 use Rattle.capi.proofs.TrayTold.{tray-writable, tray-none, tray-untold, tray-called}
 use Rattle.capi.proofs.trays.nasturakh_nsert_tray.Goals as goal

@@ -1,5 +1,5 @@
 -- `copies::many::ascending` is safe and ends: the keys go up to 41990, and every XTEND keeps the lengths of file and buffer.
-use Rattle.std.proofs.Common.{◌≡◌, ◌-◌, ◌≤◌, length, arith, rules}
+use Rattle.std.proofs.Common.{◌≡◌, ◌-◌, ◌≤◌, length}
 use Rattle.copies.proofs.many.ascending.Given as goal
 
 abbrev pub invariant-loop-key : goal.invariant-loop-key

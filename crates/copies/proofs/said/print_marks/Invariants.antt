@@ -1,5 +1,5 @@
 -- `copies::said::print_marks` is safe and ends: the index stays within the marks.
-use Rattle.std.proofs.Common.{◌-◌, ◌≤◌, length, arith}
+use Rattle.std.proofs.Common.{◌-◌, ◌≤◌, length}
 use Rattle.copies.proofs.said.print_marks.Given as goal
 
 abbrev pub invariant-loop-i : goal.invariant-loop-i

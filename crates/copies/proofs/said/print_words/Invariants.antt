@@ -1,5 +1,5 @@
 -- `copies::said::print_words` is safe and ends: the index stays within the words.
-use Rattle.std.proofs.Common.{◌-◌, ◌≤◌, length, arith}
+use Rattle.std.proofs.Common.{◌-◌, ◌≤◌, length}
 use Rattle.copies.proofs.said.print_words.Given as goal
 
 abbrev pub invariant-loop-i : goal.invariant-loop-i

@@ -1,6 +1,5 @@
 -- A session's words, and the flag off.
 use Rattle.creading.proofs.Told.{word-there, reading-none, reading-off}
-use borrow.Author.Rules.{rules}
 use Rattle.creading.proofs.session.is_reading.Goals as goal
 
 pub returns-then-not-is_session : goal.returns-then-not-is_session

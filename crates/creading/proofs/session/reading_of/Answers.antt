@@ -1,6 +1,5 @@
 -- The session read, without its flag.
 use Rattle.creading.proofs.Told.{reading-by}
-use borrow.Author.Rules.{rules}
 use Rattle.creading.proofs.session.reading_of.Goals as goal
 
 pub returns : goal.returns

@@ -1,6 +1,5 @@
 -- Each deed is told by the function that does it; after an emptied block the buffer is zeroed and nothing is held.
 use Rattle.dlete.proofs.Ended.{stop-asked, stop-fits, remove-fits, one-fits, both-fits, told-bad, told-stop, told-remove, told-one, told-both}
-use borrow.Author.Rules.{rules}
 use Rattle.dlete.proofs.deeds.do_dlete.Goals as goal
 
 pub stop-requires : goal.stop-requires

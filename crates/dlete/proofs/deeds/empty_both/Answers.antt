@@ -3,7 +3,6 @@ use native.Mathlib.Omega.{arith}
 use Rattle.drum.proofs.Sizes.{number_small}
 use Rattle.dlete.proofs.Gone.{master-base}
 use Rattle.dlete.proofs.Emptied.{way-few, both-three, head-place, headed-held, section-within, section-below, section-most, both-file}
-use borrow.Author.Rules.{rules}
 use Rattle.dlete.proofs.deeds.empty_both.Goals as goal
 
 pub put_word-requires : goal.put_word-requires

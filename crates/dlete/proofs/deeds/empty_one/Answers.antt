@@ -2,7 +2,6 @@
 use native.Mathlib.Omega.{arith}
 use Rattle.drum.proofs.Sizes.{number_small}
 use Rattle.dlete.proofs.Emptied.{way-few, one-three, head-place, entry_ready, one-file}
-use borrow.Author.Rules.{rules}
 use Rattle.dlete.proofs.deeds.empty_one.Goals as goal
 
 pub put_word-requires : goal.put_word-requires

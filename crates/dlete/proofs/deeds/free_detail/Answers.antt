@@ -1,7 +1,6 @@
 -- What the three calls left, one after the other, is the file with the block freed.
 use Rattle.drum.proofs.Sizes.{number_small}
 use Rattle.dlete.proofs.Emptied.{staged-fits, staged-held, freed-told}
-use borrow.Author.Rules.{rules}
 use Rattle.dlete.proofs.deeds.free_detail.Goals as goal
 
 pub stage-requires : goal.stage-requires

@@ -1,7 +1,6 @@
 -- The index block is read, and written without the entry.
 use native.Mathlib.Omega.{arith}
 use Rattle.dlete.proofs.Gone.{entry-fits, entry_read, entry-stored}
-use borrow.Author.Rules.{rules}
 use Rattle.dlete.proofs.deeds.gone_in.Goals as goal
 
 pub read_block-requires : goal.read_block-requires

@@ -1,7 +1,6 @@
 -- An entry that is not the last leaves the text as it is; the key of the last one is moved down to the one before.
 use native.Mathlib.Omega.{arith}
 use Rattle.dlete.proofs.Gone.{entry-text, entry-text-most, key-end, key-before, row-before-fits, key-before-fits, not_last, last-handed}
-use borrow.Author.Rules.{rules}
 use Rattle.dlete.proofs.deeds.hand_bound.Goals as goal
 
 pub entries_in-n-requires : goal.entries_in-n-requires

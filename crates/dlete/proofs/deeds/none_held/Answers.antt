@@ -1,7 +1,6 @@
 -- Zeros over all words of the buffer.
 use mathlib.Core.Path.{refl}
 use Rattle.dlete.proofs.Ended.{zeroed}
-use borrow.Author.Rules.{rules}
 use Rattle.dlete.proofs.deeds.none_held.Goals as goal
 
 pub returns : goal.returns

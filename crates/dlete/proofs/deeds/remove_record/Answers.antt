@@ -1,7 +1,6 @@
 -- The block is reached, and its row taken out of the buffer.
 use Rattle.dlete.proofs.Gone.{detail-base}
 use Rattle.dlete.proofs.Reached.{reached-within, reached-below, reached-most, removed-told}
-use borrow.Author.Rules.{rules}
 use Rattle.dlete.proofs.deeds.remove_record.Goals as goal
 
 pub remove_row-requires : goal.remove_row-requires

@@ -1,6 +1,5 @@
 -- The text at the end of the path tells whether the block is left empty.
 use Rattle.dlete.proofs.Decided.{text-some, by-removed, by-emptied}
-use borrow.Author.Rules.{rules}
 use Rattle.dlete.proofs.plan.delete_by.Goals as goal
 
 pub records_in-requires : goal.records_in-requires

@@ -1,7 +1,6 @@
 -- The buffer tells whether the block is left empty; then the path for the key must lead to it.
 use native.Mathlib.Omega.{arith}
 use Rattle.dlete.proofs.Decided.{buffer-some, here-removed, here-lost, here-elsewhere, here-emptied, route-fits}
-use borrow.Author.Rules.{rules}
 use Rattle.dlete.proofs.plan.delete_here.Goals as goal
 
 pub records_in-requires : goal.records_in-requires

@@ -1,7 +1,6 @@
 -- The chain's head is checked, and the index block's count tells which deed it is.
 use native.Mathlib.Omega.{arith}
 use Rattle.dlete.proofs.Decided.{file-some, text-some, head-bad, both-deed, one-deed}
-use borrow.Author.Rules.{rules}
 use Rattle.dlete.proofs.plan.empty_deed.Goals as goal
 
 pub word_at-head-requires : goal.word_at-head-requires

@@ -1,6 +1,5 @@
 -- Each case of the lookup is a case of the definition; a path that was found fits.
 use Rattle.dlete.proofs.Decided.{found-path, look-bad, look-missing, look-here, look-by}
-use borrow.Author.Rules.{rules}
 use Rattle.dlete.proofs.plan.plan_dlete.Goals as goal
 
 pub delete_by-requires : goal.delete_by-requires

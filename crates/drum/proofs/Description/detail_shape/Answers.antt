@@ -1,5 +1,4 @@
 -- A detail block's table.
-use borrow.Author.Rules.{rules}
 use Rattle.drum.proofs.Forms.{detail-made}
 use Rattle.drum.proofs.Description.detail_shape.Goals as goal
 

@@ -1,7 +1,6 @@
 -- FD is D less SPACE, 0 where SPACE is the larger.
 use native.Mathlib.Omega.{arith}
 use Rattle.drum.specs.Params.{FD}
-use borrow.Author.Rules.{rules}
 use Rattle.drum.proofs.Description.fd.Goals as goal
 
 pub returns-then-d-space : goal.returns-then-d-space

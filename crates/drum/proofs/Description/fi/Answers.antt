@@ -1,7 +1,6 @@
 -- FI is I less SPACE, 0 where SPACE is the larger.
 use native.Mathlib.Omega.{arith}
 use Rattle.drum.specs.Params.{FI}
-use borrow.Author.Rules.{rules}
 use Rattle.drum.proofs.Description.fi.Goals as goal
 
 pub returns-then-i-space : goal.returns-then-i-space

@@ -1,5 +1,4 @@
 -- No size of parameters that are not good.
-use borrow.Author.Rules.{rules}
 use Rattle.drum.proofs.Good.{size_none, size-some, was-good}
 use Rattle.drum.proofs.Description.file_size.Goals as goal
 

@@ -2,7 +2,6 @@
 use native.Mathlib.Omega.{arith}
 use Rattle.drum.specs.Params.{file_size}
 use Rattle.drum.proofs.Good.{caps}
-use borrow.Author.Rules.{rules}
 use Rattle.drum.proofs.Description.file_words.Goals as goal
 
 pub overflow_mul-result : goal.overflow_mul-result

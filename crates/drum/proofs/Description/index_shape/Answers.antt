@@ -1,5 +1,4 @@
 -- An index block's table.
-use borrow.Author.Rules.{rules}
 use native.Mathlib.Omega.{arith}
 use Rattle.drum.proofs.Good.{caps}
 use Rattle.drum.proofs.Forms.{index-made}

@@ -4,7 +4,6 @@ use native.Mathlib.Omega.{arith}
 use borrow.Author.Tests.{le-leb, eq-eqb}
 use Rattle.drum.specs.Params.{every, good_params}
 use Rattle.drum.proofs.Good.{good-no}
-use borrow.Author.Rules.{rules}
 use Rattle.drum.proofs.Description.is_good.Goals as goal
 
 pub returns-then-wpb-ne0 : goal.returns-then-wpb-ne0

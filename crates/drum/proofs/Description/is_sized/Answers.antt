@@ -1,9 +1,8 @@
 -- The parameters are tested first; after that the file has a size.
 use mathlib.Core.Path.{◌≡◌, sym, ◌∙◌}
-use borrow.Author.Tests.{eq-eqb, ne_eqb, not-true, not-false}
+use borrow.Author.Tests.{eq-eqb, ne_eqb}
 use mathlib.Core.Bool.{Bool, true, and-true}
-use Rattle.drum.specs.Params.{good_params, sized, every}
-use borrow.Author.Rules.{rules}
+use Rattle.drum.specs.Params.{sized, every}
 use Rattle.drum.proofs.Description.is_sized.Goals as goal
 
 -- past the first test the parameters are good

@@ -4,7 +4,6 @@ use native.Mathlib.Omega.{arith}
 use Prim.Native.Nat.{◌-◌}
 use Rattle.drum.specs.Params.{start}
 use Rattle.drum.proofs.Good.{caps}
-use borrow.Author.Rules.{rules}
 use Rattle.drum.proofs.Description.start.Goals as goal
 
 pub overflow_mul-result : goal.overflow_mul-result

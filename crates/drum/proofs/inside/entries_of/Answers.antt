@@ -1,7 +1,6 @@
 -- The first word of the block less its tag is its count.
 use native.Mathlib.Omega.{arith}
 use Rattle.drum.proofs.Lent.{lies-start, first-entries}
-use borrow.Author.Rules.{rules}
 use Rattle.drum.proofs.inside.entries_of.Goals as goal
 
 pub word_at-requires : goal.word_at-requires

@@ -3,7 +3,6 @@ use native.Mathlib.Omega.{arith}
 use Rattle.drum.proofs.Forms.{free-tag}
 use Rattle.drum.proofs.Lent.{lies-end}
 use Rattle.drum.proofs.FreeTexts.{freed-back, link-lies}
-use borrow.Author.Rules.{rules}
 use Rattle.drum.proofs.inside.free_block.Goals as goal
 
 pub overflow_add-end : goal.overflow_add-end

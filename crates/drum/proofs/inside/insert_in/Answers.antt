@@ -1,7 +1,6 @@
 -- The block's own words are lent, and come back with the row put in.
 use native.Mathlib.Omega.{arith}
 use Rattle.drum.proofs.Lent.{lies-end, room-lent, place-lent, count-lent, inserted-back}
-use borrow.Author.Rules.{rules}
 use Rattle.drum.proofs.inside.insert_in.Goals as goal
 
 pub overflow_add-end : goal.overflow_add-end

@@ -1,7 +1,6 @@
 -- The block's own words are lent, and come back as the text.
 use native.Mathlib.Omega.{arith}
 use Rattle.drum.proofs.Lent.{lies-end, laid-back}
-use borrow.Author.Rules.{rules}
 use Rattle.drum.proofs.inside.lay_block.Goals as goal
 
 pub overflow_add-end : goal.overflow_add-end

@@ -1,6 +1,5 @@
 -- A word, the rows and zeros, side by side, are the text.
 use Rattle.drum.proofs.Lent.{laid_by}
-use borrow.Author.Rules.{rules}
 use Rattle.drum.proofs.inside.lay_rows.Goals as goal
 
 pub returns : goal.returns

@@ -1,7 +1,6 @@
 -- The block's own words are lent, and come back with the key written over.
 use native.Mathlib.Omega.{arith}
 use Rattle.drum.proofs.Lent.{lies-end, replaced-back}
-use borrow.Author.Rules.{rules}
 use Rattle.drum.proofs.inside.set_key_in.Goals as goal
 
 pub overflow_add-end : goal.overflow_add-end

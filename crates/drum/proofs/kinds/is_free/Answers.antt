@@ -1,6 +1,5 @@
 -- The first form does not say it; in the second word 0 is the kind.
 use mathlib.Core.Path.{sym}
-use borrow.Author.Rules.{rules}
 use Rattle.drum.proofs.Forms.{free-first, free-read}
 use Rattle.drum.proofs.kinds.is_free.Goals as goal
 

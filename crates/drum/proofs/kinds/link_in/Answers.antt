@@ -1,5 +1,4 @@
 -- The link is the word at its place.
-use borrow.Author.Rules.{rules}
 use Rattle.drum.proofs.Forms.{link-read, link-within}
 use Rattle.drum.proofs.kinds.link_in.Goals as goal
 

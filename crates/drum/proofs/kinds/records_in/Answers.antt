@@ -1,5 +1,4 @@
 -- Word 0 less the tag is the count of records.
-use borrow.Author.Rules.{rules}
 use Rattle.drum.proofs.Forms.{records-read}
 use Rattle.drum.proofs.kinds.records_in.Goals as goal
 

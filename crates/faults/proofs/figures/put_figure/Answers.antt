@@ -2,7 +2,6 @@
 use native.Mathlib.Omega.{arith}
 use Rattle.faults.specs.Sentences.{figure}
 use Rattle.faults.proofs.Three.{three-written}
-use borrow.Author.Rules.{rules}
 use Rattle.faults.proofs.figures.put_figure.Goals as goal
 
 pub returns : goal.returns

@@ -1,13 +1,11 @@
 -- `figures::put_visible` meets its contract.
-use Prim.Native.Nat.{◌≤◌, ◌-◌}
+use Prim.Native.Nat.{◌-◌}
 use mathlib.Core.Path.{◌≡◌, refl}
 use native.Mathlib.Omega.{arith}
 use lib.ListN.{length, length-set}
-use Rattle.words.specs.Words.{part, put}
 use Rattle.words.proofs.Parts.{put-none, part_none, part-all}
 use Rattle.faults.specs.Sentences.{visibles}
 use Rattle.faults.proofs.Turns.{length-visibles, visible-turn}
-use borrow.Author.Rules.{rules}
 use Rattle.faults.proofs.figures.put_visible.Goals as goal
 
 pub loop-i-init : goal.loop-i-init

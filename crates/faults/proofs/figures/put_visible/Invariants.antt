@@ -1,13 +1,9 @@
 -- `figures::put_visible` meets its contract.
 use Prim.Native.Nat.{◌≤◌, ◌-◌}
-use mathlib.Core.Path.{◌≡◌, refl}
-use native.Mathlib.Omega.{arith}
-use lib.ListN.{length, length-set}
+use mathlib.Core.Path.{◌≡◌}
+use lib.ListN.{length}
 use Rattle.words.specs.Words.{part, put}
-use Rattle.words.proofs.Parts.{put-none, part_none, part-all}
 use Rattle.faults.specs.Sentences.{visibles}
-use Rattle.faults.proofs.Turns.{length-visibles, visible-turn}
-use borrow.Author.Rules.{rules}
 use Rattle.faults.proofs.figures.put_visible.Given as goal
 
 abbrev pub invariant-loop-i : goal.invariant-loop-i

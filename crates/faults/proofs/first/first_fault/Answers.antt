@@ -1,11 +1,9 @@
 -- `first::first_fault` meets its contract.
 use mathlib.Core.Path.{ap}
 use Rattle.std.proofs.lemmas.Bool.{not_from_true}
-use borrow.Author.Tests.{not-true, not-false}
 use Rattle.drum.proofs.Good.{was-good, size-good}
 use Rattle.faults.specs.declared.Fault.TheVariants.{TooLarge}
 use Rattle.faults.specs.First.{first_fault}
-use borrow.Author.Rules.{rules}
 use Rattle.faults.proofs.first.first_fault.Goals as goal
 
 pub returns-then-not-is_good : goal.returns-then-not-is_good

@@ -1,6 +1,5 @@
 -- `first::is_wpb` meets its contract.
 use Rattle.faults.proofs.Ranges.{wpb-odd, wpb-even}
-use borrow.Author.Rules.{rules}
 use Rattle.faults.proofs.first.is_wpb.Goals as goal
 
 pub returns-then-wpb-ne0 : goal.returns-then-wpb-ne0

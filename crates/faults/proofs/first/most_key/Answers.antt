@@ -3,7 +3,6 @@ use Prim.Native.Nat.{◌-◌}
 use mathlib.Core.Path.{◌≡◌, ◌∙◌}
 use native.Mathlib.Omega.{arith}
 use Rattle.faults.proofs.Ranges.{key-most, key-less}
-use borrow.Author.Rules.{rules}
 use Rattle.faults.proofs.first.most_key.Goals as goal
 
 pub returns-then-most-ge64 : goal.returns-then-most-ge64

@@ -1,5 +1,4 @@
 -- `first::most_space` meets its contract.
-use borrow.Author.Rules.{rules}
 use Rattle.faults.proofs.Ranges.{space-details, space-entries}
 use Rattle.faults.proofs.first.most_space.Goals as goal
 

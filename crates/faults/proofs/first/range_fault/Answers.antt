@@ -1,5 +1,4 @@
 -- Each parameter that is within its range leads to the next.
-use borrow.Author.Rules.{rules}
 use Rattle.faults.proofs.Ranges.{range-block, range-rest}
 use Rattle.faults.proofs.first.range_fault.Goals as goal
 

@@ -1,5 +1,4 @@
 -- Within the range, or out of it.
-use borrow.Author.Rules.{rules}
 use Rattle.faults.proofs.Ranges.{ranged-in, ranged-out}
 use Rattle.faults.proofs.first.ranged.Goals as goal
 

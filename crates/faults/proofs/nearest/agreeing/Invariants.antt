@@ -1,11 +1,8 @@
 -- `nearest::agreeing` meets its contract: what agrees from here on and what was counted come to the whole.
 use Prim.Native.Nat.{◌≤◌, ◌-◌, ◌+◌}
 use mathlib.Core.Path.{◌≡◌}
-use native.Mathlib.Omega.{arith}
 use lib.ListN.{length, drop}
 use Rattle.faults.specs.Nearest.{agreeing}
-use Rattle.faults.proofs.Turns.{agree-word, agree-text, agree-turn}
-use borrow.Author.Rules.{rules}
 use Rattle.faults.proofs.nearest.agreeing.Given as goal
 
 abbrev pub invariant-loop-i : goal.invariant-loop-i

@@ -1,6 +1,5 @@
 -- `nearest::alike` meets its contract.
 use Rattle.faults.proofs.Cases.{alike-sum}
-use borrow.Author.Rules.{rules}
 use Rattle.faults.proofs.nearest.alike.Goals as goal
 
 pub returns : goal.returns

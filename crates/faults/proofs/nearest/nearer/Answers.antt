@@ -1,6 +1,5 @@
 -- `nearest::nearer` meets its contract.
 use Rattle.faults.proofs.Cases.{nearer-kept, nearer-new}
-use borrow.Author.Rules.{rules}
 use Rattle.faults.proofs.nearest.nearer.Goals as goal
 
 pub returns-then-score-near : goal.returns-then-score-near

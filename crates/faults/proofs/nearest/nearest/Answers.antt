@@ -1,7 +1,6 @@
 -- `nearest::nearest` meets its contract.
 use borrow.Author.Tests.{lt-ltb, le-ltb}
 use Rattle.faults.specs.Nearest.{meant, nearest}
-use borrow.Author.Rules.{rules}
 use Rattle.faults.proofs.nearest.nearest.Goals as goal
 
 pub returns-then-lacking-gt1 : goal.returns-then-lacking-gt1

@@ -1,7 +1,6 @@
 -- `nearest::same` meets its contract.
 use native.Mathlib.Omega.{arith}
 use Rattle.faults.proofs.Cases.{same-yes, same-no}
-use borrow.Author.Rules.{rules}
 use Rattle.faults.proofs.nearest.same.Goals as goal
 
 pub returns-then-upper-b : goal.returns-then-upper-b

@@ -1,6 +1,5 @@
 -- `nearest::upper` meets its contract.
 use Rattle.faults.proofs.Cases.{upper-low, upper-high, upper-small}
-use borrow.Author.Rules.{rules}
 use Rattle.faults.proofs.nearest.upper.Goals as goal
 
 pub returns-then-b-lt97 : goal.returns-then-b-lt97

@@ -1,11 +1,8 @@
 -- `watch::look` meets its contract: what is to be looked at from here on comes to what the whole comes to.
-use Prim.Native.Nat.{◌≤◌, ◌-◌}
-use mathlib.Core.Path.{◌≡◌, refl}
+use Prim.Native.Nat.{◌-◌}
+use mathlib.Core.Path.{refl}
 use native.Mathlib.Omega.{arith}
-use lib.ListN.{length, drop}
-use Rattle.faults.specs.Watching.{watched}
 use Rattle.faults.proofs.Turns.{look-out, look-over, look-more}
-use borrow.Author.Rules.{rules}
 use Rattle.faults.proofs.watch.look.Goals as goal
 
 pub loop-at-init : goal.loop-at-init

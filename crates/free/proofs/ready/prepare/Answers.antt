@@ -1,7 +1,6 @@
 -- What the calls leave is the file made ready, and the buffer holds the detail block.
 use native.Mathlib.Omega.{arith}
 use Rattle.free.proofs.Readying.{head_small, followed-fits, staged-some, readied, loaded}
-use borrow.Author.Rules.{rules}
 use Rattle.free.proofs.ready.prepare.Goals as goal
 
 pub stage-requires : goal.stage-requires

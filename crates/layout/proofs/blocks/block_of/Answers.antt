@@ -1,5 +1,4 @@
 -- The block's words lie side by side in the file.
-use borrow.Author.Rules.{rules}
 use Rattle.layout.proofs.CodeSizes.{block_here, block_words}
 use Rattle.layout.proofs.blocks.block_of.Goals as goal
 

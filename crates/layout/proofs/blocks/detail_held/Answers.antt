@@ -1,6 +1,5 @@
 -- The mark, the count and the records decide; the block is one of the file's, since it could be marked.
 use native.Mathlib.Omega.{arith}
-use borrow.Author.Rules.{rules}
 use Rattle.layout.proofs.CodeSizes.{block-least, block-most, records-room, key-in-row}
 use Rattle.layout.proofs.CodeSteps.{detail-unmarked, detail-rows, detail-records}
 use Rattle.layout.proofs.blocks.detail_held.Goals as goal

@@ -1,10 +1,6 @@
 -- What is left of the entries gives what all of them give.
-use mathlib.Core.Path.{◌≡◌, refl}
-use Prim.Native.Nat.{◌+◌, ◌*◌, ◌≤◌}
+use mathlib.Core.Path.{refl}
 use native.Mathlib.Omega.{arith}
-use borrow.Author.Rules.{rules}
-use lib.ListN.{length}
-use Rattle.layout.specs.Inspect.{detail_held, through}
 use Rattle.layout.proofs.CodeSizes.{entry_key, row_inside, row-rest, row_fits}
 use Rattle.layout.proofs.CodeSteps.{through-done, through-stop, through-next}
 use Rattle.layout.proofs.blocks.details_held.Goals as goal

@@ -1,6 +1,5 @@
 -- The mark, the count, the last bound and the entries decide; the block is one of the file's, since it could be marked.
 use native.Mathlib.Omega.{arith}
-use borrow.Author.Rules.{rules}
 use Rattle.layout.proofs.CodeSizes.{block-least, block-most, entries-room}
 use Rattle.layout.proofs.CodeSteps.{index-unmarked, index-rows, index-bound, index-entries}
 use Rattle.layout.proofs.blocks.index_held.Goals as goal

@@ -1,12 +1,8 @@
 -- What is left of the entries gives what all of them give.
-use mathlib.Core.Path.{◌≡◌, refl}
+use mathlib.Core.Path.{◌≡◌}
 use Prim.Native.Nat.{◌+◌, ◌*◌, ◌≤◌}
-use native.Mathlib.Omega.{arith}
-use borrow.Author.Rules.{rules}
 use lib.ListN.{length}
 use Rattle.layout.specs.Inspect.{index_held, through}
-use Rattle.layout.proofs.CodeSizes.{entry_key, row_inside, row-rest, row_fits, first_key}
-use Rattle.layout.proofs.CodeSteps.{through-done, through-stop, through-next}
 use Rattle.layout.proofs.blocks.sections_held.Given as goal
 
 abbrev pub invariant-loop-left : goal.invariant-loop-left

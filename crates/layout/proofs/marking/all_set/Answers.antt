@@ -1,9 +1,6 @@
 -- What is left of the marks gives what all of them give.
-use mathlib.Core.Path.{◌≡◌}
-use Prim.Native.Nat.{◌-◌, ◌≤◌}
+use Prim.Native.Nat.{◌-◌}
 use native.Mathlib.Omega.{arith}
-use lib.ListN.{take}
-use Rattle.words.specs.Words.{part, none_is}
 use Rattle.layout.proofs.CodeMarks.{set-start, set_next, set-stop, set-done}
 use Rattle.layout.proofs.marking.all_set.Goals as goal
 

@@ -1,10 +1,9 @@
 -- The marks passed are 0, the others as they were.
-use mathlib.Core.Path.{◌≡◌, refl}
-use mathlib.Core.List.{◌++◌}
-use Prim.Native.Nat.{◌-◌, ◌≤◌}
+use mathlib.Core.Path.{refl}
+use Prim.Native.Nat.{◌-◌}
 use native.Mathlib.Omega.{arith}
 use borrow.Author.Fill.{fill_none}
-use lib.ListN.{length, drop, replicate, length-set}
+use lib.ListN.{length-set}
 use Rattle.layout.proofs.CodeMarks.{clear_next, cleared}
 use Rattle.layout.proofs.marking.clear.Goals as goal
 

@@ -1,11 +1,8 @@
 -- The marks passed are 0, the others as they were.
-use mathlib.Core.Path.{◌≡◌, refl}
+use mathlib.Core.Path.{◌≡◌}
 use mathlib.Core.List.{◌++◌}
 use Prim.Native.Nat.{◌-◌, ◌≤◌}
-use native.Mathlib.Omega.{arith}
-use borrow.Author.Fill.{fill_none}
-use lib.ListN.{length, drop, replicate, length-set}
-use Rattle.layout.proofs.CodeMarks.{clear_next, cleared}
+use lib.ListN.{length, drop, replicate}
 use Rattle.layout.proofs.marking.clear.Given as goal
 
 abbrev pub invariant-loop-i : goal.invariant-loop-i

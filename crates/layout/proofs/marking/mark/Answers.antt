@@ -1,5 +1,4 @@
 -- The block's number and its mark decide.
-use borrow.Author.Rules.{rules}
 use Rattle.layout.proofs.CodeMarks.{mark-zero, mark-high, mark-twice, mark_set}
 use Rattle.layout.proofs.marking.mark.Goals as goal
 

@@ -1,9 +1,6 @@
 -- What is left of the marks gives what all of them give.
-use mathlib.Core.Path.{◌≡◌, refl}
+use mathlib.Core.Path.{refl}
 use Prim.Native.Nat.{◌-◌}
-use native.Mathlib.Omega.{arith}
-use lib.ListN.{length, drop}
-use Rattle.words.specs.Words.{all_are}
 use Rattle.layout.proofs.CodeMarks.{unset-next, unset-stop, unset-done}
 use Rattle.layout.proofs.marking.none_set.Goals as goal
 

@@ -1,5 +1,4 @@
 -- A key that none comes before, or two keys compared.
-use borrow.Author.Rules.{rules}
 use Rattle.layout.proofs.CodeRows.{above-none, above-key}
 use Rattle.layout.proofs.rows.above.Goals as goal
 

@@ -1,10 +1,6 @@
 -- What is left of the rows gives what all of them give.
-use mathlib.Core.Path.{◌≡◌, refl}
-use Prim.Native.Nat.{◌+◌, ◌*◌, ◌≤◌}
+use mathlib.Core.Path.{refl}
 use native.Mathlib.Omega.{arith}
-use borrow.Author.Rules.{rules}
-use lib.ListN.{length}
-use Rattle.layout.specs.Inspect.{ascends}
 use Rattle.layout.proofs.CodeSizes.{row-key, row-rest, row_fits}
 use Rattle.layout.proofs.CodeRows.{ascend-done, ascend-stop, ascend-next}
 use Rattle.layout.proofs.rows.ascends.Goals as goal

@@ -1,5 +1,4 @@
 -- The bound, the last key and its data decide, in this order.
-use borrow.Author.Rules.{rules}
 use Rattle.layout.proofs.CodeRows.{end-other, end-lacking, end-data}
 use Rattle.layout.proofs.rows.end_ok.Goals as goal
 

@@ -1,6 +1,4 @@
 -- The order, the bound and the end record decide.
-use native.Mathlib.Omega.{arith}
-use borrow.Author.Rules.{rules}
 use Rattle.layout.proofs.CodeRows.{records-mixed, records-over, records-end}
 use Rattle.layout.proofs.rows.records_ok.Goals as goal
 

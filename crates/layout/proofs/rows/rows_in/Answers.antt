@@ -1,6 +1,5 @@
 -- The count and the words behind the rows decide; the rows lie in the block.
 use native.Mathlib.Omega.{arith}
-use borrow.Author.Rules.{rules}
 use Rattle.layout.proofs.CodeRows.{rows_few, rows-many, rows_behind, rows-good}
 use Rattle.layout.proofs.CodeSizes.{used-most, used-inside, used-rest, used-span, used-words, used-end}
 use Rattle.layout.proofs.rows.rows_in.Goals as goal

@@ -1,6 +1,5 @@
 -- `Reading::counted` meets its contract.
 use borrow.Author.Tests.{not-true, not-false}
-use borrow.Author.Rules.{rules}
 use Rattle.lines.proofs.Steps.{counted-other, counted-full, counted-number}
 use Rattle.lines.proofs.Reading.counted.Goals as goal
 

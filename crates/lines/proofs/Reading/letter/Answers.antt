@@ -1,6 +1,5 @@
 -- `Reading::letter` meets its contract.
 use native.Mathlib.Omega.{arith}
-use borrow.Author.Rules.{rules}
 use Rattle.lines.proofs.Steps.{spells-others, spells-numbers, spells-full, spells-room, letter-full, letter-room}
 use Rattle.lines.proofs.Reading.letter.Goals as goal
 

@@ -1,6 +1,5 @@
 -- `Reading::other` meets its contract.
 use mathlib.Core.Path.{◌∙◌}
-use borrow.Author.Rules.{rules}
 use Rattle.lines.proofs.Steps.{another-few, another-many}
 use Rattle.lines.proofs.Reading.other.Goals as goal
 

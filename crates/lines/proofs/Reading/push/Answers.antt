@@ -1,6 +1,5 @@
 -- `Reading::push` meets its contract.
 use mathlib.Core.Path.{sym, ◌∙◌}
-use borrow.Author.Rules.{rules}
 use Rattle.lines.proofs.Steps.{step-blank, step-letter}
 use Rattle.lines.proofs.Reading.push.Goals as goal
 

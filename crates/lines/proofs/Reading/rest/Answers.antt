@@ -1,5 +1,4 @@
 -- `Reading::rest` meets its contract.
-use borrow.Author.Rules.{rules}
 use Rattle.lines.proofs.Steps.{rested-word, rested-blank}
 use Rattle.lines.proofs.Reading.rest.Goals as goal
 

@@ -4,7 +4,6 @@ use mathlib.Core.Path.{refl, sym, ◌∙◌}
 use mathlib.Core.Bool.{false}
 use native.Mathlib.Omega.{arith}
 use borrow.Author.Tests.{not-true, not-false}
-use borrow.Author.Rules.{rules}
 use Rattle.lines.proofs.Steps.{digit-least, stays-other, stays-letter, stays-over, stays-number, word-other, word-digit}
 use Rattle.lines.proofs.Reading.with_byte.Goals as goal
 

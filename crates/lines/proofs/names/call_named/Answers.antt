@@ -1,6 +1,5 @@
 -- `names::call_named` meets its contract: where there are no n bytes, the first n are all there are.
 use mathlib.Core.Path.{ap, ◌∙◌}
-use borrow.Author.Rules.{rules}
 use Rattle.lines.specs.Lines.{named}
 use Rattle.lines.proofs.Turns.{part-over}
 use Rattle.lines.proofs.names.call_named.Goals as goal

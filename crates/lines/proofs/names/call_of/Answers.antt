@@ -1,6 +1,5 @@
 -- The first word's name, and how many numbers stand beside it, decide.
 use native.Mathlib.Omega.{arith}
-use borrow.Author.Rules.{rules}
 use Rattle.lines.proofs.Turns.{call-nothing, call-others, call-numbers, call-whole}
 use Rattle.lines.proofs.names.call_of.Goals as goal
 

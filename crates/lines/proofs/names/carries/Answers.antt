@@ -1,5 +1,4 @@
 -- `names::carries` meets its contract: each arm is the clause of its kind.
-use borrow.Author.Rules.{rules}
 use Rattle.lines.specs.Lines.{carries}
 use Rattle.lines.proofs.names.carries.Goals as goal
 

@@ -1,10 +1,7 @@
 -- `names::is_name` meets its contract: what is to be compared from here on comes to what the whole comes to.
-use Prim.Native.Nat.{◌-◌, ◌≤◌}
+use Prim.Native.Nat.{◌-◌}
 use mathlib.Core.Path.{◌≡◌, sym, ◌∙◌}
 use native.Mathlib.Omega.{arith}
-use lib.ListN.{length}
-use Rattle.words.specs.Words.{part}
-use Rattle.words.specs.Keys.{same_key}
 use Rattle.lines.proofs.Turns.{name-other, name-start, name-stop, name-next, name_done}
 use Rattle.lines.proofs.names.is_name.Goals as goal
 

@@ -1,11 +1,9 @@
 -- `names::is_name` meets its contract: what is to be compared from here on comes to what the whole comes to.
 use Prim.Native.Nat.{◌-◌, ◌≤◌}
-use mathlib.Core.Path.{◌≡◌, sym, ◌∙◌}
-use native.Mathlib.Omega.{arith}
+use mathlib.Core.Path.{◌≡◌}
 use lib.ListN.{length}
 use Rattle.words.specs.Words.{part}
 use Rattle.words.specs.Keys.{same_key}
-use Rattle.lines.proofs.Turns.{name-other, name-start, name-stop, name-next, name_done}
 use Rattle.lines.proofs.names.is_name.Given as goal
 
 abbrev pub invariant-loop-i : goal.invariant-loop-i

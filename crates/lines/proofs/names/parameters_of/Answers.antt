@@ -1,5 +1,4 @@
 -- `names::parameters_of` meets its contract: six numbers and nothing else, or no parameters.
-use borrow.Author.Rules.{rules}
 use Rattle.lines.proofs.Turns.{parameters-others, parameters-numbers, parameters-whole}
 use Rattle.lines.proofs.names.parameters_of.Goals as goal
 

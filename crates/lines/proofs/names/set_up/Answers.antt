@@ -3,7 +3,6 @@ use mathlib.Core.Path.{ap}
 use Rattle.drum.specs.declared.Description.{Description}
 use Rattle.drum.proofs.Setup.{set-up}
 use Rattle.lines.proofs.Turns.{described-by}
-use borrow.Author.Rules.{rules}
 use Rattle.lines.proofs.names.set_up.Goals as goal
 
 -- the description after the last step, and before it the steps and the words read

@@ -2,7 +2,6 @@
 use native.Mathlib.Omega.{arith}
 use Rattle.nsert.proofs.Telling.{four-more, five-more, stop-fits, room_fits, split-fits, both-fits, split-halves, both_halves}
 use Rattle.nsert.proofs.Telling.{told-bad, told-stop, told-room, told-split, told-both}
-use borrow.Author.Rules.{rules}
 use Rattle.nsert.proofs.deeds.do_nsert.Goals as goal
 
 pub stop-requires : goal.stop-requires

@@ -1,6 +1,5 @@
 -- Which half the record falls in decides.
 use Rattle.nsert.proofs.Telling.{half-low, half_high}
-use borrow.Author.Rules.{rules}
 use Rattle.nsert.proofs.deeds.half_of.Goals as goal
 
 pub returns-then-i-low_count : goal.returns-then-i-low_count

@@ -2,7 +2,6 @@
 use native.Mathlib.Omega.{arith}
 use Rattle.nsert.proofs.Planning.{few-records}
 use Rattle.nsert.proofs.Telling.{half-least, half-most, half-landed, half-text}
-use borrow.Author.Rules.{rules}
 use Rattle.nsert.proofs.deeds.land_half.Goals as goal
 
 pub half_of-half-requires : goal.half_of-half-requires

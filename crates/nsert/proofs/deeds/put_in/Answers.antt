@@ -1,6 +1,5 @@
 -- The block is reached, and the record put in.
 use Rattle.nsert.proofs.Telling.{room-base, room_row, room-place, room_most, room-long, room-moves, room-file, room-buffer}
-use borrow.Author.Rules.{rules}
 use Rattle.nsert.proofs.deeds.put_in.Goals as goal
 
 pub insert_row-requires : goal.insert_row-requires

@@ -1,7 +1,6 @@
 -- The new blocks are bad, or lacking; then the number is bad, or the splits are planned.
 use native.Mathlib.Omega.{arith}
 use Rattle.nsert.proofs.Planning.{few-records, both-refused, both-none, both-bad, both_is}
-use borrow.Author.Rules.{rules}
 use Rattle.nsert.proofs.plan.both_deed.Goals as goal
 
 pub returns-in_default : goal.returns-in_default

@@ -1,6 +1,5 @@
 -- The count is word 0 of the current text.
 use Rattle.nsert.proofs.Planning.{text-some, counted}
-use borrow.Author.Rules.{rules}
 use Rattle.nsert.proofs.plan.count_of.Goals as goal
 
 pub count_of-requires : goal.count_of-requires

@@ -1,6 +1,5 @@
 -- Which half the record falls in decides.
 use Rattle.nsert.proofs.Planning.{in-low, in-high}
-use borrow.Author.Rules.{rules}
 use Rattle.nsert.proofs.plan.half_count.Goals as goal
 
 pub returns-then-i-low : goal.returns-then-i-low

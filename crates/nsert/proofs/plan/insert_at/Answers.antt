@@ -1,6 +1,5 @@
 -- The counts of the two blocks, in their current texts, decide.
 use Rattle.nsert.proofs.Planning.{has_room_lem, is-full, both-full}
-use borrow.Author.Rules.{rules}
 use Rattle.nsert.proofs.plan.insert_at.Goals as goal
 
 pub returns-then-count_of-d : goal.returns-then-count_of-d

@@ -1,6 +1,5 @@
 -- One search of the current text of the detail block.
 use Rattle.nsert.proofs.Planning.{text-some, rows_in_lem, key-narrow, key_in_lem, found-above}
-use borrow.Author.Rules.{rules}
 use Rattle.nsert.proofs.plan.place_of.Goals as goal
 
 pub records_in-n-requires : goal.records_in-n-requires

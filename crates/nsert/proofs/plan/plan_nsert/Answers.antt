@@ -1,6 +1,5 @@
 -- Each case of the lookup is a case of the definition.
 use Rattle.nsert.proofs.Planning.{look-bad, look-found, look-missing, missing-path}
-use borrow.Author.Rules.{rules}
 use Rattle.nsert.proofs.plan.plan_nsert.Goals as goal
 
 pub place_of-i-requires : goal.place_of-i-requires

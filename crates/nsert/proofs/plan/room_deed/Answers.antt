@@ -2,7 +2,6 @@
 use native.Mathlib.Omega.{arith}
 use Rattle.free.proofs.Granting.{master-some}
 use Rattle.nsert.proofs.Planning.{count_next, room-bad, room-is}
-use borrow.Author.Rules.{rules}
 use Rattle.nsert.proofs.plan.room_deed.Goals as goal
 
 pub word_at-head-requires : goal.word_at-head-requires

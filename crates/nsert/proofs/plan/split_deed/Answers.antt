@@ -1,7 +1,6 @@
 -- The new block is bad, or lacking; then the number is bad, or the split is planned.
 use native.Mathlib.Omega.{arith}
 use Rattle.nsert.proofs.Planning.{few-records, split-refused, split-none, split-bad, split-is}
-use borrow.Author.Rules.{rules}
 use Rattle.nsert.proofs.plan.split_deed.Goals as goal
 
 pub returns-in_default : goal.returns-in_default

@@ -1,7 +1,6 @@
 -- The file is made ready, and the full block in the buffer divided.
 use Rattle.nsert.proofs.Cutting.{cut-ready}
 use Rattle.nsert.proofs.Splitting.{cut-divides, record-long, entry-long, cut-file, cut-entry}
-use borrow.Author.Rules.{rules}
 use Rattle.nsert.proofs.splits.cut.Goals as goal
 
 pub prepare-moved-requires : goal.prepare-moved-requires

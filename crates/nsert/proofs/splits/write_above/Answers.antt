@@ -1,7 +1,6 @@
 -- The index block is split, and the split entered in the master, whose count no block has words of.
 use native.Mathlib.Omega.{arith}
 use Rattle.nsert.proofs.Splitting.{number_small, above-divides, index-long, index_short, above-enters, master-short, above-file}
-use borrow.Author.Rules.{rules}
 use Rattle.nsert.proofs.splits.write_above.Goals as goal
 
 pub divide_in-requires : goal.divide_in-requires

@@ -1,7 +1,6 @@
 -- The detail block is split, and then what is above it.
 use native.Mathlib.Omega.{arith}
 use Rattle.nsert.proofs.Splitting.{key-short, cut_fits, both-above, both-file}
-use borrow.Author.Rules.{rules}
 use Rattle.nsert.proofs.splits.write_both.Goals as goal
 
 pub cut-moved-requires : goal.cut-moved-requires

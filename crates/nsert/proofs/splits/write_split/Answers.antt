@@ -1,7 +1,6 @@
 -- The detail block is split, and the split entered in the index block, whose text stands in the file.
 use native.Mathlib.Omega.{arith}
 use Rattle.nsert.proofs.Splitting.{key-short, number_small, split-enters, split-file}
-use borrow.Author.Rules.{rules}
 use Rattle.nsert.proofs.splits.write_split.Goals as goal
 
 pub cut-moved-requires : goal.cut-moved-requires

@@ -1,9 +1,7 @@
 -- `plays::deeds::fill` is safe and ends: a line has sixteen words.
 use Prim.Native.Nat.{◌≤◌, ◌-◌}
 use mathlib.Core.Path.{◌≡◌}
-use native.Mathlib.Omega.{arith}
 use lib.ListN.{length}
-use borrow.Author.Rules.{rules}
 use Rattle.plays.proofs.deeds.fill.Given as goal
 
 abbrev pub invariant-loop-i : goal.invariant-loop-i

@@ -1,9 +1,7 @@
 -- `plays::list::play_lines` is safe and ends: each turn takes a line of a byte at least.
-use Prim.Native.Nat.{◌≤◌, ◌-◌}
+use Prim.Native.Nat.{◌-◌}
 use mathlib.Core.Path.{◌≡◌}
-use native.Mathlib.Omega.{arith}
 use lib.ListN.{length}
-use borrow.Author.Rules.{rules}
 use Rattle.plays.proofs.list.play_lines.Given as goal
 
 abbrev pub invariant-loop-at : goal.invariant-loop-at

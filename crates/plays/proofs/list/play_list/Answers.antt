@@ -1,7 +1,6 @@
 -- `plays::list::play_list` is safe: parameters that are played are good.
 use mathlib.Core.Path.{◌≡◌, sym, ◌∙◌}
 use mathlib.Core.Bool.{Bool, true}
-use borrow.Author.Rules.{rules}
 use Rattle.drum.specs.declared.Description.{Description}
 use Rattle.drum.specs.Params.{good_params}
 use Rattle.plays.proofs.list.play_list.Goals as goal

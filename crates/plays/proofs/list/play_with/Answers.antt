@@ -1,7 +1,6 @@
 -- `plays::list::play_with` is safe: the parts that are lent are as long as they say.
 use native.Mathlib.Omega.{arith}
 use lib.ListN.{length-take}
-use borrow.Author.Rules.{rules}
 use Rattle.plays.proofs.list.play_with.Goals as goal
 
 pub slice_bounds-play_lines-end : goal.slice_bounds-play_lines-end

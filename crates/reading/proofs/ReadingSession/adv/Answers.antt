@@ -5,7 +5,6 @@ use Rattle.face.proofs.Lent.{plain-call}
 use Rattle.face.proofs.Chains.{adv-chain}
 use Rattle.reading.proofs.Kept.{adv-off}
 use Rattle.reading.proofs.Profile.{read-many, read-refused, read_told}
-use borrow.Author.Rules.{rules}
 use Rattle.reading.proofs.ReadingSession.adv.Goals as goal
 
 pub returns-then-p-ne1 : goal.returns-then-p-ne1

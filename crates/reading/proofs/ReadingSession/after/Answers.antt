@@ -1,7 +1,6 @@
 -- Position is written only where the steps say so.
 use mathlib.Core.Path.{refl}
 use Rattle.reading.proofs.Profile.{after-placed, after_kept}
-use borrow.Author.Rules.{rules}
 use Rattle.reading.proofs.ReadingSession.after.Goals as goal
 
 pub returns-then-done : goal.returns-then-done

@@ -1,7 +1,6 @@
 -- The refusals in the table's order, and then 020010.
 use Rattle.reading.specs.Reading.{altering}
 use Rattle.reading.proofs.Profile.{read-many, read-refused, alter-chain, read_only}
-use borrow.Author.Rules.{rules}
 use Rattle.reading.proofs.ReadingSession.altering.Goals as goal
 
 pub returns-then-p-ne1 : goal.returns-then-p-ne1

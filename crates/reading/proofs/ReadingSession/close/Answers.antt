@@ -1,6 +1,5 @@
 -- Each return is one way through CLOSE.
 use Rattle.reading.proofs.Profile.{close-sizes, close-shut, close-done}
-use borrow.Author.Rules.{rules}
 use Rattle.reading.proofs.ReadingSession.close.Goals as goal
 
 pub returns-then-not-is_fitting : goal.returns-then-not-is_fitting

@@ -1,7 +1,6 @@
 -- Each return is one way through OPEN.
 use Rattle.reading.proofs.Opened.{open-sizes, open-marks, open_twice, open-bad, open_done_lem, inspect-fit}
 use Rattle.std.proofs.lemmas.Bool.{not_from_true}
-use borrow.Author.Rules.{rules}
 use Rattle.reading.proofs.ReadingSession.open.Goals as goal
 
 pub returns-then-not-is_fitting : goal.returns-then-not-is_fitting

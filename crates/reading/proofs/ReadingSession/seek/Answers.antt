@@ -4,7 +4,6 @@ use Rattle.face.proofs.Lent.{key-in-record, keyed-call}
 use Rattle.face.proofs.Chains.{seek-chain}
 use Rattle.reading.proofs.Kept.{seek-off}
 use Rattle.reading.proofs.Profile.{read-many, read-refused, read_told}
-use borrow.Author.Rules.{rules}
 use Rattle.reading.proofs.ReadingSession.seek.Goals as goal
 
 pub returns-then-p-ne1 : goal.returns-then-p-ne1

@@ -1,6 +1,5 @@
 -- Each return is the first test that fails, or the last.
 use Rattle.reading.proofs.Viewed.{shows-sizes, shows-closed, shows-below, shows-last}
-use borrow.Author.Rules.{rules}
 use Rattle.reading.proofs.ReadingSession.shows.Goals as goal
 
 pub returns-then-not-is_fitting : goal.returns-then-not-is_fitting

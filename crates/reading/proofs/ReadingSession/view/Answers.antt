@@ -1,6 +1,5 @@
 -- An empty part, or the block's part where it is shown.
 use Rattle.reading.proofs.Viewed.{view-none, shown-fitting, shown-least, shown-most, view-shown}
-use borrow.Author.Rules.{rules}
 use Rattle.reading.proofs.ReadingSession.view.Goals as goal
 
 pub returns-then-not-shows : goal.returns-then-not-shows

@@ -2,7 +2,6 @@
 use native.Mathlib.Omega.{arith}
 use Rattle.layout.proofs.CodeSizes.{block-wide}
 use Rattle.reading.proofs.Order.{last-holds, other-holds}
-use borrow.Author.Rules.{rules}
 use Rattle.reading.proofs.finished.holds_fd.Goals as goal
 
 pub returns-then-behind-eq0 : goal.returns-then-behind-eq0

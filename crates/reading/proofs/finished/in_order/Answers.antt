@@ -1,11 +1,7 @@
 -- What is left of the entries tells what all of them tell.
-use Prim.Native.Nat.{◌+◌, ◌*◌, ◌≤◌}
-use mathlib.Core.Path.{◌≡◌, refl}
+use mathlib.Core.Path.{refl}
 use native.Mathlib.Omega.{arith}
-use lib.ListN.{length}
 use Rattle.layout.proofs.CodeSizes.{key-short, row_inside, row-rest}
-use Rattle.reading.specs.Finished.{in_order}
-use Rattle.reading.specs.Fits.{NamesBlocks}
 use Rattle.reading.proofs.Order.{order-done, order-stop, order-next, names-rest, first-least, first-most, next_fits, number_fits}
 use Rattle.reading.proofs.finished.in_order.Goals as goal
 

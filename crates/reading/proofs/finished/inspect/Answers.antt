@@ -1,6 +1,5 @@
 -- As under Layout, and finished.
 use Rattle.reading.proofs.Order.{inspected, not-laid, marks-none, is-laid, marks-kept, not-finished, marks-cleared}
-use borrow.Author.Rules.{rules}
 use Rattle.reading.proofs.finished.inspect.Goals as goal
 
 pub returns-then-not-inspect : goal.returns-then-not-inspect

@@ -2,7 +2,6 @@
 use native.Mathlib.Omega.{arith}
 use Rattle.reading.proofs.Order.{chained, elsewhere, in-first, whole-fit, narrow, wide, some-blocks, start_fits, word-behind}
 use Rattle.reading.proofs.Order.{entries-few, entries-named, entries-inside}
-use borrow.Author.Rules.{rules}
 use Rattle.reading.proofs.finished.is_finished.Goals as goal
 
 pub word_at-requires : goal.word_at-requires

@@ -2,7 +2,6 @@
 use Rattle.drum.proofs.Sizes.{key-in-row}
 use Rattle.adv.proofs.Given.{adv-bad, at-way, at_row, adv-at-told, beyond-least, beyond-most, beyond-row}
 use Rattle.reading.proofs.Reached.{beyond-told}
-use borrow.Author.Rules.{rules}
 use Rattle.reading.proofs.steps.act_adv.Goals as goal
 
 pub reach-here-requires : goal.reach-here-requires

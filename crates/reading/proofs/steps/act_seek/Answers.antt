@@ -1,7 +1,6 @@
 -- A bad number moves nothing; a record found goes to the workspace from the block reached; else the lookup is all.
 use Rattle.seek.proofs.Found.{found-way, found-row, missing-path, missing-least, missing-most, seek-bad, seek_found}
 use Rattle.reading.proofs.Reached.{missing-told}
-use borrow.Author.Rules.{rules}
 use Rattle.reading.proofs.steps.act_seek.Goals as goal
 
 pub reach-here-requires : goal.reach-here-requires

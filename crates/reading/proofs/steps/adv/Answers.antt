@@ -1,6 +1,5 @@
 -- The step fits what the act requires, and the act is the rest of the steps.
 use Rattle.reading.proofs.Reached.{plan-fits, plan-told}
-use borrow.Author.Rules.{rules}
 use Rattle.reading.proofs.steps.adv.Goals as goal
 
 pub act_adv-requires : goal.act_adv-requires

@@ -1,6 +1,5 @@
 -- The block is there, or its text is brought.
 use Rattle.reading.proofs.Reached.{here-come, by-least, by_most, by-come}
-use borrow.Author.Rules.{rules}
 use Rattle.reading.proofs.steps.reach.Goals as goal
 
 pub load-requires : goal.load-requires

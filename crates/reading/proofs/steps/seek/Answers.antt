@@ -1,7 +1,6 @@
 -- The lookup's answer fits what the act requires, and the act is the rest of the steps.
 use Rattle.drum.proofs.Sizes.{key-within}
 use Rattle.seek.proofs.Steps.{act-fits, seek-told}
-use borrow.Author.Rules.{rules}
 use Rattle.reading.proofs.steps.seek.Goals as goal
 
 pub look-l-requires : goal.look-l-requires

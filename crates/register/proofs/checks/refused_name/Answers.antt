@@ -1,6 +1,4 @@
 -- `register::refused_name` meets its contract: the data word, and then the routine's refusals.
-use native.Mathlib.Omega.{arith}
-use borrow.Author.Rules.{rules}
 use Rattle.face.proofs.Lent.{key-in-record}
 use Rattle.register.proofs.Refusing.{name-none, name-some}
 use Rattle.register.proofs.checks.refused_name.Goals as goal

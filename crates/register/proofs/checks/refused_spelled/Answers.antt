@@ -1,6 +1,4 @@
 -- `register::refused_spelled` meets its contract: each return is the first line of the chain that refuses.
-use native.Mathlib.Omega.{arith}
-use borrow.Author.Rules.{rules}
 use Rattle.face.proofs.Lent.{key-in-record}
 use Rattle.register.proofs.Refusing.{spelled_none, spelled-length, spelled-key, spelled-words, spelled-right}
 use Rattle.register.proofs.checks.refused_spelled.Goals as goal

@@ -1,7 +1,6 @@
 -- `register::kept` meets its contract: SEEK and the state, the record's own spelling, UPDAT.
 use native.Mathlib.Omega.{arith}
 use Rattle.std.proofs.lemmas.Bool.{not_from_true}
-use borrow.Author.Rules.{rules}
 use Rattle.register.proofs.Moving.{found-few, move-missed, kept-bad, kept-done}
 use Rattle.register.proofs.moves.kept.Goals as goal
 

@@ -1,6 +1,5 @@
 -- `register::romanised` meets its contract: SEEK and the state, the new record, UPDAT.
 use native.Mathlib.Omega.{arith}
-use borrow.Author.Rules.{rules}
 use Rattle.register.proofs.Moving.{state-of-spelled, found-few, move-missed, romanised-done}
 use Rattle.register.proofs.moves.romanised.Goals as goal
 

@@ -1,5 +1,4 @@
 -- `register::sought` meets its contract: SEEK missed, found another state, or the right one.
-use borrow.Author.Rules.{rules}
 use Rattle.register.proofs.Moving.{sought-missed, sought-other, sought-right}
 use Rattle.register.proofs.moves.sought.Goals as goal
 

@@ -1,6 +1,5 @@
 -- `register::stored` meets its contract: UPDAT's answer, and the transfers of both.
 use native.Mathlib.Omega.{arith}
-use borrow.Author.Rules.{rules}
 use Rattle.register.proofs.Costs.{updated-few}
 use Rattle.register.proofs.Moving.{stored-after}
 use Rattle.register.proofs.moves.stored.Goals as goal

@@ -1,6 +1,5 @@
 -- `rowcalls::row::kind_of` meets its contract: word 2 says the kind.
 use Rattle.rowcalls.proofs.Words.{kind-fixed, kind-variable}
-use borrow.Author.Rules.{rules}
 use Rattle.rowcalls.proofs.row.kind_of.Goals as goal
 
 pub returns-then-row-eq0 : goal.returns-then-row-eq0

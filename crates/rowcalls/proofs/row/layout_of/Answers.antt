@@ -1,6 +1,5 @@
 -- `rowcalls::row::layout_of` meets its contract: word by word.
 use Rattle.rowcalls.proofs.Words.{layout-by}
-use borrow.Author.Rules.{rules}
 use Rattle.rowcalls.proofs.row.layout_of.Goals as goal
 
 pub returns : goal.returns

@@ -1,6 +1,5 @@
 -- `rowcalls::row::place_of` meets its contract: word by word.
 use Rattle.rowcalls.proofs.Words.{place-by}
-use borrow.Author.Rules.{rules}
 use Rattle.rowcalls.proofs.row.place_of.Goals as goal
 
 pub returns : goal.returns

@@ -2,7 +2,6 @@
 use native.Mathlib.Omega.{arith}
 use lib.ListN.{length-set}
 use Rattle.rowcalls.proofs.Words.{placed_by}
-use borrow.Author.Rules.{rules}
 use Rattle.rowcalls.proofs.row.put_place.Goals as goal
 
 pub bounds-row-5 : goal.bounds-row-5

@@ -1,12 +1,9 @@
 -- `salvage::texts::keys_ascend` meets its contract: the keys that are left ascend exactly when all do.
-use mathlib.Core.Path.{◌≡◌, refl, sym, ◌∙◌}
+use mathlib.Core.Path.{◌≡◌}
 use Prim.Native.Nat.{◌+◌, ◌*◌, ◌-◌, ◌≤◌}
-use native.Mathlib.Omega.{arith}
-use borrow.Author.Rules.{rules}
 use lib.ListN.{length}
 use Rattle.layout.specs.Holds.{ascending, keys_of}
 use Rattle.salvage.specs.Met.{rows_from}
-use Rattle.salvage.proofs.Rows.{key_here, key-next, next_fits, rest-rows, keys-told, keys-done, keys-again}
 use Rattle.salvage.proofs.texts.keys_ascend.Given as goal
 
 abbrev pub invariant-loop-left : goal.invariant-loop-left

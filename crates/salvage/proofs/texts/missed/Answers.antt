@@ -1,5 +1,4 @@
 -- `salvage::texts::missed` meets its contract: each return is the first test that fails.
-use borrow.Author.Rules.{rules}
 use Rattle.salvage.proofs.Tests.{text-some, missed-low, missed-high, missed-none, missed-many, span_fits, words-within}
 use Rattle.salvage.proofs.Tests.{key-short, missed-word, missed-order, missed-nothing}
 use Rattle.salvage.proofs.texts.missed.Goals as goal

@@ -1,5 +1,4 @@
 -- `salvage::walk::block_of` meets its contract: the text is a part of the copy.
-use borrow.Author.Rules.{rules}
 use Rattle.salvage.proofs.Walks.{text-end, text-bytes, text-within, block-ready, block_walked}
 use Rattle.salvage.proofs.walk.block_of.Goals as goal
 

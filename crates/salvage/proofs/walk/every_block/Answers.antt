@@ -1,13 +1,7 @@
 -- `salvage::walk::every_block` meets its contract: what is done and what is left come to what all blocks come to.
-use mathlib.Core.Path.{◌≡◌, refl}
-use Prim.Native.Nat.{◌+◌, ◌*◌, ◌-◌, ◌≤◌}
+use mathlib.Core.Path.{refl}
+use Prim.Native.Nat.{◌-◌}
 use native.Mathlib.Omega.{arith}
-use borrow.Author.Rules.{rules}
-use lib.ListN.{length}
-use Rattle.drum.specs.Params.{D}
-use Rattle.salvage.specs.Met.{met, met_from}
-use Rattle.salvage.specs.Salvage.{run}
-use Rattle.salvage.specs.Promise.{walking, Spare, Copied}
 use Rattle.salvage.proofs.Walks.{blocks-first, spare-first, copied_on, spare-block, number-most, spare-next, desc-next, block-turn, blocks_end, blocks-fit}
 use Rattle.salvage.proofs.walk.every_block.Goals as goal
 

@@ -1,5 +1,4 @@
 -- `salvage::walk::insert` meets its contract.
-use borrow.Author.Rules.{rules}
 use Rattle.salvage.proofs.Steps.{sum_fits, insert-told}
 use Rattle.salvage.proofs.walk.insert.Goals as goal
 

@@ -1,6 +1,5 @@
 -- `salvage::walk::one_block` meets its contract: a line for a block passed over, or its records.
 use native.Mathlib.Omega.{arith}
-use borrow.Author.Rules.{rules}
 use Rattle.salvage.proofs.Tests.{reason-told}
 use Rattle.salvage.proofs.Walks.{ready-line, ready-block, block-over, block-taken, block_run}
 use Rattle.salvage.proofs.walk.one_block.Goals as goal

@@ -1,5 +1,4 @@
 -- `salvage::walk::one_record` meets its contract: the record is left, or put in and settled.
-use borrow.Author.Rules.{rules}
 use Rattle.salvage.proofs.Steps.{one_left, one-done, line_after, spare-sum}
 use Rattle.salvage.proofs.walk.one_record.Goals as goal
 

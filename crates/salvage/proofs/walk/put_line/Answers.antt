@@ -1,5 +1,4 @@
 -- `salvage::walk::put_line` meets its contract: three words are one part of the report.
-use borrow.Author.Rules.{rules}
 use mathlib.Core.Path.{refl}
 use Rattle.salvage.proofs.Lines.{line-put}
 use Rattle.salvage.proofs.walk.put_line.Goals as goal

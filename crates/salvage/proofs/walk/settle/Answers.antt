@@ -1,5 +1,4 @@
 -- `salvage::walk::settle` meets its contract: nothing more, or a line.
-use borrow.Author.Rules.{rules}
 use Rattle.salvage.proofs.Steps.{settle-none, settle-line, why-is}
 use Rattle.salvage.proofs.walk.settle.Goals as goal
 

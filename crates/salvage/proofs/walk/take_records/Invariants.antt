@@ -1,16 +1,12 @@
 -- `salvage::walk::take_records` meets its contract: what is done and what is left come to what all the records come to.
-use mathlib.Core.Path.{◌≡◌, refl}
+use mathlib.Core.Path.{◌≡◌}
 use mathlib.Core.Bool.{true}
 use Prim.Native.Nat.{◌+◌, ◌*◌, ◌-◌, ◌≤◌}
-use native.Mathlib.Omega.{arith}
-use borrow.Author.Rules.{rules}
 use lib.ListN.{length}
 use Rattle.drum.specs.Params.{good_params}
 use Rattle.salvage.specs.Met.{places, records_in, rows_from}
 use Rattle.salvage.specs.Salvage.{run}
 use Rattle.salvage.specs.Promise.{walking, Spare}
-use Rattle.salvage.proofs.Walks.{text-some, marked-least, block-small, desc-good, count-few, rows-within, records-spare, records-first}
-use Rattle.salvage.proofs.Walks.{record-end, end_fits, rows-after, key-lent, spare-one, record-spare, record-desc, record-turn, records-end}
 use Rattle.salvage.proofs.walk.take_records.Given as goal
 
 abbrev pub invariant-loop-i : goal.invariant-loop-i

@@ -1,6 +1,5 @@
 -- `salvages::said::print_words` is safe and ends: the index stays within the words.
 use Prim.Native.Nat.{◌≤◌, ◌-◌}
-use native.Mathlib.Omega.{arith}
 use lib.ListN.{length}
 use Rattle.salvages.proofs.said.print_words.Given as goal
 

@@ -1,6 +1,5 @@
 -- `searchfile::Session::close` meets its contract: each return is one way through CLOSE.
 use Rattle.std.proofs.lemmas.Bool.{not_from_true}
-use borrow.Author.Rules.{rules}
 use Rattle.face.proofs.Refusing.{sized-fitting}
 use Rattle.searchfile.proofs.Closing.{close-sizes, close-shut, close-bad, close-done, flush-least, flush-most}
 use Rattle.searchfile.proofs.Session.close.Goals as goal

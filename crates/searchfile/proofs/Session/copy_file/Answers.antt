@@ -1,6 +1,5 @@
 -- `searchfile::Session::copy_file` meets its contract: what the copying function left, told as a session's call.
 use Rattle.searchfile.proofs.CopyTold.{copy_told}
-use borrow.Author.Rules.{rules}
 use Rattle.searchfile.proofs.Session.copy_file.Goals as goal
 
 pub returns : goal.returns

@@ -1,5 +1,4 @@
 -- `searchfile::Session::create` meets its contract: each return is one way through CREATE.
-use borrow.Author.Rules.{rules}
 use Rattle.drum.proofs.Good.{was-good}
 use Rattle.searchfile.proofs.Creating.{create-params, create-size, create-whole, create-done}
 use Rattle.searchfile.proofs.Session.create.Goals as goal

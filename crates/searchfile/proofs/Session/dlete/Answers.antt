@@ -1,6 +1,4 @@
 -- `searchfile::Session::dlete` meets its contract: the refusals in the table's order, then the steps of the call.
-use native.Mathlib.Omega.{arith}
-use borrow.Author.Rules.{rules}
 use Rattle.face.proofs.Lent.{key-in-record, keyed-call}
 use Rattle.searchfile.proofs.Answers.{call-refused, call-told}
 use Rattle.face.proofs.Chains.{dlete-chain}

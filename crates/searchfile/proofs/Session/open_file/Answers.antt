@@ -1,5 +1,4 @@
 -- `searchfile::Session::open_file` meets its contract: each return is one way through OPEN.
-use borrow.Author.Rules.{rules}
 use Rattle.searchfile.proofs.Opening.{open-sizes, open-marks, open_twice, open-bad, open_done_lem, inspect-fit}
 use Rattle.searchfile.proofs.Session.open_file.Goals as goal
 

@@ -1,5 +1,4 @@
 -- `searchfile::Session::shows` meets its contract: each return is the first test that fails, or the last.
-use borrow.Author.Rules.{rules}
 use Rattle.searchfile.proofs.Viewing.{shows-closed, shows-sizes, shows-below, shows-last}
 use Rattle.searchfile.proofs.Session.shows.Goals as goal
 

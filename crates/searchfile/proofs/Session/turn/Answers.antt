@@ -1,6 +1,5 @@
 -- `searchfile::Session::turn` meets its contract: what the turning function left, told as a session's call.
 use Rattle.searchfile.proofs.TurnTold.{turn-told}
-use borrow.Author.Rules.{rules}
 use Rattle.searchfile.proofs.Session.turn.Goals as goal
 
 pub returns : goal.returns

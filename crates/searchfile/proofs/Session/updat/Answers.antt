@@ -1,7 +1,5 @@
 -- `searchfile::Session::updat` meets its contract: the refusals in the table's order, then the steps of the call.
-use native.Mathlib.Omega.{arith}
-use borrow.Author.Rules.{rules}
-use Rattle.face.proofs.Lent.{key-in-record, keyed-call}
+use Rattle.face.proofs.Lent.{keyed-call}
 use Rattle.searchfile.proofs.Answers.{call-refused, call-told}
 use Rattle.face.proofs.Chains.{updat-chain}
 use Rattle.searchfile.proofs.Session.updat.Goals as goal

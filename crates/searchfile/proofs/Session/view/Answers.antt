@@ -1,5 +1,4 @@
 -- `searchfile::Session::view` meets its contract: an empty part, or the block's part where it is shown.
-use borrow.Author.Rules.{rules}
 use Rattle.searchfile.proofs.Viewing.{view-none, shown-fitting, shown-least, shown-most, view-shown}
 use Rattle.searchfile.proofs.Session.view.Goals as goal
 

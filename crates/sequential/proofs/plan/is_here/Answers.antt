@@ -1,7 +1,6 @@
 use native.Mathlib.Omega.{arith}
 use Rattle.sequential.proofs.Good.{block-fine, block-leaders}
 use Rattle.sequential.proofs.Spots.{stays-first, stays-past, stays-inside, stays-read, stays-word, stays-fixed}
-use borrow.Author.Rules.{rules}
 use Rattle.sequential.proofs.plan.is_here.Goals as goal
 
 pub has_room-requires : goal.has_room-requires

@@ -1,7 +1,6 @@
 use native.Mathlib.Omega.{arith}
 use Rattle.sequential.proofs.Good.{fine-leaders}
 use Rattle.sequential.proofs.Spots.{right-none, right-most}
-use borrow.Author.Rules.{rules}
 use Rattle.sequential.proofs.plan.is_right.Goals as goal
 
 pub returns-then-n-lt1 : goal.returns-then-n-lt1

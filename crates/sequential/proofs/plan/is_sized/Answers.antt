@@ -1,7 +1,6 @@
 use Rattle.std.proofs.lemmas.Bool.{not_from_true}
 use native.Mathlib.Omega.{arith}
 use Rattle.sequential.proofs.Spots.{sized-bad, sized-least, sized-leaders, sized-part, sized-fixed, sized-variable}
-use borrow.Author.Rules.{rules}
 use Rattle.sequential.proofs.plan.is_sized.Goals as goal
 
 pub returns-then-not-is_good : goal.returns-then-not-is_good

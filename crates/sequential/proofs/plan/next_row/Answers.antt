@@ -1,7 +1,6 @@
 use native.Mathlib.Omega.{arith}
 use Rattle.sequential.proofs.Good.{reading_small}
 use Rattle.sequential.proofs.Spots.{next_here, next-same, next-area, next-moved}
-use borrow.Author.Rules.{rules}
 use Rattle.sequential.proofs.plan.next_row.Goals as goal
 
 pub row_from-requires : goal.row_from-requires

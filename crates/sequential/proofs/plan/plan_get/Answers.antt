@@ -1,7 +1,6 @@
 use Rattle.std.proofs.lemmas.Bool.{not_from_true}
 use native.Mathlib.Omega.{arith}
 use Rattle.sequential.proofs.Spots.{get-size, get-fine, get-wrong, get_none, get-past, get-reading, get-least, get_from}
-use borrow.Author.Rules.{rules}
 use Rattle.sequential.proofs.plan.plan_get.Goals as goal
 
 pub returns-then-not-is_sized : goal.returns-then-not-is_sized

@@ -1,7 +1,6 @@
 use Rattle.std.proofs.lemmas.Bool.{not_from_true}
 use native.Mathlib.Omega.{arith}
 use Rattle.sequential.proofs.Spots.{put-size, get-leaders, put-empty, put-none, put-large, put-past, put-block, put_full, put-found}
-use borrow.Author.Rules.{rules}
 use Rattle.sequential.proofs.plan.plan_put.Goals as goal
 
 pub returns-then-not-is_sized : goal.returns-then-not-is_sized

@@ -1,5 +1,4 @@
 use Rattle.sequential.proofs.Spots.{size-fixed, size-variable}
-use borrow.Author.Rules.{rules}
 use Rattle.sequential.proofs.plan.size_at.Goals as goal
 
 pub returns-in-Variable : goal.returns-in-Variable

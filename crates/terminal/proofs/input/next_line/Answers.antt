@@ -1,8 +1,4 @@
 -- Between turns the line's place is ready; the measure is the turns left.
-use mathlib.Core.Path.{◌≡◌}
-use native.Mathlib.Omega.{arith}
-use borrow.Author.Rules.{rules}
-use Rattle.terminal.specs.Places.{Ready}
 use Rattle.terminal.proofs.Takes.{same-ready}
 use Rattle.terminal.proofs.input.next_line.Goals as goal
 

@@ -1,9 +1,5 @@
 -- Between turns the line's place is ready; the measure is the turns left.
-use mathlib.Core.Path.{◌≡◌}
-use native.Mathlib.Omega.{arith}
-use borrow.Author.Rules.{rules}
 use Rattle.terminal.specs.Places.{Ready}
-use Rattle.terminal.proofs.Takes.{same-ready}
 use Rattle.terminal.proofs.input.next_line.Given as goal
 
 abbrev pub invariant-loop-turns : goal.invariant-loop-turns

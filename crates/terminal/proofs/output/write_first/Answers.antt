@@ -1,7 +1,6 @@
 -- The part that is written is as long as it says.
 use native.Mathlib.Omega.{arith}
 use lib.ListN.{length-take}
-use borrow.Author.Rules.{rules}
 use Rattle.terminal.proofs.output.write_first.Goals as goal
 
 pub slice_bounds-write_all-end : goal.slice_bounds-write_all-end

@@ -1,7 +1,4 @@
 -- Between turns the place is ready; the measure is the turns left.
-use mathlib.Core.Path.{◌≡◌}
-use native.Mathlib.Omega.{arith}
-use borrow.Author.Rules.{rules}
 use Rattle.terminal.specs.Places.{Ready}
 use Rattle.terminal.proofs.refused.refuse_lines.Given as goal
 

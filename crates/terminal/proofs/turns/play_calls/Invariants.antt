@@ -1,9 +1,5 @@
 -- Between turns the place is ready and the parameters are those of a session that is played; the measure is the turns left.
-use mathlib.Core.Path.{◌≡◌}
-use native.Mathlib.Omega.{arith}
-use borrow.Author.Rules.{rules}
 use Rattle.terminal.specs.Places.{Ready, Playable}
-use Rattle.terminal.proofs.Rooms.{room-left}
 use Rattle.terminal.proofs.turns.play_calls.Given as goal
 
 abbrev pub invariant-loop-turns : goal.invariant-loop-turns

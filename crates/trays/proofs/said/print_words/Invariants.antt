@@ -1,6 +1,5 @@
 -- `trays::said::print_words` is safe and ends: the index stays within the words.
 use Prim.Native.Nat.{◌≤◌, ◌-◌}
-use native.Mathlib.Omega.{arith}
 use lib.ListN.{length}
 use Rattle.trays.proofs.said.print_words.Given as goal
 

@@ -1,6 +1,5 @@
 -- `turn::blocks::turn_block` meets its contract: the mark says which text.
 use Rattle.turn.proofs.Changes.{index-turns, detail-turns, link-turns, none-turns}
-use borrow.Author.Rules.{rules}
 use Rattle.turn.proofs.blocks.turn_block.Goals as goal
 
 pub returns-then-mark-eq-INDEX : goal.returns-then-mark-eq-INDEX

@@ -1,11 +1,7 @@
 -- What is left to turn gives the whole, and the blocks not yet turned are as they were.
-use mathlib.Core.Path.{◌≡◌, refl}
-use Prim.Native.Nat.{◌+◌, ◌-◌, ◌≤◌}
+use mathlib.Core.Path.{refl}
+use Prim.Native.Nat.{◌-◌}
 use native.Mathlib.Omega.{arith}
-use lib.ListN.{length, drop}
-use Rattle.drum.specs.Params.{start}
-use Rattle.layout.proofs.TurnedSteps.{left_to_turn}
-use Rattle.turn.specs.Fits.{blocks_turned}
 use Rattle.turn.proofs.Steps.{first-turn, turn-ready, turn-next, rest-next, turn_end}
 use Rattle.turn.proofs.blocks.turn_blocks.Goals as goal
 

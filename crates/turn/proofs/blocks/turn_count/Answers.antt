@@ -1,7 +1,5 @@
 -- `turn::blocks::turn_count` meets its contract: word 0 of the block is set.
-use native.Mathlib.Omega.{arith}
 use Rattle.turn.proofs.Changes.{start-lies, count_small, count_fits, count-turned}
-use borrow.Author.Rules.{rules}
 use Rattle.turn.proofs.blocks.turn_count.Goals as goal
 
 pub word_at-requires : goal.word_at-requires

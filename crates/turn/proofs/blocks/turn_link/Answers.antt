@@ -1,7 +1,5 @@
 -- `turn::blocks::turn_link` meets its contract: the block is written as a free one of the other form.
-use native.Mathlib.Omega.{arith}
 use Rattle.turn.proofs.Changes.{link-lies, link_fits, link-small, link-turned, other-has}
-use borrow.Author.Rules.{rules}
 use Rattle.turn.proofs.blocks.turn_link.Goals as goal
 
 pub overflow_add-at : goal.overflow_add-at

@@ -1,9 +1,8 @@
 -- The blocks named so far are marked.
-use mathlib.Core.Path.{◌≡◌, refl}
-use Prim.Native.Nat.{◌-◌, ◌≤◌}
+use mathlib.Core.Path.{refl}
+use Prim.Native.Nat.{◌-◌}
 use native.Mathlib.Omega.{arith}
-use lib.ListN.{length, length-set}
-use Rattle.layout.specs.Turned.{index_marked}
+use lib.ListN.{length-set}
 use Rattle.turn.proofs.Marks.{some_words, turn-fit, turn-few, mark-none, names-some, names-within, mark-next, mark-all}
 use Rattle.turn.proofs.marking.mark_indexes.Goals as goal
 

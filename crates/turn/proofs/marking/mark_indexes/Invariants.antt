@@ -1,10 +1,8 @@
 -- The blocks named so far are marked.
-use mathlib.Core.Path.{◌≡◌, refl}
+use mathlib.Core.Path.{◌≡◌}
 use Prim.Native.Nat.{◌-◌, ◌≤◌}
-use native.Mathlib.Omega.{arith}
-use lib.ListN.{length, length-set}
+use lib.ListN.{length}
 use Rattle.layout.specs.Turned.{index_marked}
-use Rattle.turn.proofs.Marks.{some_words, turn-fit, turn-few, mark-none, names-some, names-within, mark-next, mark-all}
 use Rattle.turn.proofs.marking.mark_indexes.Given as goal
 
 abbrev pub invariant-loop-i : goal.invariant-loop-i

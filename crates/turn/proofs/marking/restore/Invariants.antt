@@ -1,12 +1,9 @@
 -- The marks given back, and what the others give, are all.
-use mathlib.Core.Path.{◌≡◌, refl}
+use mathlib.Core.Path.{◌≡◌}
 use mathlib.Core.List.{◌++◌}
 use Prim.Native.Nat.{◌-◌, ◌≤◌}
-use native.Mathlib.Omega.{arith}
-use lib.ListN.{length, take, drop, length-set}
+use lib.ListN.{length, take, drop}
 use Rattle.layout.specs.Turned.{index_unmarked}
-use Rattle.turn.proofs.Marks.{unmark-none, unmark-next, unmark-all}
-use borrow.Author.Rules.{rules}
 use Rattle.turn.proofs.marking.restore.Given as goal
 
 abbrev pub invariant-loop-i : goal.invariant-loop-i

@@ -1,6 +1,5 @@
 -- The first, and then the second.
 use Rattle.xtend.proofs.Behind.{first-near, second-too}
-use borrow.Author.Rules.{rules}
 use Rattle.xtend.proofs.before.are_apart.Goals as goal
 
 pub returns-then-not-is_apart : goal.returns-then-not-is_apart

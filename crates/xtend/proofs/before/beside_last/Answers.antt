@@ -1,6 +1,5 @@
 -- One block or two are tested, or none.
 use Rattle.xtend.proofs.Behind.{beside-bad, beside-stop, beside-room, beside-clash, beside-split, beside-clashes, beside-both}
-use borrow.Author.Rules.{rules}
 use Rattle.xtend.proofs.before.beside_last.Goals as goal
 
 pub returns-then-not-is_apart : goal.returns-then-not-is_apart

@@ -2,7 +2,6 @@
 use native.Mathlib.Omega.{arith}
 use Rattle.xtend.proofs.Rows.{records-some, last-key, last-times, last-start}
 use Rattle.xtend.proofs.Behind.{below-told}
-use borrow.Author.Rules.{rules}
 use Rattle.xtend.proofs.before.ends_below.Goals as goal
 
 pub records_in-n-requires : goal.records_in-n-requires

@@ -1,6 +1,5 @@
 -- The index block, and where the last block was brought that block too.
 use Rattle.xtend.proofs.Behind.{apart-index, apart-here, apart_by}
-use borrow.Author.Rules.{rules}
 use Rattle.xtend.proofs.before.is_apart.Goals as goal
 
 pub returns-then-b-w : goal.returns-then-b-w

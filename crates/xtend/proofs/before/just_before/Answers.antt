@@ -1,7 +1,6 @@
 -- In the same index block, or in the section before.
 use Rattle.xtend.proofs.Decided.{index-some}
 use Rattle.xtend.proofs.Behind.{entry_other, entry-same, section-other, section-same, entry_next, section-next}
-use borrow.Author.Rules.{rules}
 use Rattle.xtend.proofs.before.just_before.Goals as goal
 
 pub returns-then-q-w : goal.returns-then-q-w

@@ -1,6 +1,5 @@
 -- The path, what it shows, and else the plan of NSERT.
 use Rattle.xtend.proofs.Behind.{look-lost, look-path, look_stop, look-insert}
-use borrow.Author.Rules.{rules}
 use Rattle.xtend.proofs.before.look_deed.Goals as goal
 
 pub returns-in_default : goal.returns-in_default

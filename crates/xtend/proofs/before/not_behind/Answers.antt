@@ -1,7 +1,6 @@
 -- The key found, another bound, and the last key, in this order.
 use Rattle.nsert.proofs.Planning.{text-some, rows_in_lem, key-narrow, key_in_lem}
 use Rattle.xtend.proofs.Behind.{came-records, behind-found, behind-other, behind-last}
-use borrow.Author.Rules.{rules}
 use Rattle.xtend.proofs.before.not_behind.Goals as goal
 
 pub records_in-n-requires : goal.records_in-n-requires

@@ -1,6 +1,5 @@
 -- A small number is added.
 use Rattle.xtend.proofs.Led.{lead-fits, led-told}
-use borrow.Author.Rules.{rules}
 use Rattle.xtend.proofs.deeds.count_lead.Goals as goal
 
 pub overflow_add-result : goal.overflow_add-result

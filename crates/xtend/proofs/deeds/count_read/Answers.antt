@@ -1,6 +1,5 @@
 -- One read besides, or none.
 use Rattle.xtend.proofs.Stored.{read_none, read_one}
-use borrow.Author.Rules.{rules}
 use Rattle.xtend.proofs.deeds.count_read.Goals as goal
 
 pub returns-then-x-eq0 : goal.returns-then-x-eq0

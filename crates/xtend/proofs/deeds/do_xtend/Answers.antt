@@ -4,7 +4,6 @@ use Rattle.rules.proofs.Before.{told-few}
 use Rattle.xtend.proofs.Stored.{stop-few, room-few}
 use Rattle.xtend.proofs.Ended.{stop-fits, room_fits, new-fits, both-fits, before-fits, new-block, both-block}
 use Rattle.xtend.proofs.Ended.{told-bad, told-stop, told-room, told-new, told-both, told-before}
-use borrow.Author.Rules.{rules}
 use Rattle.xtend.proofs.deeds.do_xtend.Goals as goal
 
 pub stop-requires : goal.stop-requires

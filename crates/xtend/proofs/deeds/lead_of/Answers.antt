@@ -1,6 +1,5 @@
 -- One for each way.
 use Rattle.xtend.proofs.Led.{lead-here, lead-by}
-use borrow.Author.Rules.{rules}
 use Rattle.xtend.proofs.deeds.lead_of.Goals as goal
 
 pub returns-in-Here : goal.returns-in-Here

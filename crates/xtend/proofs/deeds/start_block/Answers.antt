@@ -1,6 +1,5 @@
 -- The file made ready, and then the two blocks written.
 use Rattle.xtend.proofs.Started.{end-ready, started-told}
-use borrow.Author.Rules.{rules}
 use Rattle.xtend.proofs.deeds.start_block.Goals as goal
 
 pub swap_end-requires : goal.swap_end-requires

@@ -1,7 +1,5 @@
 -- The block is reached, and the record put in before its last row.
-use native.Mathlib.Omega.{arith}
 use Rattle.xtend.proofs.Stored.{text-some, end-least, insert-room, insert-place, insert-most, stored-told, detail-base, record-given}
-use borrow.Author.Rules.{rules}
 use Rattle.xtend.proofs.deeds.store_last.Goals as goal
 
 pub records_in-n-requires : goal.records_in-n-requires

@@ -3,7 +3,6 @@ use native.Mathlib.Omega.{arith}
 use Rattle.drum.proofs.Forms.{detail-shaped}
 use Rattle.xtend.proofs.Rows.{records-some, last_within, last-times, last-start, last_end, last-bytes, last-small, last-place}
 use Rattle.xtend.proofs.Started.{swapped-by}
-use borrow.Author.Rules.{rules}
 use Rattle.xtend.proofs.deeds.swap_end.Goals as goal
 
 pub records_in-i-requires : goal.records_in-i-requires

@@ -1,7 +1,6 @@
 -- The index block and the master have their current words when they are changed, and the writes are those of the list.
 use native.Mathlib.Omega.{arith}
 use Rattle.xtend.proofs.Entered.{way-few, both-five, section-ready, both_told}
-use borrow.Author.Rules.{rules}
 use Rattle.xtend.proofs.deeds.write_both.Goals as goal
 
 pub start_section-requires : goal.start_section-requires

@@ -1,7 +1,6 @@
 -- The index block has its current text when it is extended, and the writes are those of the list.
 use native.Mathlib.Omega.{arith}
 use Rattle.xtend.proofs.Entered.{way-few, new-four, started-index, started-room, new_told}
-use borrow.Author.Rules.{rules}
 use Rattle.xtend.proofs.deeds.write_new.Goals as goal
 
 pub extend_in-requires : goal.extend_in-requires

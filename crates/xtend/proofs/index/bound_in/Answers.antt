@@ -1,6 +1,5 @@
 -- The last row of the index block, where it lies, takes the key.
 use Rattle.xtend.proofs.Sections.{bound-place, bound-key, bound-told}
-use borrow.Author.Rules.{rules}
 use Rattle.xtend.proofs.index.bound_in.Goals as goal
 
 pub set_key_in-requires : goal.set_key_in-requires

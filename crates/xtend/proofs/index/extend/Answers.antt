@@ -1,7 +1,6 @@
 -- The count stays while the bound changes, so the entry goes behind the last row.
 use native.Mathlib.Omega.{arith}
 use Rattle.xtend.proofs.Entries.{key-most, stride_most, bounded-room, bounded-most, bounded-place, extended-by}
-use borrow.Author.Rules.{rules}
 use Rattle.xtend.proofs.index.extend.Goals as goal
 
 pub ones_entry-entry-requires : goal.ones_entry-entry-requires

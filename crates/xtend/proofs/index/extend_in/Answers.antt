@@ -1,7 +1,6 @@
 -- The count stays while the bound changes, so the entry goes behind the last row.
 use native.Mathlib.Omega.{arith}
 use Rattle.xtend.proofs.Sections.{key-most, number-most, entry-most, bound-takes, extended-told}
-use borrow.Author.Rules.{rules}
 use Rattle.xtend.proofs.index.extend_in.Goals as goal
 
 pub ones_entry-entry-requires : goal.ones_entry-entry-requires

@@ -1,7 +1,6 @@
 -- The last row's first words are the key.
 use native.Mathlib.Omega.{arith}
 use Rattle.xtend.proofs.Entries.{last_within, bounded-by}
-use borrow.Author.Rules.{rules}
 use Rattle.xtend.proofs.index.set_bound.Goals as goal
 
 pub replace_row-requires : goal.replace_row-requires

@@ -2,7 +2,6 @@
 use native.Mathlib.Omega.{arith}
 use Rattle.drum.proofs.Forms.{index-shaped}
 use Rattle.xtend.proofs.Sections.{key-few, entry-small, number_small, indexed-by}
-use borrow.Author.Rules.{rules}
 use Rattle.xtend.proofs.index.start_index.Goals as goal
 
 pub ones_entry-entry-requires : goal.ones_entry-entry-requires

@@ -1,6 +1,5 @@
 -- The master, whose sections the blocks leave as they were.
 use Rattle.xtend.proofs.Sections.{section-room, sectioned-by}
-use borrow.Author.Rules.{rules}
 use Rattle.xtend.proofs.index.start_section.Goals as goal
 
 pub extend-requires : goal.extend-requires

@@ -1,6 +1,5 @@
 -- The first word of that text.
 use Rattle.xtend.proofs.Ways.{at_some, count-told}
-use borrow.Author.Rules.{rules}
 use Rattle.xtend.proofs.last.count_at.Goals as goal
 
 pub records_in-requires : goal.records_in-requires

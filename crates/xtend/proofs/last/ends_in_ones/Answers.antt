@@ -1,7 +1,6 @@
 -- The words of the last record's key are all 262143.
 use native.Mathlib.Omega.{arith}
 use Rattle.xtend.proofs.Rows.{records-some, last-key, last-times, last-start, ends-told}
-use borrow.Author.Rules.{rules}
 use Rattle.xtend.proofs.last.ends_in_ones.Goals as goal
 
 pub records_in-n-requires : goal.records_in-n-requires

@@ -1,7 +1,6 @@
 -- One comparison, with the key of the record before the end record.
 use native.Mathlib.Omega.{arith}
 use Rattle.xtend.proofs.Rows.{records-some, before-key, before-times, before-start, above-told}
-use borrow.Author.Rules.{rules}
 use Rattle.xtend.proofs.last.is_above.Goals as goal
 
 pub records_in-n-requires : goal.records_in-n-requires

@@ -1,6 +1,5 @@
 -- The path by the last entries leads to the buffered block, or is bad.
 use Rattle.xtend.proofs.Ways.{here-other, here-lost, here-is}
-use borrow.Author.Rules.{rules}
 use Rattle.xtend.proofs.last.last_here.Goals as goal
 
 pub returns-then-w-at : goal.returns-then-w-at

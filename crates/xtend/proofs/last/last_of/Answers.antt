@@ -1,6 +1,5 @@
 -- A block that was brought came by its path.
 use Rattle.xtend.proofs.Ways.{of-here, of-by}
-use borrow.Author.Rules.{rules}
 use Rattle.xtend.proofs.last.last_of.Goals as goal
 
 pub returns-in-Here : goal.returns-in-Here

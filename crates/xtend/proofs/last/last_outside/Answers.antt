@@ -1,6 +1,5 @@
 -- The path, the key of the last record in its current text, and the test of the buffer's block.
 use Rattle.xtend.proofs.Ways.{route-block, route-records, outside-other, outside-held, outside-lost, outside-by}
-use borrow.Author.Rules.{rules}
 use Rattle.xtend.proofs.last.last_outside.Goals as goal
 
 pub text_of-t-requires : goal.text_of-t-requires

@@ -2,7 +2,6 @@
 use native.Mathlib.Omega.{arith}
 use Rattle.xtend.proofs.Rows.{buffer-long}
 use Rattle.xtend.proofs.Ways.{held-records, way-here, way-bad, way-none, way-other}
-use borrow.Author.Rules.{rules}
 use Rattle.xtend.proofs.last.last_way.Goals as goal
 
 pub on_buffer-held-requires : goal.on_buffer-held-requires

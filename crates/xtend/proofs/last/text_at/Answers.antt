@@ -1,6 +1,5 @@
 -- The buffer, or the current text of the path's block.
 use Rattle.xtend.proofs.Ways.{at_block, text-here, text-by}
-use borrow.Author.Rules.{rules}
 use Rattle.xtend.proofs.last.text_at.Goals as goal
 
 pub text_of-requires : goal.text_of-requires

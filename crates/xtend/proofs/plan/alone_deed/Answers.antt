@@ -1,6 +1,5 @@
 -- The path, and the bound before its block.
 use Rattle.xtend.proofs.Decided.{last-path, alone-look, alone-lost, alone-room}
-use borrow.Author.Rules.{rules}
 use Rattle.xtend.proofs.plan.alone_deed.Goals as goal
 
 pub returns-in_default : goal.returns-in_default

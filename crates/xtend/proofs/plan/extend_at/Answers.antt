@@ -1,6 +1,5 @@
 -- The tests of the last block's count and of its highest ordinary key, in the order of the definition.
 use Rattle.xtend.proofs.Decided.{more-records, extend-alone, extend-stop, extend-room, extend-new}
-use borrow.Author.Rules.{rules}
 use Rattle.xtend.proofs.plan.extend_at.Goals as goal
 
 pub returns-then-n-eq1 : goal.returns-then-n-eq1

@@ -2,7 +2,6 @@
 use native.Mathlib.Omega.{arith}
 use Rattle.xtend.proofs.Rows.{master-long}
 use Rattle.xtend.proofs.Decided.{count_next, room-bad, room-is}
-use borrow.Author.Rules.{rules}
 use Rattle.xtend.proofs.plan.last_room.Goals as goal
 
 pub word_at-head-requires : goal.word_at-head-requires

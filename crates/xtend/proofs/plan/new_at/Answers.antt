@@ -1,6 +1,5 @@
 -- The index block's count tells which deed it is.
 use Rattle.xtend.proofs.Decided.{index-some, new-start, new-section}
-use borrow.Author.Rules.{rules}
 use Rattle.xtend.proofs.plan.new_at.Goals as goal
 
 pub entries_in-requires : goal.entries_in-requires

@@ -1,6 +1,5 @@
 -- The path to the last block.
 use Rattle.xtend.proofs.Decided.{last-path, new-lost, new-to}
-use borrow.Author.Rules.{rules}
 use Rattle.xtend.proofs.plan.new_deed.Goals as goal
 
 pub returns-in_default : goal.returns-in_default

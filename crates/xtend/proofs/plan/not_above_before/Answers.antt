@@ -2,7 +2,6 @@
 use native.Mathlib.Omega.{arith}
 use Rattle.xtend.proofs.Rows.{section-key, section-times, section-start, entry_key, entry-times, entry-start}
 use Rattle.xtend.proofs.Decided.{before-none, before-section, before-entry}
-use borrow.Author.Rules.{rules}
 use Rattle.xtend.proofs.plan.not_above_before.Goals as goal
 
 pub returns-then-w-eq0-2 : goal.returns-then-w-eq0-2

@@ -1,7 +1,6 @@
 -- The way, and what is done at its end.
 use Rattle.xtend.proofs.Ways.{found-fits}
 use Rattle.xtend.proofs.Decided.{plan-bad, plan-at}
-use borrow.Author.Rules.{rules}
 use Rattle.xtend.proofs.plan.plan_xtend.Goals as goal
 
 pub returns-in_default : goal.returns-in_default

@@ -1,6 +1,5 @@
 -- The two new blocks, if there are two and a section, and the number that goes with them.
 use Rattle.xtend.proofs.Decided.{section-bad, section-none, section-lost, section-is}
-use borrow.Author.Rules.{rules}
 use Rattle.xtend.proofs.plan.section_deed.Goals as goal
 
 pub returns-in_default : goal.returns-in_default

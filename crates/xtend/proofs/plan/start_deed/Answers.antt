@@ -1,6 +1,5 @@
 -- The new block, if there is one, and the number that goes with it.
 use Rattle.xtend.proofs.Decided.{start-bad, start_none, start-lost, start_is}
-use borrow.Author.Rules.{rules}
 use Rattle.xtend.proofs.plan.start_deed.Goals as goal
 
 pub returns-in_default : goal.returns-in_default

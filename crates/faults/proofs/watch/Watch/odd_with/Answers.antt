@@ -1,6 +1,5 @@
 -- `Watch::odd_with` meets its contract.
 use Rattle.faults.proofs.Cases.{odd-kept, odd-digit, odd-here, odd-name, odd-behind}
-use borrow.Author.Rules.{rules}
 use Rattle.faults.proofs.watch.Watch.odd_with.Goals as goal
 
 pub returns-then-self-ne0 : goal.returns-then-self-ne0

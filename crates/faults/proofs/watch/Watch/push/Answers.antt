@@ -1,6 +1,5 @@
 -- `Watch::push` meets its contract.
 use Rattle.faults.proofs.Cases.{seen-blank, seen-letter}
-use borrow.Author.Rules.{rules}
 use Rattle.faults.proofs.watch.Watch.push.Goals as goal
 
 pub returns-then-is_blank : goal.returns-then-is_blank

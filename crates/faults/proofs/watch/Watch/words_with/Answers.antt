@@ -1,6 +1,5 @@
 -- `Watch::words_with` meets its contract.
 use Rattle.faults.proofs.Cases.{words_inside, words_more, words-full}
-use borrow.Author.Rules.{rules}
 use Rattle.faults.proofs.watch.Watch.words_with.Goals as goal
 
 pub returns-then-self : goal.returns-then-self
