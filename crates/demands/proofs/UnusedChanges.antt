@@ -6,7 +6,7 @@ use mathlib.Core.List.{List, []}
 use native.Mathlib.Omega.{arith}
 use lib.Dec.{ltb, eqb}
 use borrow.Author.Tests.{eqb-false}
-use Rattle.numbers.specs.Checked.{Checked, passed, up_to, require}
+use Rattle.numbers.specs.Checked.{Checked, passed, up_to, ◌>>=◌, require, ◌>>◌}
 use Rattle.numbers.proofs.Passed.{Passed, chain, by-passed}
 use Rattle.words.specs.Keys.{key_lt}
 use Rattle.table.specs.Tables.{count, key_at, row_above}

@@ -1,7 +1,7 @@
 -- The refusals that come before a call's own steps, in document 01's order, over what the code tests.
 use Rattle.std.specs.Prelude.{ℕ, zero, suc, Bool, true, not, ◌&&◌, List, eqb, length}
 use Rattle.numbers.specs.Numbers.{wrong_size, is_closed, wrong_key}
-use Rattle.numbers.specs.Checked.{Checked, passed, refused, require}
+use Rattle.numbers.specs.Checked.{Checked, passed, refused, ◌>>=◌, ◌>>◌, require}
 use Rattle.words.specs.Words.{part, all_words}
 use Rattle.words.specs.Keys.{is_ones}
 use Rattle.drum.specs.declared.Description.{Description}

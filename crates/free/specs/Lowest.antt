@@ -1,6 +1,6 @@
 -- The second half of `granted`: the chain is empty.
 use Rattle.std.specs.Prelude.{ℕ, ◌+◌, cond, ltb}
-use Rattle.numbers.specs.Checked.{Checked, passed, within}
+use Rattle.numbers.specs.Checked.{Checked, passed, ◌>>=◌, ◌>>◌, within}
 use Rattle.rules.specs.declared.Taken.{Taken}
 
 -- the lowest block never used, word 2, of n blocks

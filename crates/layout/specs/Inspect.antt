@@ -3,7 +3,7 @@
 -- (word 0 is no key's place). The marks are all that the walk carries.
 use Rattle.std.specs.Prelude.{ℕ, zero, suc, ◌+◌, ◌*◌, ◌-◌, List, Bool, true, false, not, ◌&&◌, ◌||◌, eqb, length, get_or, take, drop, set}
 use Rattle.numbers.specs.Numbers.{bad_file}
-use Rattle.numbers.specs.Checked.{Checked, passed, refused, require, within}
+use Rattle.numbers.specs.Checked.{Checked, passed, refused, ◌>>=◌, ◌>>◌, require, within}
 use Rattle.words.specs.Words.{part, zeros, all_are, none_is, all_words}
 use Rattle.words.specs.Keys.{key_lt, key_le, same_key, is_ones}
 use Rattle.drum.specs.declared.Description.{Description}

@@ -4,7 +4,7 @@ use Rattle.table.specs.Tables.{count}
 use Rattle.drum.specs.declared.Description.{Description}
 use Rattle.drum.specs.Params.{FD, start, index_shape, detail_shape}
 use Rattle.numbers.specs.Numbers.{bad_file}
-use Rattle.numbers.specs.Checked.{Checked, passed, require}
+use Rattle.numbers.specs.Checked.{Checked, passed, ◌>>=◌, ◌>>◌, require}
 use Rattle.drum.specs.Blocks.{chain_head, block_at}
 use Rattle.layout.specs.Inspect.{named, layout_marks}
 

@@ -1,7 +1,7 @@
 -- Document 02, "The reading set": a profile with SEEK, ADV and VIEW only, CONTROL 1. Its calls are the rules' own on a session whose flag is off.
 use Rattle.std.specs.Prelude.{ℕ, Bool, false, cond, ◌&&◌, List, [], eqb, length}
 use Rattle.numbers.specs.Numbers.{wrong_size, reading_only}
-use Rattle.numbers.specs.Checked.{Checked, passed, refused, require}
+use Rattle.numbers.specs.Checked.{Checked, passed, refused, ◌>>=◌, ◌>>◌, require}
 use Rattle.drum.specs.declared.Description.{Description}
 use Rattle.drum.specs.Parts.{Borrowed, Part, part_text}
 use Rattle.rules.specs.State.{Session, State, Outcome, desc, lent, unchanged, settle}

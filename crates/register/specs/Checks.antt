@@ -1,7 +1,7 @@
 -- What the code of the register tests before it calls the routine, what its moves may rely on, and the form of their promises.
 use Rattle.std.specs.Prelude.{ℕ, ◌+◌, ◌≤◌, ◌<◌, ◌≡◌, Bool, List, eqb, ltb, length}
 use Rattle.numbers.specs.Numbers.{wrong_size, wrong_key}
-use Rattle.numbers.specs.Checked.{Checked, require}
+use Rattle.numbers.specs.Checked.{Checked, ◌>>=◌, ◌>>◌, require}
 use Rattle.words.specs.Words.{all_words}
 use Rattle.drum.specs.declared.Description.{Description}
 use Rattle.rules.specs.State.{Outcome}

@@ -1,7 +1,7 @@
 -- Document 01, ADV: "seeks the least key above position".
 use Rattle.std.specs.Prelude.{ℕ, ◌+◌, ◌-◌, Bool, true, false, cond, not, ◌&&◌, List, [], ◌∷◌, ltb, eqb}
 use Rattle.numbers.specs.Numbers.{done, at_end, bad_file}
-use Rattle.numbers.specs.Checked.{Checked, passed, refused, require}
+use Rattle.numbers.specs.Checked.{Checked, passed, refused, ◌>>=◌, ◌>>◌, require}
 use Rattle.words.specs.Keys.{key_lt, key_le, is_ones}
 use Rattle.table.specs.Tables.{count, key_at, row_above}
 use Rattle.drum.specs.Params.{detail_shape, index_shape}

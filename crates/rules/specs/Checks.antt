@@ -1,7 +1,7 @@
 -- The refusals before a call's own steps. Document 01, "Numbers returned (octal)", in its order.
 use Rattle.std.specs.Prelude.{ℕ, Bool, not, ◌&&◌, eqb, length}
 use Rattle.numbers.specs.Numbers.{wrong_size, is_closed, wrong_key}
-use Rattle.numbers.specs.Checked.{Checked, require}
+use Rattle.numbers.specs.Checked.{Checked, ◌>>=◌, ◌>>◌, require}
 use Rattle.words.specs.Words.{part, all_words}
 use Rattle.words.specs.Keys.{is_ones}
 use Rattle.drum.specs.Params.{sized}

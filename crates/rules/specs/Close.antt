@@ -1,7 +1,7 @@
 -- Document 01: CLOSE, and VIEW ("The session").
 use Rattle.std.specs.Prelude.{ℕ, Bool, false, cond, ◌&&◌, List, [], length}
 use Rattle.numbers.specs.Numbers.{done, bad_file}
-use Rattle.numbers.specs.Checked.{Checked, passed, refused, require, between}
+use Rattle.numbers.specs.Checked.{Checked, passed, refused, ◌>>=◌, ◌>>◌, require, between}
 use Rattle.drum.specs.Params.{sized}
 use Rattle.drum.specs.Blocks.{written, text_of}
 use Rattle.rules.specs.State.{State, Outcome, desc, lent, texts, at_rest, unchanged}

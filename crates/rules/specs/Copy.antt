@@ -1,7 +1,7 @@
 -- Document 02, "More sections": the call that copies a file into a second one with another CONTROL. What the words of the copy are is in layout's Copied.
 use Rattle.std.specs.Prelude.{ℕ, Bool, not, List, [], ◌∷◌, leb, eqb, length}
 use Rattle.numbers.specs.Numbers.{done, wrong_size, already_open}
-use Rattle.numbers.specs.Checked.{Checked, passed, refused, require}
+use Rattle.numbers.specs.Checked.{Checked, passed, refused, ◌>>◌, require}
 use Rattle.words.specs.Words.{zeros}
 use Rattle.drum.specs.declared.Description.{Description}
 use Rattle.drum.specs.Params.{every, good_params, file_size}

@@ -1,7 +1,7 @@
 -- Document 01, DLETE: "found: remove, flag on. Left empty: .."
 use Rattle.std.specs.Prelude.{ℕ, ◌+◌, ◌-◌, Bool, true, false, cond, List, [], ◌∷◌, ◌++◌, eqb, set}
 use Rattle.numbers.specs.Numbers.{done, not_found, bad_file}
-use Rattle.numbers.specs.Checked.{Checked, passed, refused, require, up_to}
+use Rattle.numbers.specs.Checked.{Checked, passed, refused, ◌>>=◌, ◌>>◌, require, up_to}
 use Rattle.words.specs.Words.{zeros}
 use Rattle.table.specs.Tables.{count, key_at, removed, replaced}
 use Rattle.drum.specs.declared.Description.{Description}

@@ -1,7 +1,7 @@
 -- Document 01: "New blocks come from the chain's head first, then word 2; detail before index." And the test of 070001.
 use Rattle.std.specs.Prelude.{ℕ, ◌+◌, Bool, false, cond, not, ◌&&◌, ◌||◌, List, leb, ltb, eqb, set}
 use Rattle.numbers.specs.Numbers.{none_free, bad_file, done}
-use Rattle.numbers.specs.Checked.{Checked, passed, require, within, up_to}
+use Rattle.numbers.specs.Checked.{Checked, passed, ◌>>=◌, ◌>>◌, require, within, up_to}
 use Rattle.drum.specs.declared.Description.{Description}
 use Rattle.drum.specs.Params.{D}
 use Rattle.drum.specs.Blocks.{Texts, text_of, link_in, is_free, sections, chain_head, lowest_unused}

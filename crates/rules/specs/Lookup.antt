@@ -1,7 +1,7 @@
 -- Document 01, "Lookup": what it comes to, and what it moves.
 use Rattle.std.specs.Prelude.{ℕ, Bool, true, false, cond, not, ◌||◌, List, [], ◌∷◌, ◌++◌, ltb, eqb}
 use Rattle.numbers.specs.Numbers.{bad_file}
-use Rattle.numbers.specs.Checked.{Checked, passed, require, within, between}
+use Rattle.numbers.specs.Checked.{Checked, passed, ◌>>=◌, ◌>>◌, require, within, between}
 use Rattle.table.specs.Tables.{count, row_with}
 use Rattle.drum.specs.declared.Description.{Description}
 use Rattle.drum.specs.Params.{D, detail_shape}

@@ -1,7 +1,7 @@
 -- Document 01, NSERT: what it will do, decided from current texts alone, every number checked.
 use Rattle.std.specs.Prelude.{ℕ, ◌+◌, ◌-◌, Bool, cond, List, ltb, eqb}
 use Rattle.numbers.specs.Numbers.{not_found, no_room, bad_file}
-use Rattle.numbers.specs.Checked.{Checked, passed, refused}
+use Rattle.numbers.specs.Checked.{Checked, passed, refused, ◌>>=◌, ◌>>◌}
 use Rattle.table.specs.Tables.{count, row_above}
 use Rattle.table.specs.Splits.{low_count}
 use Rattle.drum.specs.Params.{D, I, detail_shape, index_shape}

@@ -1,7 +1,7 @@
 -- Document 01, NSERT: what it does.
 use Rattle.std.specs.Prelude.{ℕ, Bool, cond, List, [], ◌∷◌, ◌++◌, ltb}
 use Rattle.numbers.specs.Numbers.{bad_file}
-use Rattle.numbers.specs.Checked.{Checked, passed, refused}
+use Rattle.numbers.specs.Checked.{Checked, passed, refused, ◌>>=◌, ◌>>◌}
 use Rattle.table.specs.Tables.{inserted}
 use Rattle.table.specs.Splits.{low_count, low_text, high_text, low_bound, renamed, entered}
 use Rattle.drum.specs.Params.{D, I, master_shape, index_shape, detail_shape}

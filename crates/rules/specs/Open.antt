@@ -1,7 +1,7 @@
 -- Document 01: CREATE and OPEN. What OPEN tests of the file is in layout's Inspect.
 use Rattle.std.specs.Prelude.{ℕ, Bool, true, cond, not, ◌&&◌, List, [], eqb, length}
 use Rattle.numbers.specs.Numbers.{done, wrong_size, already_open}
-use Rattle.numbers.specs.Checked.{Checked, passed, refused, require}
+use Rattle.numbers.specs.Checked.{Checked, passed, refused, ◌>>=◌, ◌>>◌, require}
 use Rattle.words.specs.Words.{zeros}
 use Rattle.drum.specs.declared.Description.{Description}
 use Rattle.drum.specs.Params.{good_params, file_size}

@@ -2,7 +2,7 @@
 -- way"; ADV's first and next block, XTEND's last. Every number on the way is checked, in current texts.
 use Rattle.std.specs.Prelude.{ℕ, ◌-◌, not, List, [], ltb, eqb}
 use Rattle.numbers.specs.Numbers.{bad_file}
-use Rattle.numbers.specs.Checked.{Checked, passed, require, within}
+use Rattle.numbers.specs.Checked.{Checked, passed, ◌>>=◌, ◌>>◌, require, within}
 use Rattle.table.specs.declared.Shape.{Shape}
 use Rattle.table.specs.Tables.{count, row_from, block_in}
 use Rattle.drum.specs.declared.Description.{Description}

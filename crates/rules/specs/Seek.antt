@@ -1,7 +1,7 @@
 -- Document 01: SEEK and UPDAT.
 use Rattle.std.specs.Prelude.{ℕ, Bool, true, List}
 use Rattle.numbers.specs.Numbers.{done, not_found, bad_file}
-use Rattle.numbers.specs.Checked.{Checked, passed, refused}
+use Rattle.numbers.specs.Checked.{Checked, passed, refused, ◌>>=◌, ◌>>◌}
 use Rattle.table.specs.Tables.{row, replaced}
 use Rattle.drum.specs.Params.{detail_shape}
 use Rattle.drum.specs.Blocks.{Texts}

@@ -2,7 +2,7 @@
 -- layout's Turned.
 use Rattle.std.specs.Prelude.{ℕ, Bool, not, List, [], ◌∷◌, eqb, length}
 use Rattle.numbers.specs.Numbers.{done, wrong_size, already_open}
-use Rattle.numbers.specs.Checked.{Checked, passed, refused, require}
+use Rattle.numbers.specs.Checked.{Checked, passed, refused, ◌>>◌, require}
 use Rattle.words.specs.Words.{zeros}
 use Rattle.drum.specs.declared.Description.{Description}
 use Rattle.drum.specs.Params.{every, good_params, file_size}

@@ -2,7 +2,7 @@
 -- checked.
 use Rattle.std.specs.Prelude.{ℕ, ◌+◌, ◌-◌, Bool, true, cond, not, ◌&&◌, ◌||◌, List, ltb, eqb}
 use Rattle.numbers.specs.Numbers.{out_of_sequence, no_room, bad_file}
-use Rattle.numbers.specs.Checked.{Checked, passed, require}
+use Rattle.numbers.specs.Checked.{Checked, passed, ◌>>=◌, ◌>>◌, require}
 use Rattle.words.specs.Keys.{key_lt, is_ones}
 use Rattle.table.specs.Tables.{count, key_at, row_with, row_above}
 use Rattle.drum.specs.declared.Description.{Description}

@@ -1,7 +1,7 @@
 -- Document 02, "Forty inserts at once": "a lent run (a count word, then the records)", here called a tray, and the call that puts its records in by NSERT.
 use Rattle.std.specs.Prelude.{ℕ, zero, suc, ◌+◌, ◌*◌, Bool, cond, ◌&&◌, List, [], ◌∷◌, ◌++◌, ltb, eqb, length, get_or}
 use Rattle.numbers.specs.Numbers.{done, wrong_size, accepted}
-use Rattle.numbers.specs.Checked.{Checked, passed, refused, require}
+use Rattle.numbers.specs.Checked.{Checked, passed, refused, ◌>>◌, require}
 use Rattle.words.specs.Words.{part}
 use Rattle.drum.specs.declared.Description.{Description}
 use Rattle.drum.specs.Blocks.{Transfer}

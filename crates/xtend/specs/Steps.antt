@@ -2,7 +2,7 @@
 -- makes no difference to the file once the index block is written.
 use Rattle.std.specs.Prelude.{ℕ, ◌+◌, ◌-◌, Bool, cond, List, [], ◌∷◌, ◌++◌, eqb, length}
 use Rattle.numbers.specs.Numbers.{bad_file}
-use Rattle.numbers.specs.Checked.{Checked, passed, require}
+use Rattle.numbers.specs.Checked.{Checked, passed, ◌>>=◌, ◌>>◌, require}
 use Rattle.table.specs.Tables.{count, row, inserted, replaced, laid}
 use Rattle.drum.specs.declared.Description.{Description}
 use Rattle.drum.specs.Params.{master_shape, index_shape, detail_shape}
