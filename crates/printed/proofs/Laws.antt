@@ -1,7 +1,7 @@
 -- A line that names a call is performed: the numbers that the call carries, the first on its line, are all that it looks at.
 use Prim.Native.Nat.{ℕ, ◌+◌, ◌≤◌}
 use native.Mathlib.Omega.{arith}
-use mathlib.Core.Path.{◌≡◌, refl, sym, ap, subst, ◌∙◌}
+use mathlib.Core.Path.{◌≡◌, sym, ap, subst, ◌∙◌}
 use mathlib.Core.Bool.{Bool, true, false, cond, ◌&&◌}
 use mathlib.Core.List.{List, [], ◌∷◌}
 use mathlib.Core.Option.{Option, none, some}
@@ -12,7 +12,6 @@ use Rattle.words.specs.Keys.{same_key}
 use Rattle.words.proofs.Parts.{part-part}
 use Rattle.drum.specs.declared.Description.{Description}
 use Rattle.rules.specs.declared.Call.{Call}
-use Rattle.rules.specs.declared.Call.TheVariants.{Create, Open, Close, Seek, Adv, Nsert, Dlete, Updat, Xtend}
 use Rattle.rules.specs.State.{State, desc}
 use Rattle.rules.specs.Run.{perform, key_from, record_from, line_of}
 use Rattle.searchfile.specs.Promise.{Counted, counted}

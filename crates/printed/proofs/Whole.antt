@@ -14,7 +14,7 @@ use Rattle.drum.specs.declared.Description.{Description}
 use Rattle.drum.specs.Params.{D, good_params, file_size}
 use Rattle.drum.proofs.Good.{caps}
 use Rattle.rules.specs.State.{State, desc}
-use Rattle.rules.specs.Run.{perform, begun}
+use Rattle.rules.specs.Run.{begun}
 use Rattle.calls.proofs.Described.{same-description}
 use Rattle.lines.specs.Lines.{Parsed, no_call, a_call, pieces, filled, words_of, all_numbers, lines_of, named, parse, first_named, parameters}
 use Rattle.lines.specs.Reading.{Read, unread, read_line, spelled_name, call_of, parsed_as, parameters_in}

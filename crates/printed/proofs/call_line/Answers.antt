@@ -2,7 +2,6 @@
 use mathlib.Core.Path.{refl, ap, ◌∙◌}
 use mathlib.Core.Option.{Option}
 use native.Mathlib.Omega.{arith}
-use borrow.Author.Rules.{rules}
 use Rattle.rules.specs.declared.Call.{Call}
 use Rattle.searchfile.specs.Promise.{CountedOpen, given}
 use Rattle.lines.specs.Reading.{parsed_as}

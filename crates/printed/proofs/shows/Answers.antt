@@ -1,5 +1,4 @@
 -- `printed::shows` meets its contract: each arm is the clause of its kind, and of the two tests the first decides, or the second.
-use borrow.Author.Rules.{rules}
 use borrow.Author.Tests.{eq-eqb, ne_eqb}
 use Rattle.rules.specs.Run.{shows}
 use Rattle.printed.proofs.shows.Goals as goal

@@ -1,5 +1,4 @@
 -- `printed::start_of` meets its contract: what was read decides.
-use borrow.Author.Rules.{rules}
 use Rattle.printed.proofs.Starting.{start-nothing, start-given}
 use Rattle.printed.proofs.start_of.Goals as goal
 

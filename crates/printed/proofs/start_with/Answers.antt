@@ -1,5 +1,4 @@
 -- `printed::start_with` meets its contract: each `return` is a case of the definition.
-use borrow.Author.Rules.{rules}
 use Rattle.printed.proofs.Starting.{start-range, start-large, start-good}
 use Rattle.printed.proofs.start_with.Goals as goal
 

@@ -2,7 +2,6 @@
 use mathlib.Core.Path.{◌≡◌, sym, ◌∙◌}
 use mathlib.Core.Bool.{true, false}
 use native.Mathlib.Omega.{arith}
-use borrow.Author.Rules.{rules}
 use Rattle.rules.specs.Run.{shows}
 use Rattle.printed.specs.Promise.{told_line}
 use Rattle.printed.proofs.tell.Goals as goal
