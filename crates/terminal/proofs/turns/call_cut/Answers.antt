@@ -31,15 +31,14 @@ pub slice_bounds-call_line-end-9 : goal.slice_bounds-call_line-end-9
 slice_bounds-call_line-end-9 c = simp length-take (omega (arith, blocks-most))
 
 pub call_line-requires : goal.call_line-requires
-call_line-requires c =
-    (
-      search (rules, key-numbers),
-      search (rules, record-numbers),
-      search key-work,
-      search record-work,
-      search marks-long,
-      search (rules, out-room),
-    )
+call_line-requires c = (
+  search (rules, key-numbers),
+  search (rules, record-numbers),
+  search key-work,
+  search record-work,
+  search marks-long,
+  search (rules, out-room),
+)
 
 pub returns : goal.returns
 returns c =
