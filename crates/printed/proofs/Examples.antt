@@ -23,40 +23,40 @@ unfolding printing
 no_line = refl
 
 -- parameters out of range: a name alone decides, whatever stands behind it; VIEW names no call
-pub out_of_range : output (bytes "8 4 1 0 2 4\n_seek x 99999999999\n CREATE\t7\r\n_view 1\n_open\n") ≡ bytes "SEEK 020007 0\n_create 020007 0\n_bad LINE\n"
+pub out_of_range : output (bytes "8 4 1 0 2 4\nSEEK x 99999999999\n CREATE\t7\r\nVIEW 1\nOPEN\n") ≡ bytes "SEEK 020007 0\nCREATE 020007 0\nBAD LINE\n"
 unfolding printing
 out_of_range = refl
 
 -- a file above 8,192 words, and one of 8,192
-pub too_large_lem : output (bytes "4096 3 1 0 2 2\n_create\n") ≡ bytes "TOO LARGE\n"
+pub too_large_lem : output (bytes "4096 3 1 0 2 2\nCREATE\n") ≡ bytes "TOO LARGE\n"
 unfolding printing
 too_large_lem = refl
 
-pub most-words : output (bytes "8 3 1 0 2 1023\n_close\n") ≡ bytes "CLOSE 020005 0\n"
+pub most-words : output (bytes "8 3 1 0 2 1023\nCLOSE\n") ≡ bytes "CLOSE 020005 0\n"
 unfolding printing
 most-words = refl
 
 -- the line feed at the end of the last line starts no other, and a last line without one counts
-pub last_line : (output (bytes "8 3 1 0 2 4\n_create") ≡ bytes "CREATE 000000 0\n") × (output (bytes "8 3 1 0 2 4\n_create\n") ≡ bytes "CREATE 000000 0\n")
+pub last_line : (output (bytes "8 3 1 0 2 4\nCREATE") ≡ bytes "CREATE 000000 0\n") × (output (bytes "8 3 1 0 2 4\nCREATE\n") ≡ bytes "CREATE 000000 0\n")
 unfolding printing
 last_line = (refl, refl)
 
 -- a blank line, VIEW, a number above the greatest, two words for a record of three, five parameters: each ends the program
-pub bad-lines : (output (bytes "8 3 1 0 2 4\n\n_create\n") ≡ bytes "BAD LINE\n")
-    × (output (bytes "8 3 1 0 2 4\n_create\n_view 1\n_open\n") ≡ bytes "CREATE 000000 0\n_bad LINE\n")
-    × (output (bytes "8 3 1 0 2 4\n_open\n_seek 4294967295\n_seek 4294967296\n_open\n") ≡ bytes "OPEN 070003 0\n_seek 020005 0\n_bad LINE\n")
-    × (output (bytes "8 3 1 0 2 4\n_nsert 10 1\n") ≡ bytes "BAD LINE\n")
-    × (output (bytes "8 3 1 0 2\n_create\n") ≡ bytes "BAD LINE\n")
+pub bad-lines : (output (bytes "8 3 1 0 2 4\n\nCREATE\n") ≡ bytes "BAD LINE\n")
+    × (output (bytes "8 3 1 0 2 4\nCREATE\nVIEW 1\nOPEN\n") ≡ bytes "CREATE 000000 0\nBAD LINE\n")
+    × (output (bytes "8 3 1 0 2 4\nOPEN\nSEEK 4294967295\nSEEK 4294967296\nOPEN\n") ≡ bytes "OPEN 070003 0\nSEEK 020005 0\nBAD LINE\n")
+    × (output (bytes "8 3 1 0 2 4\nNSERT 10 1\n") ≡ bytes "BAD LINE\n")
+    × (output (bytes "8 3 1 0 2\nCREATE\n") ≡ bytes "BAD LINE\n")
 unfolding printing
 bad-lines = (refl, refl, refl, refl, refl)
 
 -- "One session, printed": the input and the fifteen lines
 abbrev input : List ℕ
-input = bytes "8 3 1 0 2 4\n_create\n_open\n_nsert 10 1 2\n_nsert 20 3 4\n_nsert 5 7 7\n_nsert 15 6 6\n_nsert 12 0 0\n_dlete 5\n_dlete 10\n_xtend 30 8 9\n_xtend 25 0 0\n_seek 20\n_adv\n_adv\n_close\n"
+input = bytes "8 3 1 0 2 4\nCREATE\nOPEN\nNSERT 10 1 2\nNSERT 20 3 4\nNSERT 5 7 7\nNSERT 15 6 6\nNSERT 12 0 0\nDLETE 5\nDLETE 10\nXTEND 30 8 9\nXTEND 25 0 0\nSEEK 20\nADV\nADV\nCLOSE\n"
 
 abbrev fifteen : List ℕ
 fifteen =
-    bytes "CREATE 000000 0\n_open 000000 0\n_nsert 000000 2\n_nsert 000000 7\n_nsert 070001 6\n_nsert 070001 2\n_nsert 070002 3\n_dlete 000000 2\n_dlete 000000 3\n_xtend 000000 3\n_xtend 000005 0\n_seek 000000 3 20 3 4\n_adv 000000 3 30 8 9\n_adv 030002 0 262143 0 0\n_close 000000 0\n"
+    bytes "CREATE 000000 0\nOPEN 000000 0\nNSERT 000000 2\nNSERT 000000 7\nNSERT 070001 6\nNSERT 070001 2\nNSERT 070002 3\nDLETE 000000 2\nDLETE 000000 3\nXTEND 000000 3\nXTEND 000005 0\nSEEK 000000 3 20 3 4\nADV 000000 3 30 8 9\nADV 030002 0 262143 0 0\nCLOSE 000000 0\n"
 
 pub fifteen-lines : output input ≡ fifteen
 unfolding printing

@@ -1,6 +1,7 @@
 // The printed session, line by line: what a line does, and the bytes that it prints. Whoever reads and writes calls these, and nothing else
 // decides what is printed.
 #![tactic(auto)]
+
 ghost use Rattle.std.specs.Prelude.{◌≡◌, ◌+◌, ◌*◌, ◌≤◌, length};
 ghost use Rattle.std.proofs.Math.Option.{none};
 ghost use Rattle.words.specs.Words.{part, put};

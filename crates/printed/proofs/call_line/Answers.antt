@@ -2,7 +2,6 @@
 use mathlib.Core.Path.{refl, ap, ◌∙◌}
 use mathlib.Core.Option.{Option}
 use native.Mathlib.Omega.{arith}
-use borrow.Author.Rules.{rules}
 use Rattle.rules.specs.declared.Call.{Call}
 use Rattle.searchfile.specs.Promise.{CountedOpen, given}
 use Rattle.lines.specs.Reading.{parsed_as}
@@ -21,11 +20,12 @@ unfolding parsed_as played refusal
 returns-in-Nothing c =
     let a = c.args in
     let st = given a.s a.file.now a.buffer.now a.work.now in
-    let bad = c.bad_line-bad.ensures.0 in (
-      (λ j. record { over = (bad j).over; after = st; out = (bad j).out; at = (bad j).at })
-          ∙ ap (λ (x : Option Call). shown_at a.out.now a.at (played st (parsed_as a.s.desc x a.numbers.now))) (rw c.in-Nothing.is at c.call_of-parsed.ensures),
-      (refl, omega (arith, c.bad_line-bad.ensures.1)),
-    )
+    let bad = c.bad_line-bad.ensures in
+    record {
+      out_value = (λ j. record { over = (bad.out_value j).over; after = st; out = (bad.out_value j).out; at = (bad.out_value j).at })
+          ∙ ap (λ (x : Option Call). shown_at a.out.now a.at (played st (parsed_as a.s.desc x a.numbers.now))) (rw c.in-Nothing.is at c.call_of-parsed.ensures);
+      desc_value = (refl, omega (arith, bad.at_bound));
+    }
 
 pub returns-in-Kind : goal.returns-in-Kind
 returns-in-Kind c =
@@ -34,4 +34,7 @@ returns-in-Kind c =
     let p = c.requires in
     let done = ap (λ (z : CountedOpen). z.outcome) c.perform-answer.ensures in
     let line = line-played a.numbers.now st p.0 p.1 p.2 p.3 a.marks.now p.4 a.r a.name.now _ (rw c.in-Kind.is at c.call_of-parsed.ensures) _ done in
-    (line-shown a.out.now _ _ a.at _ _ _ c.tell-end.ensures.0 c.tell-end.ensures.1 line.0, (line.1, omega (arith, c.tell-end.ensures.2)))
+    record {
+      out_value = line-shown a.out.now _ _ a.at _ _ _ c.tell-end.ensures.0 c.tell-end.ensures.1 line.0;
+      desc_value = (line.1, omega (arith, c.tell-end.ensures.2));
+    }

@@ -1,10 +1,9 @@
 -- `printed::refuse_line` meets its contract: the name found in what was kept decides.
-use borrow.Author.Rules.{rules}
 use Rattle.printed.proofs.Telling.{bad-said, refused-said}
 use Rattle.printed.proofs.refuse_line.Goals as goal
 
-pub returns-in-Nothing : goal.returns-in-Nothing
-returns-in-Nothing c = (search bad-said, search)
+pub returns-in-Nothing-clause-out_value : goal.returns-in-Nothing-clause-out_value
+returns-in-Nothing-clause-out_value c = search bad-said
 
-pub returns-in-Kind : goal.returns-in-Kind
-returns-in-Kind c = (search refused-said, search)
+pub returns-in-Kind-clause-out_value : goal.returns-in-Kind-clause-out_value
+returns-in-Kind-clause-out_value c = search refused-said
