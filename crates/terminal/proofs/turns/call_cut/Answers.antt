@@ -43,5 +43,5 @@ call_line-requires c = (
 pub returns : goal.returns
 returns c =
     let p = c.requires in
-    let e = c.call_line.ensures.1 in
+    let e = c.call_line.ensures.desc_value in
     (still-playable _ _ e.0 p.1, printed-within _ _ _ _ _ _ e.1 p.2 p.1 p.0)
