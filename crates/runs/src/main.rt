@@ -4,22 +4,47 @@
 // is just not bad.
 #![tactic(auto)]
 
-fn play_named(i: usize) {
-    let mut path = io::buffer();
-    let length = os::arg(i, &mut path);
-    io::write_all(1, &path[..length]);
-    io::write_all(1, b":\n");
-    let fd = os::open_read(&path[..length]);
-    if fd < 0 {
-        os::fail(&path[..length]);
-        return;
+use std::env::{Env, FillError};
+use std::fs::File;
+use std::io;
+use std::io::{Error, ErrorKind};
+use terminal::Streams;
+
+// A path is text.
+fn open(rt: &HostRuntime, name: &[u8]) -> io::Result<File> {
+    match str::from_utf8(name) {
+        Ok(path) => File::open(rt, path),
+        Err(_) => Err(Error::from(ErrorKind::InvalidData)),
     }
-    terminal::play(fd);
-    libc::close(fd);
 }
 
-fn main() {
-    for i in 1..os::arg_count() {
-        play_named(i);
+fn play_named(rt: &HostRuntime, name: &[u8]) -> io::Result<()> {
+    rt.write_all(name)?;
+    rt.write_all(b":\n")?;
+    match open(rt, name) {
+        Ok(input) => {
+            terminal::play(Streams {
+                input,
+                output: rt.stdout(),
+                errors: rt.stderr(),
+            });
+            Ok(())
+        }
+        Err(e) => {
+            rt.stderr().write_all(name)?;
+            rt.eprintln(format_args!(": {e}"))
+        }
     }
+}
+
+fn main(rt: HostRuntime) -> io::Result<()> {
+    let mut name = [0; 4096];
+    for i in 1..usize::MAX {
+        match rt.arg(i, &mut name) {
+            Ok(length) => play_named(&rt, &name[..length])?,
+            Err(FillError::TooLong) => rt.eprintln("a name is longer than 4,096 bytes")?,
+            Err(FillError::NotPresent) => break,
+        }
+    }
+    Ok(())
 }

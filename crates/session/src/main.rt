@@ -1,26 +1,28 @@
 // One session, printed: parameters and calls from standard input, a line for each call on standard output, and on standard error why a line ends it.
 #![tactic(auto)]
-use terminal::Ending;
 
-// How the session ended, for a caller that asks: a program has no exit status of its own.
-fn write_ending(ending: Ending) {
+use std::env::{Env, FillError};
+use std::process::ExitCode;
+use terminal::{Ending, Streams};
+
+// How the session ended, as the exit status says it.
+fn status_of(ending: Ending) -> ExitCode {
     match ending {
-        Ending::Well => {
-            io::write_all(3, b"0\n");
-        }
-        Ending::Wrong => {
-            io::write_all(3, b"1\n");
-        }
-        Ending::Failed => {
-            io::write_all(3, b"2\n");
-        }
+        Ending::Well => ExitCode::SUCCESS,
+        Ending::Wrong => ExitCode::from(1),
+        Ending::Failed => ExitCode::from(2),
     }
 }
 
-// With an argument, whatever it is, the ending is written to descriptor 3.
-fn main() {
-    let ending = terminal::play(0);
-    if 1 < os::arg_count() {
-        write_ending(ending);
+// With an argument, whatever it is, the exit status says how the session ended, for a caller that asks.
+fn main(rt: HostRuntime) -> ExitCode {
+    let ending = terminal::play(Streams {
+        input: rt.stdin(),
+        output: rt.stdout(),
+        errors: rt.stderr(),
+    });
+    match rt.arg(1, &mut [0; 16]) {
+        Err(FillError::NotPresent) => ExitCode::SUCCESS,
+        _ => status_of(ending),
     }
 }

@@ -1,16 +1,17 @@
 // Lines taken off the input: what is to be written goes out before more input is waited for.
-ghost use Rattle.std.specs.Prelude.{◌≡◌, ◌≤◌, length};
+ghost use Rattle.std.specs.Prelude.{◌≡◌, ◌≤◌, length, IfSome};
 ghost use Rattle.terminal.specs.Places.{Ready};
 
-use super::output::write_filled;
+use super::output::{say, write_filled};
+use super::streams::Streams;
 use faults::Watch;
 use lines::Reading;
+use std::io::{IsTerminal, Read, Write};
 
-// Which file is read; its bytes from `at` to `end` are here and not read yet; `filled` bytes of the output are not written yet; so many lines
+// The bytes of the input from `at` to `end` are here and not read yet; `filled` bytes of the output are not written yet; so many lines
 // were read; whether reading or writing failed.
 #[derive(Clone, Copy)]
 pub struct Place {
-    pub fd: i32,
     pub at: usize,
     pub end: usize,
     pub filled: usize,
@@ -29,29 +30,41 @@ pub struct Found {
 }
 
 // Whoever types is told what is expected: this is the number of the line.
-fn prompt(fd: i32, line: usize) {
-    if libc::isatty(fd) != 1 {
+fn prompt<R: IsTerminal, W, E: Write>(streams: &mut Streams<R, W, E>, line: usize) {
+    if !streams.input.is_terminal() {
         return;
     }
     if line == 1 {
-        io::write_all(2, b"WPB WPR K SPACE CONTROL N? ");
+        say(&mut streams.errors, b"WPB WPR K SPACE CONTROL N? ");
         return;
     }
-    io::write_all(2, b"call? ");
+    say(&mut streams.errors, b"call? ");
 }
 
-// Reads; what can't be read is told.
-fn read_some(fd: i32, input: &mut [u8; 65536]) -> isize {
-    let got = libc::read(fd, input);
-    if got < 0 {
-        io::write_all(2, b"the input can't be read\n");
+// Reads, and returns how many bytes it read; what can't be read is told.
+fn read_some<R: Read, W, E: Write>(
+    streams: &mut Streams<R, W, E>,
+    input: &mut [u8; 65536],
+) -> Option<usize>
+    ensures { IfSome result (λ n. n ≤ 65536) }
+{
+    match streams.input.read(input) {
+        Ok(n) => Some(n),
+        Err(_) => {
+            say(&mut streams.errors, b"the input can't be read\n");
+            None
+        }
     }
-    got
 }
 
 // Writes what is to be written, and then reads: whoever waits for an answer has it before the next line is waited for. None is here where the
 // input ended or something failed.
-fn fetch(place: Place, input: &mut [u8; 65536], out: &[u8; 65536]) -> Place
+fn fetch<R: Read + IsTerminal, W: Write, E: Write>(
+    place: Place,
+    streams: &mut Streams<R, W, E>,
+    input: &mut [u8; 65536],
+    out: &[u8; 65536],
+) -> Place
     requires { Ready place }
     ensures { Ready result }
 {
@@ -59,14 +72,18 @@ fn fetch(place: Place, input: &mut [u8; 65536], out: &[u8; 65536]) -> Place
     next.at = 0;
     next.end = 0;
     next.filled = 0;
-    if !write_filled(out, place.filled) {
+    if !write_filled(streams, out, place.filled) {
         next.failed = true;
         return next;
     }
-    prompt(place.fd, place.line);
-    let got = read_some(place.fd, input);
-    next.end = io::count(got, input);
-    next.failed = got < 0;
+    prompt(streams, place.line);
+    match read_some(streams, input) {
+        Some(n) => {
+            next.end = n;
+            next.failed = false;
+        }
+        None => next.failed = true,
+    }
     next
 }
 
@@ -131,8 +148,9 @@ fn last_line(line: Found, numbers: &mut [u32; 2048]) -> Found
 }
 
 // The next line: bytes that are here, then more of the input until a line or the input ends.
-pub fn next_line(
+pub fn next_line<R: Read + IsTerminal, W: Write, E: Write>(
     start: Place,
+    streams: &mut Streams<R, W, E>,
     input: &mut [u8; 65536],
     numbers: &mut [u32; 2048],
     out: &[u8; 65536],
@@ -141,14 +159,12 @@ pub fn next_line(
     ensures { Ready result.place }
 {
     let mut line = unread(start);
-    let mut turns = u64::MAX;
-    while 0 < turns {
-        turns -= 1;
+    for _ in 0..u64::MAX {
         line = take_here(line, input, numbers);
         if line.is_line {
             return line;
         }
-        let place = fetch(line.place, input, out);
+        let place = fetch(line.place, streams, input, out);
         line.place = place;
         if place.end == 0 {
             return last_line(line, numbers);

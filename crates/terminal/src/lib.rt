@@ -1,11 +1,12 @@
-// The printed session read from one file and written to standard output: lines are taken off the input, and what `printed` makes of them is
-// written before more input is waited for. What `faults` says of a line that ends it goes to standard error. No contract can speak of what is
-// read or written; all that decides stands in `lines`, `printed` and `faults`.
+// The printed session, from a reader to a writer: lines are taken off the input, and what `printed` makes of them is written before more input is
+// waited for. What `faults` says of a line that ends it goes to a second writer. No contract here speaks of what is read or written; all that
+// decides stands in `lines`, `printed` and `faults`.
 #![tactic(auto)]
 
 mod input;
 mod output;
 mod refused;
+mod streams;
 mod told;
 mod turns;
 
@@ -17,6 +18,8 @@ use input::{Found, Place, next_line};
 use printed::Start;
 use refused::refuse_lines;
 use searchfile::Session;
+use std::io::{IsTerminal, Read, Write};
+pub use streams::Streams;
 use told::tell_first;
 use turns::play_calls;
 
@@ -36,31 +39,42 @@ fn start_of(line: Found, numbers: &[u32; 2048]) -> Start
 }
 
 // Plays the session that a file holds, or what is typed.
-pub fn play(fd: i32) -> Ending {
-    let mut input = io::large_buffer();
+pub fn play<R: Read + IsTerminal + Drop, W: Write + Drop, E: Write + Drop>(
+    mut streams: Streams<R, W, E>,
+) -> Ending {
+    let mut input = [0; 65536];
     let mut numbers = [0; 2048];
-    let mut out = io::large_buffer();
+    let mut out = [0; 65536];
     let start = Place {
-        fd,
         at: 0,
         end: 0,
         filled: 0,
         line: 0,
         failed: false,
     };
-    let line = next_line(start, &mut input, &mut numbers, &out);
+    let line = next_line(start, &mut streams, &mut input, &mut numbers, &out);
     let place = line.place;
     if place.failed {
         return Ending::Failed;
     }
     let begun = start_of(line, &numbers);
     if let Start::Good { p } = begun {
-        return play_calls(place, Session::new(p), &mut input, &mut numbers, &mut out);
+        let opening = Session::new(p);
+        return play_calls(
+            place,
+            opening,
+            &mut streams,
+            &mut input,
+            &mut numbers,
+            &mut out,
+        );
     }
     let filled = printed::put_start(begun, &mut out, 0);
-    let ending = tell_first(line, filled, &numbers, &mut out);
+    let ending = tell_first(line, filled, &mut streams, &numbers, &mut out);
     match begun {
-        Start::OutOfRange => refuse_lines(place, &mut input, &mut numbers, &mut out),
+        Start::OutOfRange => {
+            refuse_lines(place, &mut streams, &mut input, &mut numbers, &mut out)
+        }
         Start::BadLine => ending,
         Start::TooLarge => ending,
         Start::Good { p: _ } => ending,

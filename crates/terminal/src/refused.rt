@@ -5,8 +5,10 @@ ghost use Rattle.terminal.specs.Places.{Ready};
 use super::Ending;
 use super::input::{Found, Place, next_line};
 use super::output::{ended, with_room};
+use super::streams::Streams;
 use super::told::tell_name;
 use printed::Told;
+use std::io::{IsTerminal, Read, Write};
 
 // A line with parameters out of range of which everything was read.
 fn refuse_read(line: Found, out: &mut [u8; 65536]) -> Told
@@ -19,8 +21,9 @@ fn refuse_read(line: Found, out: &mut [u8; 65536]) -> Told
 }
 
 // All lines with parameters out of range.
-pub fn refuse_lines(
+pub fn refuse_lines<R: Read + IsTerminal, W: Write, E: Write>(
     start: Place,
+    streams: &mut Streams<R, W, E>,
     input: &mut [u8; 65536],
     numbers: &mut [u32; 2048],
     out: &mut [u8; 65536],
@@ -28,22 +31,20 @@ pub fn refuse_lines(
     requires { Ready start }
 {
     let mut place = start;
-    let mut turns = u64::MAX;
-    while 0 < turns {
-        turns -= 1;
-        let line = next_line(place, input, numbers, out);
+    for _ in 0..u64::MAX {
+        let line = next_line(place, streams, input, numbers, out);
         place = line.place;
         if !line.is_line {
-            return ended(place, out);
+            return ended(place, streams, out);
         }
         let told = refuse_read(line, out);
         if told.over {
-            return tell_name(line, told.at, out);
+            return tell_name(line, told.at, streams, out);
         }
-        place = with_room(place, told.at, out);
+        place = with_room(place, told.at, streams, out);
         if place.failed {
             return Ending::Failed;
         }
     }
-    ended(place, out)
+    ended(place, streams, out)
 }

@@ -5,10 +5,12 @@ ghost use Rattle.terminal.specs.Places.{Ready, Playable, Roomy};
 use super::Ending;
 use super::input::{Place, next_line};
 use super::output::{ended, with_room};
+use super::streams::Streams;
 use super::told::tell_call;
 use lines::Reading;
 use printed::Turn;
 use searchfile::Session;
+use std::io::{IsTerminal, Read, Write};
 
 // What was kept of a line of calls; `filled` bytes are not written yet; and the session that it is played in.
 #[derive(Clone, Copy)]
@@ -32,7 +34,7 @@ fn call_cut(
     requires { (here.filled ≤ 16384) × (Playable here.session.desc) × (Roomy file.old buffer.old work.old) }
     ensures { (Playable result.session.desc) × (result.at ≤ 65536) }
 {
-    let mut marks = io::buffer();
+    let mut marks = [0; 4096];
     let name = here.name;
     let session = here.session;
     let p = session.desc;
@@ -70,9 +72,10 @@ fn call_read(
 }
 
 // All lines of calls, over a file of zeros.
-pub fn play_calls(
+pub fn play_calls<R: Read + IsTerminal, W: Write, E: Write>(
     start: Place,
     opening: Session,
+    streams: &mut Streams<R, W, E>,
     input: &mut [u8; 65536],
     numbers: &mut [u32; 2048],
     out: &mut [u8; 65536],
@@ -84,13 +87,11 @@ pub fn play_calls(
     let mut work = [0; 2048];
     let mut place = start;
     let mut session = opening;
-    let mut turns = u64::MAX;
-    while 0 < turns {
-        turns -= 1;
-        let line = next_line(place, input, numbers, out);
+    for _ in 0..u64::MAX {
+        let line = next_line(place, streams, input, numbers, out);
         place = line.place;
         if !line.is_line {
-            return ended(place, out);
+            return ended(place, streams, out);
         }
         let name = line.name;
         let reading = line.reading;
@@ -103,12 +104,12 @@ pub fn play_calls(
         let turn = call_read(here, &mut file, &mut buffer, &mut work, numbers, out);
         session = turn.session;
         if turn.over {
-            return tell_call(line, session.desc, turn.at, out);
+            return tell_call(line, session.desc, turn.at, streams, out);
         }
-        place = with_room(place, turn.at, out);
+        place = with_room(place, turn.at, streams, out);
         if place.failed {
             return Ending::Failed;
         }
     }
-    ended(place, out)
+    ended(place, streams, out)
 }

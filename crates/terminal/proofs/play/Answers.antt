@@ -1,6 +1,7 @@
 -- A first line that is good gives parameters with which calls are played.
+use borrow.Author.Rules.{rules}
 use Rattle.terminal.proofs.Rooms.{started, begun-playable}
 use Rattle.terminal.proofs.play.Goals as goal
 
 pub play_calls-requires : goal.play_calls-requires
-play_calls-requires c = (search, search (begun-playable, started))
+play_calls-requires c c' = (search, search (begun-playable, started))

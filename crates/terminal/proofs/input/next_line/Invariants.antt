@@ -1,9 +1,6 @@
--- Between turns the line's place is ready; the measure is the turns left.
+-- Between turns the line's place is ready.
 use Rattle.terminal.specs.Places.{Ready}
 use Rattle.terminal.proofs.input.next_line.Given as goal
 
-abbrev pub invariant-loop-turns : goal.invariant-loop-turns
-invariant-loop-turns l = Ready l.line.place
-
-abbrev pub decreases-loop-turns : goal.decreases-loop-turns
-decreases-loop-turns l = l.turns
+abbrev pub invariant-loop : goal.invariant-loop
+invariant-loop g l = Ready l.line.place

@@ -1,6 +1,7 @@
 -- The bytes that are here are looked at as far as they go.
 use native.Mathlib.Omega.{arith}
 use lib.ListN.{length-take}
+use borrow.Author.Rules.{rules}
 use Rattle.terminal.proofs.Takes.{taken-ready}
 use Rattle.terminal.proofs.input.take_here.Goals as goal
 

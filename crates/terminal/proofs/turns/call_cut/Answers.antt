@@ -31,18 +31,17 @@ pub slice_bounds-call_line-end-9 : goal.slice_bounds-call_line-end-9
 slice_bounds-call_line-end-9 c = simp length-take (omega (arith, blocks-most))
 
 pub call_line-requires : goal.call_line-requires
-call_line-requires c =
-    (
-      search (rules, key-numbers),
-      search (rules, record-numbers),
-      search key-work,
-      search record-work,
-      search marks-long,
-      search (rules, out-room),
-    )
+call_line-requires c = (
+  search (rules, key-numbers),
+  search (rules, record-numbers),
+  search key-work,
+  search record-work,
+  search marks-long,
+  search (rules, out-room),
+)
 
 pub returns : goal.returns
 returns c =
     let p = c.requires in
-    let e = c.call_line.ensures.1 in
+    let e = c.call_line.ensures.desc_value in
     (still-playable _ _ e.0 p.1, printed-within _ _ _ _ _ _ e.1 p.2 p.1 p.0)
