@@ -2,11 +2,12 @@
 use super::said::{copied, told};
 use drum::Description;
 use searchfile::Session;
+use std::io;
 
-fn copy(s: Session, file: &[u32]) {
+fn copy(out: &impl Print, s: Session, file: &[u32]) -> io::Result<()> {
     let mut second = [9u32; 34];
     let mut marks = [9u8; 3];
-    copied(b"COPY 2", s, file, &mut second, 2, &mut marks);
+    copied(out, b"COPY 2", s, file, &mut second, 2, &mut marks)
 }
 
 fn description() -> Description {
@@ -18,14 +19,22 @@ fn description() -> Description {
         .with_n(3)
 }
 
-pub fn run() {
+pub fn run(out: &impl Print) -> io::Result<()> {
     let mut file = [0u32; 30];
     let mut buffer = [0u32; 8];
     let mut marks = [9u8; 3];
     let work = [3u32, 4];
-    let begun = told(b"CREATE", Session::new(description()).create(&mut file));
-    let opened = told(b"OPEN", begun.open_file(&file, &buffer, &mut marks));
-    let stored = told(b"NSERT 3 4", opened.nsert(&mut file, &mut buffer, &work));
-    let s = told(b"CLOSE", stored.close(&mut file, &buffer));
-    copy(s, &file);
+    let begun = told(
+        out,
+        b"CREATE",
+        Session::new(description()).create(&mut file),
+    )?;
+    let opened = told(out, b"OPEN", begun.open_file(&file, &buffer, &mut marks))?;
+    let stored = told(
+        out,
+        b"NSERT 3 4",
+        opened.nsert(&mut file, &mut buffer, &work),
+    )?;
+    let s = told(out, b"CLOSE", stored.close(&mut file, &buffer))?;
+    copy(out, s, &file)
 }

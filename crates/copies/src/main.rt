@@ -6,8 +6,10 @@ mod fifteen;
 mod many;
 mod said;
 
-fn main() {
-    fifteen::run();
-    even::run();
-    many::run();
+use std::io;
+
+fn main(rt: HostRuntime) -> io::Result<()> {
+    fifteen::run(&rt)?;
+    even::run(&rt)?;
+    many::run(&rt)
 }

@@ -2,6 +2,7 @@
 use super::said::{print_bytes, print_number, told};
 use drum::Description;
 use searchfile::Session;
+use std::io;
 
 fn long(x: u32) -> u64 {
     x as u64
@@ -21,69 +22,86 @@ fn description() -> Description {
 }
 
 // XTEND of 1, 2, 3 and so on; prints the sum of the transfers, and that of the numbers, which is 0 where each of them answered 0.
-fn ascending(start: Session, file: &mut [u32], buffer: &mut [u32]) -> Session {
+fn ascending(
+    out: &impl Print,
+    start: Session,
+    file: &mut [u32],
+    buffer: &mut [u32],
+) -> io::Result<Session> {
     let mut s = start;
     let mut numbers = 0u64;
     let mut transfers = 0u64;
     for key in 1u32..41991 {
         let work = [key];
         let answer = s.xtend(file, buffer, &work);
-        numbers = std::num::wrapping_add_u64(numbers, long(answer.number));
-        transfers = std::num::wrapping_add_u64(transfers, count(answer.transfers));
+        numbers = numbers.wrapping_add(long(answer.number));
+        transfers = transfers.wrapping_add(count(answer.transfers));
         s = answer.session;
     }
-    print_bytes(b"XTEND 1 to 41990, numbers and transfers");
-    print_number(numbers);
-    print_number(transfers);
-    print_bytes(b"\n");
-    s
+    print_bytes(out, b"XTEND 1 to 41990, numbers and transfers")?;
+    print_number(out, numbers)?;
+    print_number(out, transfers)?;
+    print_bytes(out, b"\n")?;
+    Ok(s)
 }
 
-fn print_sections(file: &[u32; 130004]) {
-    print_bytes(b"sections");
-    print_number(long(file[0]));
-    print_bytes(b"\n");
+fn print_sections(out: &impl Print, file: &[u32; 130004]) -> io::Result<()> {
+    print_bytes(out, b"sections")?;
+    print_number(out, long(file[0]))?;
+    print_bytes(out, b"\n")
 }
 
 // 4095 is below the sections in use.
-fn too_few(s: Session, file: &[u32]) {
+fn too_few(out: &impl Print, s: Session, file: &[u32]) -> io::Result<()> {
     let mut second = [9u32; 128194];
     let mut marks = [9u8; 20000];
     told(
+        out,
         b"COPY 4095",
         s.copy_file(file, &mut second, 4095, &mut marks),
-    );
+    )?;
+    Ok(())
 }
 
 // The copy opened, and the last key sought there.
-fn used(second: &mut [u32; 152770]) {
+fn used(out: &impl Print, second: &mut [u32; 152770]) -> io::Result<()> {
     let mut buffer = [0u32; 6];
     let mut work = [41990u32];
     let mut marks = [9u8; 20000];
     let begun = Session::new(description().with_control(16383));
-    let opened = told(b"OPEN", begun.open_file(second, &buffer, &mut marks));
-    told(b"SEEK 41990", opened.seek(second, &mut buffer, &mut work));
+    let opened = told(out, b"OPEN", begun.open_file(second, &buffer, &mut marks))?;
+    told(
+        out,
+        b"SEEK 41990",
+        opened.seek(second, &mut buffer, &mut work),
+    )?;
+    Ok(())
 }
 
-fn enough(s: Session, file: &[u32]) {
+fn enough(out: &impl Print, s: Session, file: &[u32]) -> io::Result<()> {
     let mut second = [9u32; 152770];
     let mut marks = [9u8; 20000];
     told(
+        out,
         b"COPY 16383",
         s.copy_file(file, &mut second, 16383, &mut marks),
-    );
-    used(&mut second);
+    )?;
+    used(out, &mut second)
 }
 
-pub fn run() {
+pub fn run(out: &impl Print) -> io::Result<()> {
     let mut file = [0u32; 130004];
     let mut buffer = [0u32; 6];
     let mut marks = [9u8; 20000];
-    let begun = told(b"CREATE", Session::new(description()).create(&mut file));
-    let opened = told(b"OPEN", begun.open_file(&file, &buffer, &mut marks));
-    let filled = ascending(opened, &mut file, &mut buffer);
-    let s = told(b"CLOSE", filled.close(&mut file, &buffer));
-    print_sections(&file);
-    too_few(s, &file);
-    enough(s, &file);
+    let begun = told(
+        out,
+        b"CREATE",
+        Session::new(description()).create(&mut file),
+    )?;
+    let opened = told(out, b"OPEN", begun.open_file(&file, &buffer, &mut marks))?;
+    let filled = ascending(out, opened, &mut file, &mut buffer)?;
+    let s = told(out, b"CLOSE", filled.close(&mut file, &buffer))?;
+    print_sections(out, &file)?;
+    too_few(out, s, &file)?;
+    enough(out, s, &file)
 }

@@ -7,6 +7,7 @@ use drum::Description;
 use reading::ReadingSession;
 use said::{made, opened, print_line, told};
 use searchfile::Session;
+use std::io;
 
 fn description() -> Description {
     Description::new()
@@ -18,182 +19,234 @@ fn description() -> Description {
 }
 
 // A new file, open.
-fn begun(file: &mut [u32; 54], buffer: &[u32; 8]) -> Session {
+fn begun(out: &impl Print, file: &mut [u32; 54], buffer: &[u32; 8]) -> io::Result<Session> {
     let mut marks = [0u8; 6];
-    let s = made(b"CREATE", &[], Session::new(description()).create(file));
-    made(b"OPEN", &[], s.open_file(file, buffer, &mut marks))
+    let s = made(
+        out,
+        b"CREATE",
+        &[],
+        Session::new(description()).create(file),
+    )?;
+    made(out, b"OPEN", &[], s.open_file(file, buffer, &mut marks))
 }
 
-fn xtend(s: Session, file: &mut [u32; 54], buffer: &mut [u32; 8], key: u32, data: u32) -> Session {
+fn xtend(
+    out: &impl Print,
+    s: Session,
+    file: &mut [u32; 54],
+    buffer: &mut [u32; 8],
+    key: u32,
+    data: u32,
+) -> io::Result<Session> {
     let work = [key, data, data];
-    made(b"XTEND", &[key], s.xtend(file, buffer, &work))
+    made(out, b"XTEND", &[key], s.xtend(file, buffer, &work))
 }
 
-fn nsert(s: Session, file: &mut [u32; 54], buffer: &mut [u32; 8], key: u32) -> Session {
+fn nsert(
+    out: &impl Print,
+    s: Session,
+    file: &mut [u32; 54],
+    buffer: &mut [u32; 8],
+    key: u32,
+) -> io::Result<Session> {
     let work = [key, 0, 0];
-    made(b"NSERT", &[key], s.nsert(file, buffer, &work))
+    made(out, b"NSERT", &[key], s.nsert(file, buffer, &work))
 }
 
-fn dlete(s: Session, file: &mut [u32; 54], buffer: &mut [u32; 8], key: u32) -> Session {
+fn dlete(
+    out: &impl Print,
+    s: Session,
+    file: &mut [u32; 54],
+    buffer: &mut [u32; 8],
+    key: u32,
+) -> io::Result<Session> {
     let work = [key, 0, 0];
-    made(b"DLETE", &[key], s.dlete(file, buffer, &work))
+    made(out, b"DLETE", &[key], s.dlete(file, buffer, &work))
 }
 
-fn closed(s: Session, file: &mut [u32; 54], buffer: &[u32; 8]) {
-    made(b"CLOSE", &[], s.close(file, buffer));
+fn closed(out: &impl Print, s: Session, file: &mut [u32; 54], buffer: &[u32; 8]) -> io::Result<()> {
+    made(out, b"CLOSE", &[], s.close(file, buffer))?;
+    Ok(())
 }
 
 // The list: five records fill three blocks, and a sixth has no room.
-fn extended(file: &mut [u32; 54]) {
+fn extended(out: &impl Print, file: &mut [u32; 54]) -> io::Result<()> {
     let mut buffer = [0u32; 8];
-    let mut s = begun(file, &buffer);
-    s = xtend(s, file, &mut buffer, 10, 1);
-    s = xtend(s, file, &mut buffer, 20, 2);
-    s = xtend(s, file, &mut buffer, 30, 3);
-    s = xtend(s, file, &mut buffer, 40, 4);
-    s = xtend(s, file, &mut buffer, 50, 5);
-    s = xtend(s, file, &mut buffer, 60, 6);
-    closed(s, file, &buffer);
-    print_line(b"  file", file);
+    let mut s = begun(out, file, &buffer)?;
+    s = xtend(out, s, file, &mut buffer, 10, 1)?;
+    s = xtend(out, s, file, &mut buffer, 20, 2)?;
+    s = xtend(out, s, file, &mut buffer, 30, 3)?;
+    s = xtend(out, s, file, &mut buffer, 40, 4)?;
+    s = xtend(out, s, file, &mut buffer, 50, 5)?;
+    s = xtend(out, s, file, &mut buffer, 60, 6)?;
+    closed(out, s, file, &buffer)?;
+    print_line(out, b"  file", file)
 }
 
 fn seek(
+    out: &impl Print,
     s: ReadingSession,
     file: &[u32; 54],
     buffer: &mut [u32; 8],
     work: &mut [u32; 3],
     key: u32,
-) -> ReadingSession {
+) -> io::Result<ReadingSession> {
     work[0] = key;
     let answer = s.seek(file, buffer, work);
-    told(b"SEEK", &[key], answer, work)
+    told(out, b"SEEK", &[key], answer, work)
 }
 
 fn adv(
+    out: &impl Print,
     s: ReadingSession,
     file: &[u32; 54],
     buffer: &mut [u32; 8],
     work: &mut [u32; 3],
-) -> ReadingSession {
+) -> io::Result<ReadingSession> {
     let answer = s.adv(file, buffer, work);
-    told(b"ADV", &[], answer, work)
+    told(out, b"ADV", &[], answer, work)
 }
 
 fn open(
+    out: &impl Print,
     s: ReadingSession,
     file: &[u32; 54],
     buffer: &[u32; 8],
     marks: &mut [u8; 6],
-) -> ReadingSession {
+) -> io::Result<ReadingSession> {
     let answer = s.open(file, buffer, marks);
-    opened(answer, marks)
+    opened(out, answer, marks)
 }
 
 // The list read through.
 fn read(
+    out: &impl Print,
     start: ReadingSession,
     file: &[u32; 54],
     buffer: &mut [u32; 8],
     work: &mut [u32; 3],
-) -> ReadingSession {
-    let mut s = seek(start, file, buffer, work, 20);
-    s = adv(s, file, buffer, work);
-    s = adv(s, file, buffer, work);
-    s = adv(s, file, buffer, work);
-    s = adv(s, file, buffer, work);
-    s = adv(s, file, buffer, work);
-    s = seek(s, file, buffer, work, 10);
-    seek(s, file, buffer, work, 11)
+) -> io::Result<ReadingSession> {
+    let mut s = seek(out, start, file, buffer, work, 20)?;
+    s = adv(out, s, file, buffer, work)?;
+    s = adv(out, s, file, buffer, work)?;
+    s = adv(out, s, file, buffer, work)?;
+    s = adv(out, s, file, buffer, work)?;
+    s = adv(out, s, file, buffer, work)?;
+    s = seek(out, s, file, buffer, work, 10)?;
+    seek(out, s, file, buffer, work, 11)
 }
 
 // The altering calls are refused, open and closed.
-fn refused(start: ReadingSession, file: &[u32; 54], buffer: &[u32; 8], work: &[u32; 3]) {
+fn refused(
+    out: &impl Print,
+    start: ReadingSession,
+    file: &[u32; 54],
+    buffer: &[u32; 8],
+    work: &[u32; 3],
+) -> io::Result<()> {
     let mut s = told(
+        out,
         b"NSERT",
         &[25],
         start.nsert(file, buffer, &[25, 0, 0]),
         work,
-    );
+    )?;
     s = told(
+        out,
         b"DLETE",
         &[262143],
         s.dlete(file, buffer, &[262143, 0, 0]),
         work,
-    );
-    s = told(b"CLOSE", &[], s.close(file, buffer), work);
-    told(b"XTEND", &[70], s.xtend(file, buffer, &[70, 0, 0]), work);
+    )?;
+    s = told(out, b"CLOSE", &[], s.close(file, buffer), work)?;
+    told(
+        out,
+        b"XTEND",
+        &[70],
+        s.xtend(file, buffer, &[70, 0, 0]),
+        work,
+    )?;
+    Ok(())
 }
 
-fn reader(file: &[u32; 54]) {
+fn reader(out: &impl Print, file: &[u32; 54]) -> io::Result<()> {
     let mut buffer = [0u32; 8];
     let mut work = [0u32; 3];
     let mut marks = [9u8; 6];
     let mut s = adv(
+        out,
         ReadingSession::new(description()),
         file,
         &mut buffer,
         &mut work,
-    );
-    s = open(s, file, &buffer, &mut marks);
-    s = open(s, file, &buffer, &mut marks);
-    s = read(s, file, &mut buffer, &mut work);
-    refused(s, file, &buffer, &work);
+    )?;
+    s = open(out, s, file, &buffer, &mut marks)?;
+    s = open(out, s, file, &buffer, &mut marks)?;
+    s = read(out, s, file, &mut buffer, &mut work)?;
+    refused(out, s, file, &buffer, &work)
 }
 
 // A file is closed and offered to the reading set.
-fn offered(s: Session, file: &mut [u32; 54], buffer: &[u32; 8]) {
+fn offered(
+    out: &impl Print,
+    s: Session,
+    file: &mut [u32; 54],
+    buffer: &[u32; 8],
+) -> io::Result<()> {
     let mut marks = [9u8; 6];
-    made(b"CLOSE", &[], s.close(file, buffer));
+    made(out, b"CLOSE", &[], s.close(file, buffer))?;
     opened(
+        out,
         ReadingSession::new(description()).open(file, buffer, &mut marks),
         &marks,
-    );
+    )?;
+    Ok(())
 }
 
 // Blocks out of order; block 2 not full.
-fn out_of_order() {
+fn out_of_order(out: &impl Print) -> io::Result<()> {
     let mut file = [0u32; 54];
     let mut buffer = [0u32; 8];
-    let mut s = begun(&mut file, &buffer);
-    s = nsert(s, &mut file, &mut buffer, 10);
-    s = nsert(s, &mut file, &mut buffer, 20);
-    s = nsert(s, &mut file, &mut buffer, 15);
-    offered(s, &mut file, &buffer);
+    let mut s = begun(out, &mut file, &buffer)?;
+    s = nsert(out, s, &mut file, &mut buffer, 10)?;
+    s = nsert(out, s, &mut file, &mut buffer, 20)?;
+    s = nsert(out, s, &mut file, &mut buffer, 15)?;
+    offered(out, s, &mut file, &buffer)
 }
 
 // Three records loaded, and some taken out.
-fn taken_out(first: u32, second: u32, then: u32) {
+fn taken_out(out: &impl Print, first: u32, second: u32, then: u32) -> io::Result<()> {
     let mut file = [0u32; 54];
     let mut buffer = [0u32; 8];
-    let mut s = begun(&mut file, &buffer);
-    s = xtend(s, &mut file, &mut buffer, 10, 0);
-    s = xtend(s, &mut file, &mut buffer, 20, 0);
-    s = xtend(s, &mut file, &mut buffer, 30, 0);
-    s = dlete(s, &mut file, &mut buffer, first);
+    let mut s = begun(out, &mut file, &buffer)?;
+    s = xtend(out, s, &mut file, &mut buffer, 10, 0)?;
+    s = xtend(out, s, &mut file, &mut buffer, 20, 0)?;
+    s = xtend(out, s, &mut file, &mut buffer, 30, 0)?;
+    s = dlete(out, s, &mut file, &mut buffer, first)?;
     if second != 0 {
-        s = dlete(s, &mut file, &mut buffer, second);
-        s = xtend(s, &mut file, &mut buffer, then, 0);
+        s = dlete(out, s, &mut file, &mut buffer, second)?;
+        s = xtend(out, s, &mut file, &mut buffer, then, 0)?;
     }
-    offered(s, &mut file, &buffer);
+    offered(out, s, &mut file, &buffer)
 }
 
 // NSERT in ascending order makes such a file too, here.
-fn in_order() {
+fn in_order(out: &impl Print) -> io::Result<()> {
     let mut file = [0u32; 54];
     let mut buffer = [0u32; 8];
-    let mut s = begun(&mut file, &buffer);
-    s = nsert(s, &mut file, &mut buffer, 10);
-    s = nsert(s, &mut file, &mut buffer, 20);
-    offered(s, &mut file, &buffer);
+    let mut s = begun(out, &mut file, &buffer)?;
+    s = nsert(out, s, &mut file, &mut buffer, 10)?;
+    s = nsert(out, s, &mut file, &mut buffer, 20)?;
+    offered(out, s, &mut file, &buffer)
 }
 
-fn main() {
+fn main(rt: HostRuntime) -> io::Result<()> {
     let mut file = [0u32; 54];
-    extended(&mut file);
-    reader(&file);
-    out_of_order();
-    taken_out(10, 0, 0);
-    taken_out(30, 0, 0);
-    taken_out(10, 20, 40);
-    in_order();
+    extended(&rt, &mut file)?;
+    reader(&rt, &file)?;
+    out_of_order(&rt)?;
+    taken_out(&rt, 10, 0, 0)?;
+    taken_out(&rt, 30, 0, 0)?;
+    taken_out(&rt, 10, 20, 40)?;
+    in_order(&rt)
 }

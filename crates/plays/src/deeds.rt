@@ -1,6 +1,7 @@
 // What a line of a list does.
 use super::shown::{print_line, print_turned, print_words, told, words_of};
 use searchfile::{Answer, Session};
+use std::io;
 
 // The calls, then what no call does.
 #[derive(Clone, Copy)]
@@ -95,31 +96,33 @@ fn answered(session: Session) -> Answer {
 
 // A call that is no keyed one, or a line that makes something up.
 fn play_plain(
+    out: &impl Print,
     line: Line,
     s: Session,
     file: &mut [u32],
     buffer: &mut [u32],
     work: &mut [u32],
     marks: &mut [u8],
-) -> Answer {
+) -> io::Result<Answer> {
     let numbers = line.numbers;
     let deed = line.deed;
-    match deed {
+    let answer = match deed {
         Deed::Create => s.create(file),
         Deed::Open => s.open_file(file, buffer, marks),
         Deed::Close => s.close(file, buffer),
         Deed::Adv => s.adv(file, buffer, work),
         Deed::View => {
-            print_words(b"  lent", s.view(file, buffer, wide(numbers[0])));
+            print_words(out, b"  lent", s.view(file, buffer, wide(numbers[0])))?;
             answered(s)
         }
         Deed::Turn => {
             let answer = s.turn(file, marks);
-            print_turned(answer.session, marks);
+            print_turned(out, answer.session, marks)?;
             answer
         }
         _ => answered(made_up(line, s, file, buffer)),
-    }
+    };
+    Ok(answer)
 }
 
 // A keyed call, its key or record put into the workspace first.
@@ -165,25 +168,26 @@ fn is_unknown(deed: Deed) -> bool {
 
 // One line: what it does, and what it leaves.
 pub fn play(
+    out: &impl Print,
     line: Line,
     s: Session,
     file: &mut [u32],
     buffer: &mut [u32],
     work: &mut [u32],
     marks: &mut [u8],
-) -> Session {
+) -> io::Result<Session> {
     let deed = line.deed;
     if is_remark(deed) {
-        return s;
+        return Ok(s);
     }
-    print_line(line);
+    print_line(out, line)?;
     if is_unknown(deed) {
-        return s;
+        return Ok(s);
     }
     if is_keyed(deed) {
         let answer = play_keyed(line, s, file, buffer, work);
-        return told(answer, file, buffer, work);
+        return told(out, answer, file, buffer, work);
     }
-    let answer = play_plain(line, s, file, buffer, work, marks);
-    told(answer, file, buffer, work)
+    let answer = play_plain(out, line, s, file, buffer, work, marks)?;
+    told(out, answer, file, buffer, work)
 }

@@ -7,6 +7,7 @@ use drum::Description;
 use lines::{Named, Parameters, Reading};
 use rules::Call;
 use searchfile::Session;
+use std::io;
 
 // A line, and how many bytes it takes.
 #[derive(Clone, Copy)]
@@ -127,25 +128,27 @@ fn behind(at: usize, size: usize, end: usize) -> usize
 
 // All lines of a text.
 fn play_lines(
+    out: &impl Print,
     text: &[u8],
     start: Session,
     file: &mut [u32],
     buffer: &mut [u32],
     work: &mut [u32],
     marks: &mut [u8],
-) {
+) -> io::Result<()> {
     let end = text.len();
     let mut s = start;
     let mut at = 0;
     while at < end {
         let taking = take_line(&text[at..]);
-        s = play(taking.line, s, file, buffer, work, marks);
+        s = play(out, taking.line, s, file, buffer, work, marks)?;
         at = behind(at, taking.size, end);
     }
+    Ok(())
 }
 
 // The lines of a list over a file of zeros of at most 8,192 words.
-fn play_with(p: Description, text: &[u8])
+fn play_with(out: &impl Print, p: Description, text: &[u8]) -> io::Result<()>
     requires { good_params p ≡ true }
 {
     let mut file = [0u32; 8192];
@@ -158,32 +161,30 @@ fn play_with(p: Description, text: &[u8])
     let n = least(p.n, 4096);
     let s = Session::new(p);
     play_lines(
+        out,
         text,
         s,
         &mut file[..size],
         &mut buffer[..wpb],
         &mut work[..wpr],
         &mut marks[..n],
-    );
+    )
 }
 
 // A list: the parameters on its first line.
-pub fn play_list(text: &[u8]) {
+pub fn play_list(out: &impl Print, text: &[u8]) -> io::Result<()> {
     let mut name = [0u8; 8];
     let mut numbers = [0u32; 16];
     let taken = lines::take(Reading::new(), text, 0, &mut name, &mut numbers);
     let at = least(taken.at, text.len());
     let given = lines::parameters_of(taken.reading, &numbers);
     match given {
-        Parameters::Nothing => {
-            io::write_all(1, b"no parameters\n");
-        }
+        Parameters::Nothing => out.write_all(b"no parameters\n"),
         Parameters::Given { p } => {
             if p.is_good() {
-                play_with(p, &text[at..]);
-                return;
+                return play_with(out, p, &text[at..]);
             }
-            io::write_all(1, b"parameters out of range\n");
+            out.write_all(b"parameters out of range\n")
         }
     }
 }

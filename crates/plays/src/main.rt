@@ -11,25 +11,26 @@ mod deeds;
 mod list;
 mod shown;
 
+use std::env;
+use std::fs::File;
+use std::io::{self, Read};
+use std::rt::Files;
+
 // At most 65,536 bytes of a list are read.
-fn play_named(i: usize) {
-    let mut path = io::buffer();
-    let length = os::arg(i, &mut path);
-    io::write_all(1, &path[..length]);
-    io::write_all(1, b":\n");
-    let fd = os::open_read(&path[..length]);
-    if fd < 0 {
-        os::fail(&path[..length]);
-        return;
-    }
-    let mut text = io::large_buffer();
-    let count = io::read_full(fd, &mut text);
-    libc::close(fd);
-    list::play_list(&text[..count]);
+fn play_named(rt: &(impl Print + Eprint + Files + Alloc), path: &str) -> io::Result<()> {
+    println!(rt; "{path}:")?;
+    let file = match File::open(rt, path) {
+        Ok(file) => file,
+        Err(error) => return eprintln!(rt; "{path}: {error}"),
+    };
+    let mut text = Vec::new(rt.alloc());
+    file.take(65536).read_to_end(&mut text)?;
+    list::play_list(rt, &text)
 }
 
-fn main() {
-    for i in 1..os::arg_count() {
-        play_named(i);
+fn main(rt: HostRuntime) -> io::Result<()> {
+    for path in env::args(&rt)?.skip(1) {
+        play_named(&rt, &path)?;
     }
+    Ok(())
 }

@@ -3,6 +3,7 @@ ghost use Rattle.std.specs.Prelude.{◌≤◌};
 
 use super::deeds::{Deed, Line};
 use searchfile::{Answer, Session};
+use std::io;
 
 fn long(x: u32) -> u64 {
     x as u64
@@ -16,61 +17,48 @@ fn count(x: usize) -> u64 {
     x as u64
 }
 
-fn print_bytes(text: &[u8]) {
-    io::write_all(1, text);
+fn print_bytes(out: &impl Print, text: &[u8]) -> io::Result<()> {
+    out.write_all(text)
 }
 
-fn print_number(n: u64) {
-    print_bytes(b" ");
-    io::print_decimal(1, n);
+fn print_number(out: &impl Print, n: u64) -> io::Result<()> {
+    print!(out; " {n}")
 }
 
 // A number as six octal digits.
-fn print_octal(n: u32) {
-    let text = [
-        b' ',
-        (n / 32768 % 8) as u8 + b'0',
-        (n / 4096 % 8) as u8 + b'0',
-        (n / 512 % 8) as u8 + b'0',
-        (n / 64 % 8) as u8 + b'0',
-        (n / 8 % 8) as u8 + b'0',
-        (n % 8) as u8 + b'0',
-    ];
-    print_bytes(&text);
+fn print_octal(out: &impl Print, n: u32) -> io::Result<()> {
+    print!(out; " {:06o}", n % 0o1000000)
 }
 
-pub fn print_words(label: &[u8], words: &[u32]) {
-    print_bytes(label);
-    let mut i = 0;
-    while i < words.len() {
-        print_number(long(words[i]));
-        i += 1;
+pub fn print_words(out: &impl Print, label: &[u8], words: &[u32]) -> io::Result<()> {
+    print_bytes(out, label)?;
+    for word in words {
+        print_number(out, long(*word))?;
     }
-    print_bytes(b"\n");
+    print_bytes(out, b"\n")
 }
 
-fn print_marks(marks: &[u8]) {
-    print_bytes(b" marks");
-    let mut i = 0;
-    while i < marks.len() {
-        print_number(byte(marks[i]));
-        i += 1;
+fn print_marks(out: &impl Print, marks: &[u8]) -> io::Result<()> {
+    print_bytes(out, b" marks")?;
+    for mark in marks {
+        print_number(out, byte(*mark))?;
     }
-    print_bytes(b"\n");
+    print_bytes(out, b"\n")
 }
 
 // What a turn leaves beside the file: the session's block form, and the marks.
-pub fn print_turned(s: Session, marks: &[u8]) {
+pub fn print_turned(out: &impl Print, s: Session, marks: &[u8]) -> io::Result<()> {
     let p = s.desc;
-    print_bytes(b"  form");
-    print_number(count(p.form));
-    print_marks(marks);
+    print_bytes(out, b"  form")?;
+    print_number(out, count(p.form))?;
+    print_marks(out, marks)
 }
 
-fn first_bytes(name: &[u8], n: usize) {
+fn first_bytes(out: &impl Print, name: &[u8], n: usize) -> io::Result<()> {
     if n <= name.len() {
-        print_bytes(&name[..n]);
+        print_bytes(out, &name[..n])?;
     }
+    Ok(())
 }
 
 // How many words of a line count: those given, three at least.
@@ -86,33 +74,34 @@ pub fn words_of(given: usize) -> usize
     given
 }
 
-fn first_words(words: &[u32], n: usize) {
+fn first_words(out: &impl Print, words: &[u32], n: usize) -> io::Result<()> {
     if n <= words.len() {
-        print_words(b"", &words[..n]);
+        print_words(out, b"", &words[..n])?;
     }
+    Ok(())
 }
 
-fn print_name(deed: Deed, name: &[u8], n: usize) {
+fn print_name(out: &impl Print, deed: Deed, name: &[u8], n: usize) -> io::Result<()> {
     match deed {
-        Deed::Short => print_bytes(b"SEEK, short workspace"),
+        Deed::Short => print_bytes(out, b"SEEK, short workspace"),
         Deed::FileWord | Deed::BufferWord | Deed::Current | Deed::Position => {
-            print_bytes(b"made up:")
+            print_bytes(out, b"made up:")
         }
         Deed::Unknown => {
-            print_bytes(b"no such line: ");
-            first_bytes(name, n);
+            print_bytes(out, b"no such line: ")?;
+            first_bytes(out, name, n)
         }
-        _ => first_bytes(name, n),
+        _ => first_bytes(out, name, n),
     }
 }
 
 // What a line does, and its words.
-pub fn print_line(line: Line) {
+pub fn print_line(out: &impl Print, line: Line) -> io::Result<()> {
     let name = line.name;
     let numbers = line.numbers;
     let deed = line.deed;
-    print_name(deed, &name, line.spelled);
-    first_words(&numbers, words_of(line.count));
+    print_name(out, deed, &name, line.spelled)?;
+    first_words(out, &numbers, words_of(line.count))
 }
 
 fn flag_number(b: bool) -> u64 {
@@ -122,28 +111,34 @@ fn flag_number(b: bool) -> u64 {
     0
 }
 
-fn print_session(s: Session) {
-    print_bytes(b"  open");
-    print_number(flag_number(s.opened));
-    print_bytes(b" current");
-    print_number(count(s.current));
-    print_bytes(b" flag");
-    print_number(flag_number(s.flag));
-    print_bytes(b" position");
-    print_number(flag_number(s.placed));
+fn print_session(out: &impl Print, s: Session) -> io::Result<()> {
+    print_bytes(out, b"  open")?;
+    print_number(out, flag_number(s.opened))?;
+    print_bytes(out, b" current")?;
+    print_number(out, count(s.current))?;
+    print_bytes(out, b" flag")?;
+    print_number(out, flag_number(s.flag))?;
+    print_bytes(out, b" position")?;
+    print_number(out, flag_number(s.placed))?;
     let position = s.position;
-    print_number(long(position[0]));
-    print_bytes(b"\n");
+    print_number(out, long(position[0]))?;
+    print_bytes(out, b"\n")
 }
 
 // An answer, and the words as they are then; the session to go on with.
-pub fn told(answer: Answer, file: &[u32], buffer: &[u32], work: &[u32]) -> Session {
-    print_octal(answer.number);
-    print_number(count(answer.transfers));
+pub fn told(
+    out: &impl Print,
+    answer: Answer,
+    file: &[u32],
+    buffer: &[u32],
+    work: &[u32],
+) -> io::Result<Session> {
+    print_octal(out, answer.number)?;
+    print_number(out, count(answer.transfers))?;
     let s = answer.session;
-    print_session(s);
-    print_words(b"  workspace", work);
-    print_words(b"  buffer", buffer);
-    print_words(b"  file", file);
-    s
+    print_session(out, s)?;
+    print_words(out, b"  workspace", work)?;
+    print_words(out, b"  buffer", buffer)?;
+    print_words(out, b"  file", file)?;
+    Ok(s)
 }

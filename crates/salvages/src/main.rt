@@ -6,6 +6,7 @@ mod said;
 
 use drum::Description;
 use said::{end_line, print_words, told};
+use std::io;
 
 fn description(wpb: usize, wpr: usize, control: usize, n: usize, form: usize) -> Description {
     Description::new()
@@ -18,7 +19,7 @@ fn description(wpb: usize, wpr: usize, control: usize, n: usize, form: usize) ->
 }
 
 // Every reason but 6: an index block, an out of order one, a second copy, a count above D, a word above 262143, a free block.
-fn damaged(form: usize) {
+fn damaged(out: &impl Print, form: usize) -> io::Result<()> {
     let copy = [
         0, 0, 0, 0, 0, 0, 4098, 10, 2, 262143, 3, 0, 0, 0, 8194, 5, 7, 7, 10, 1, 2, 0, 8193,
         262143, 0, 0, 0, 0, 0, 0, 8194, 20, 3, 4, 10, 9, 9, 0, 8194, 10, 8, 8, 30, 1, 1, 4000000,
@@ -29,14 +30,14 @@ fn damaged(form: usize) {
     let mut report = [5u32; 72];
     let p = description(8, 3, 1, 8, form);
     let done = salvage::salvage(p, &copy, &mut fresh, &mut buffer, &mut report);
-    told(b"DAMAGED", done, &report);
-    print_words(b"  fresh", &fresh);
-    print_words(b"\n  buffer", &buffer);
-    end_line();
+    told(out, b"DAMAGED", done, &report)?;
+    print_words(out, b"  fresh", &fresh)?;
+    print_words(out, b"\n  buffer", &buffer)?;
+    end_line(out)
 }
 
 // Key 4 lacks room in block 2, so its copy in block 3 lacks room too.
-fn crowded() {
+fn crowded(out: &impl Print) -> io::Result<()> {
     let copy = [
         0, 0, 0, 0, 0, 0, 8194, 3, 0, 5, 0, 0, 8194, 1, 0, 4, 0, 0, 8194, 4, 9, 262143, 0, 0,
     ];
@@ -45,14 +46,14 @@ fn crowded() {
     let mut report = [5u32; 27];
     let p = description(6, 2, 1, 3, 1);
     let done = salvage::salvage(p, &copy, &mut fresh, &mut buffer, &mut report);
-    told(b"CROWDED", done, &report);
-    print_words(b"  fresh", &fresh);
-    print_words(b"\n  buffer", &buffer);
-    end_line();
+    told(out, b"CROWDED", done, &report)?;
+    print_words(out, b"  fresh", &fresh)?;
+    print_words(out, b"\n  buffer", &buffer)?;
+    end_line(out)
 }
 
 // A good file of three detail blocks, filled by XTEND: its two last records lack room in one filled by NSERT.
-fn good() {
+fn good(out: &impl Print) -> io::Result<()> {
     let copy = [
         1, 0, 5, 262143, 1, 0, 4099, 3, 2, 6, 3, 262143, 4, 0, 8195, 1, 0, 2, 0, 3, 0, 0, 8195, 4,
         0, 5, 0, 6, 0, 0, 8195, 7, 0, 8, 0, 262143, 0, 0,
@@ -62,14 +63,14 @@ fn good() {
     let mut report = [5u32; 48];
     let p = description(8, 2, 1, 4, 1);
     let done = salvage::salvage(p, &copy, &mut fresh, &mut buffer, &mut report);
-    told(b"GOOD", done, &report);
-    print_words(b"  fresh", &fresh);
-    print_words(b"\n  buffer", &buffer);
-    end_line();
+    told(out, b"GOOD", done, &report)?;
+    print_words(out, b"  fresh", &fresh)?;
+    print_words(out, b"\n  buffer", &buffer)?;
+    end_line(out)
 }
 
 // The same with a section and two blocks more: nothing lacks room.
-fn padded() {
+fn padded(out: &impl Print) -> io::Result<()> {
     let mut copy = [0u32; 56];
     let words = [
         4099, 3, 2, 6, 3, 262143, 4, 0, 8195, 1, 0, 2, 0, 3, 0, 0, 8195, 4, 0, 5, 0, 6, 0, 0, 8195,
@@ -81,31 +82,31 @@ fn padded() {
     let mut report = [5u32; 72];
     let p = description(8, 2, 2, 6, 1);
     let done = salvage::salvage(p, &copy, &mut fresh, &mut buffer, &mut report);
-    told(b"PADDED", done, &report);
-    print_words(b"  fresh", &fresh);
-    print_words(b"\n  buffer", &buffer);
-    end_line();
+    told(out, b"PADDED", done, &report)?;
+    print_words(out, b"  fresh", &fresh)?;
+    print_words(out, b"\n  buffer", &buffer)?;
+    end_line(out)
 }
 
 // 020007, all unchanged: a report one word short.
-fn short() {
+fn short(out: &impl Print) -> io::Result<()> {
     let copy = [0u32; 24];
     let mut fresh = [9u32; 24];
     let mut buffer = [7u32; 6];
     let mut report = [5u32; 26];
     let p = description(6, 2, 1, 3, 1);
     let done = salvage::salvage(p, &copy, &mut fresh, &mut buffer, &mut report);
-    told(b"SHORT", done, &report);
-    print_words(b"  fresh", &fresh);
-    print_words(b"\n  buffer", &buffer);
-    end_line();
+    told(out, b"SHORT", done, &report)?;
+    print_words(out, b"  fresh", &fresh)?;
+    print_words(out, b"\n  buffer", &buffer)?;
+    end_line(out)
 }
 
-fn main() {
-    damaged(1);
-    damaged(2);
-    crowded();
-    good();
-    padded();
-    short();
+fn main(rt: HostRuntime) -> io::Result<()> {
+    damaged(&rt, 1)?;
+    damaged(&rt, 2)?;
+    crowded(&rt)?;
+    good(&rt)?;
+    padded(&rt)?;
+    short(&rt)
 }

@@ -1,5 +1,6 @@
 // What is printed: what the call answered, and rows of words.
 use salvage::Salvaged;
+use std::io;
 
 fn long(x: u32) -> u64 {
     x as u64
@@ -9,48 +10,37 @@ fn count(x: usize) -> u64 {
     x as u64
 }
 
-fn print_bytes(text: &[u8]) {
-    io::write_all(1, text);
+fn print_bytes(out: &impl Print, text: &[u8]) -> io::Result<()> {
+    out.write_all(text)
 }
 
-fn print_number(n: u64) {
-    print_bytes(b" ");
-    io::print_decimal(1, n);
+fn print_number(out: &impl Print, n: u64) -> io::Result<()> {
+    print!(out; " {n}")
 }
 
 // A number as six octal digits.
-fn print_octal(n: u32) {
-    let text = [
-        b' ',
-        (n / 32768 % 8) as u8 + b'0',
-        (n / 4096 % 8) as u8 + b'0',
-        (n / 512 % 8) as u8 + b'0',
-        (n / 64 % 8) as u8 + b'0',
-        (n / 8 % 8) as u8 + b'0',
-        (n % 8) as u8 + b'0',
-    ];
-    print_bytes(&text);
+fn print_octal(out: &impl Print, n: u32) -> io::Result<()> {
+    print!(out; " {:06o}", n % 0o1000000)
 }
 
-pub fn print_words(label: &[u8], words: &[u32]) {
-    print_bytes(label);
-    let mut i = 0;
-    while i < words.len() {
-        print_number(long(words[i]));
-        i += 1;
+pub fn print_words(out: &impl Print, label: &[u8], words: &[u32]) -> io::Result<()> {
+    print_bytes(out, label)?;
+    for word in words {
+        print_number(out, long(*word))?;
     }
+    Ok(())
 }
 
-pub fn end_line() {
-    print_bytes(b"\n");
+pub fn end_line(out: &impl Print) -> io::Result<()> {
+    print_bytes(out, b"\n")
 }
 
 // What a call came to: the number, the transfers, how many lines there are, and the report, three words a line.
-pub fn told(name: &[u8], done: Salvaged, report: &[u32]) {
-    print_bytes(name);
-    print_octal(done.number);
-    print_number(count(done.transfers));
-    print_number(count(done.lines));
-    print_words(b"\n  report", report);
-    end_line();
+pub fn told(out: &impl Print, name: &[u8], done: Salvaged, report: &[u32]) -> io::Result<()> {
+    print_bytes(out, name)?;
+    print_octal(out, done.number)?;
+    print_number(out, count(done.transfers))?;
+    print_number(out, count(done.lines))?;
+    print_words(out, b"\n  report", report)?;
+    end_line(out)
 }

@@ -1,9 +1,0 @@
--- `plays::main` meets its contract: each turn leaves one argument fewer. Assumes nothing.
-use Prim.Native.Nat.{◌-◌}
-use Rattle.plays.proofs.main.Given as goal
-
-abbrev pub invariant-loop-i : goal.invariant-loop-i
-invariant-loop-i l = Unit {0}
-
-abbrev pub decreases-loop-i : goal.decreases-loop-i
-decreases-loop-i l = l.i-end - l.i
