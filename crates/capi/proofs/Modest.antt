@@ -1,6 +1,6 @@
 -- The steps of a call leave little to tell: a current block that is the one given, or 0, or one of 1..N, and at most 16 transfers. SEEK,
 -- UPDAT and ADV.
-use Prim.Native.Nat.{ℕ, ◌+◌, ◌≤◌}
+use Prim.Native.Nat.{ℕ, ◌≤◌}
 use mathlib.Core.Path.{◌≡◌}
 use mathlib.Core.Bool.{Bool, true, false, cond}
 use mathlib.Core.List.{List, [], ◌∷◌, ◌++◌}

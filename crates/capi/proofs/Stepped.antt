@@ -25,7 +25,7 @@ use Rattle.demands.proofs.Came.{same-parameters}
 use Rattle.demands.proofs.Lengths.{lengths-kept}
 use Rattle.searchfile.specs.Promise.{counted}
 use Rattle.capi.specs.Words.{is_session, parameters_in, session_of}
-use Rattle.capi.specs.Calls.{Returned, ReturnedOpen, returned, told_in_words}
+use Rattle.capi.specs.Calls.{Returned, ReturnedOpen, told_in_words}
 use Rattle.capi.specs.Runs.{number_in, transfers_in, state_in, keeping, promised}
 use Rattle.capi.proofs.Words.{session-facts, form-none, session-kept, words_are}
 use Rattle.capi.proofs.Told.{called-some, open-some}

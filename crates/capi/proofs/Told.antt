@@ -10,7 +10,7 @@ use mir.Syntax.{w32}
 use mir.Val.{Fits}
 use lib.ListN.{length, get_or}
 use Rattle.numbers.specs.Numbers.{wrong_size}
-use Rattle.rules.specs.State.{Session, State, Outcome, desc, lent}
+use Rattle.rules.specs.State.{Session, State, Outcome, lent}
 use Rattle.rules.specs.Open.{open_file}
 use Rattle.rules.specs.Run.{created_outcome}
 use Rattle.searchfile.specs.declared.Session as code

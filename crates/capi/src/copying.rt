@@ -6,8 +6,7 @@ use super::session::{is_session, packed, session_of};
 use numbers::WRONG_SIZE;
 
 // Copies the session's file into the second one with the new CONTROL; the session stays as it is.
-#[unsafe(no_mangle)]
-pub extern "C" fn nasturakh_copy(
+pub fn nasturakh_copy(
     session: &[u32],
     file: &[u32],
     second: &mut [u32],

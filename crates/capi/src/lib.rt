@@ -1,17 +1,17 @@
-// The calls for programs in other languages. A session is lent as 73 or 74 words (module `session`), every slice is a pointer and a length, and
-// a call's answer is one number: its transfers times 2^32, plus its number. A session slice that is none answers 020007 and changes nothing.
+// The calls for programs in other languages, which crate `capi_c` exports. A session is lent as 73 or 74 words (module `session`), every slice is a pointer
+// and a length, and a call's answer is one number: its transfers times 2^32, plus its number. A session slice that is none answers 020007 and changes nothing.
 #![tactic(auto)]
 
-mod copying;
-mod names;
+pub mod copying;
+pub mod names;
 pub mod place;
 mod plan;
-mod rows;
-mod salvaging;
+pub mod rows;
+pub mod salvaging;
 pub mod session;
-mod space;
-mod trays;
-mod turning;
+pub mod space;
+pub mod trays;
+pub mod turning;
 
 ghost use Rattle.std.specs.Prelude.{◌≡◌, []};
 ghost use Rattle.rules.specs.Close.{close};
@@ -31,8 +31,7 @@ use plan::{NO_PLAN, PLAN_WORDS, plan_in};
 use session::{is_session, packed, parameters_in, session_of, told};
 
 // CREATE with the session's parameters; the session stays as it is.
-#[unsafe(no_mangle)]
-pub extern "C" fn nasturakh_create(session: &[u32], file: &mut [u32]) -> u64
+pub fn nasturakh_create(session: &[u32], file: &mut [u32]) -> u64
     ensures { returned result session.now file.new [] [] ≡ called creating session.now file.old [] [] }
 {
     if !is_session(session) {
@@ -43,13 +42,7 @@ pub extern "C" fn nasturakh_create(session: &[u32], file: &mut [u32]) -> u64
 }
 
 // OPEN, which marks every block.
-#[unsafe(no_mangle)]
-pub extern "C" fn nasturakh_open(
-    session: &mut [u32],
-    file: &[u32],
-    buffer: &[u32],
-    marks: &mut [u8],
-) -> u64
+pub fn nasturakh_open(session: &mut [u32], file: &[u32], buffer: &[u32], marks: &mut [u8]) -> u64
     ensures { marked (returned result session.new file.now buffer.now []) marks.new
         ≡ called_open session.old file.now buffer.now marks.old }
 {
@@ -61,8 +54,7 @@ pub extern "C" fn nasturakh_open(
 }
 
 // CLOSE.
-#[unsafe(no_mangle)]
-pub extern "C" fn nasturakh_close(session: &mut [u32], file: &mut [u32], buffer: &[u32]) -> u64
+pub fn nasturakh_close(session: &mut [u32], file: &mut [u32], buffer: &[u32]) -> u64
     ensures { returned result session.new file.new buffer.now []
         ≡ called close session.old file.old buffer.now [] }
 {
@@ -74,8 +66,7 @@ pub extern "C" fn nasturakh_close(session: &mut [u32], file: &mut [u32], buffer:
 }
 
 // SEEK.
-#[unsafe(no_mangle)]
-pub extern "C" fn nasturakh_seek(
+pub fn nasturakh_seek(
     session: &mut [u32],
     file: &mut [u32],
     buffer: &mut [u32],
@@ -92,8 +83,7 @@ pub extern "C" fn nasturakh_seek(
 }
 
 // ADV.
-#[unsafe(no_mangle)]
-pub extern "C" fn nasturakh_adv(
+pub fn nasturakh_adv(
     session: &mut [u32],
     file: &mut [u32],
     buffer: &mut [u32],
@@ -110,8 +100,7 @@ pub extern "C" fn nasturakh_adv(
 }
 
 // NSERT.
-#[unsafe(no_mangle)]
-pub extern "C" fn nasturakh_nsert(
+pub fn nasturakh_nsert(
     session: &mut [u32],
     file: &mut [u32],
     buffer: &mut [u32],
@@ -128,8 +117,7 @@ pub extern "C" fn nasturakh_nsert(
 }
 
 // DLETE.
-#[unsafe(no_mangle)]
-pub extern "C" fn nasturakh_dlete(
+pub fn nasturakh_dlete(
     session: &mut [u32],
     file: &mut [u32],
     buffer: &mut [u32],
@@ -146,8 +134,7 @@ pub extern "C" fn nasturakh_dlete(
 }
 
 // UPDAT.
-#[unsafe(no_mangle)]
-pub extern "C" fn nasturakh_updat(
+pub fn nasturakh_updat(
     session: &mut [u32],
     file: &mut [u32],
     buffer: &mut [u32],
@@ -164,8 +151,7 @@ pub extern "C" fn nasturakh_updat(
 }
 
 // XTEND.
-#[unsafe(no_mangle)]
-pub extern "C" fn nasturakh_xtend(
+pub fn nasturakh_xtend(
     session: &mut [u32],
     file: &mut [u32],
     buffer: &mut [u32],
@@ -182,8 +168,7 @@ pub extern "C" fn nasturakh_xtend(
 }
 
 // VIEW: where the current text of the block lies.
-#[unsafe(no_mangle)]
-pub extern "C" fn nasturakh_view(session: &[u32], file: &[u32], buffer: &[u32], block: usize) -> u64
+pub fn nasturakh_view(session: &[u32], file: &[u32], buffer: &[u32], block: usize) -> u64
     ensures { result ≡ viewed session.now file.now buffer.now block }
 {
     if !is_session(session) {
@@ -194,8 +179,7 @@ pub extern "C" fn nasturakh_view(session: &[u32], file: &[u32], buffer: &[u32], 
 }
 
 // The most transfers that a planned session can cost; 2^64 - 1 where there is no session or no plan.
-#[unsafe(no_mangle)]
-pub extern "C" fn nasturakh_most_transfers(session: &[u32], plan: &[u32]) -> u64
+pub fn nasturakh_most_transfers(session: &[u32], plan: &[u32]) -> u64
     ensures { result ≡ most_in session.now plan.now }
 {
     if !is_session(session) {

@@ -7,8 +7,7 @@ use super::session::{is_session, packed, session_of, told};
 use numbers::WRONG_SIZE;
 
 // Enters the workspace's key as a raw name.
-#[unsafe(no_mangle)]
-pub extern "C" fn nasturakh_enter(
+pub fn nasturakh_enter(
     session: &mut [u32],
     file: &mut [u32],
     buffer: &mut [u32],
@@ -25,8 +24,7 @@ pub extern "C" fn nasturakh_enter(
 }
 
 // Asks for a name: its record to the workspace.
-#[unsafe(no_mangle)]
-pub extern "C" fn nasturakh_ask(
+pub fn nasturakh_ask(
     session: &mut [u32],
     file: &mut [u32],
     buffer: &mut [u32],
@@ -43,8 +41,7 @@ pub extern "C" fn nasturakh_ask(
 }
 
 // Romanises a raw name with the spelling.
-#[unsafe(no_mangle)]
-pub extern "C" fn nasturakh_romanise(
+pub fn nasturakh_romanise(
     session: &mut [u32],
     file: &mut [u32],
     buffer: &mut [u32],
@@ -62,8 +59,7 @@ pub extern "C" fn nasturakh_romanise(
 }
 
 // Holds a romanised name.
-#[unsafe(no_mangle)]
-pub extern "C" fn nasturakh_hold(
+pub fn nasturakh_hold(
     session: &mut [u32],
     file: &mut [u32],
     buffer: &mut [u32],
@@ -80,8 +76,7 @@ pub extern "C" fn nasturakh_hold(
 }
 
 // Frees a held name.
-#[unsafe(no_mangle)]
-pub extern "C" fn nasturakh_free_name(
+pub fn nasturakh_free_name(
     session: &mut [u32],
     file: &mut [u32],
     buffer: &mut [u32],

@@ -10,8 +10,7 @@ const TOLD_WORDS: usize = 2;
 
 // Builds a fresh file of the records in the copy, and reports what was not carried; tells the transfers and the lines. Of the session only the
 // parameters are used.
-#[unsafe(no_mangle)]
-pub extern "C" fn nasturakh_salvage(
+pub fn nasturakh_salvage(
     session: &[u32],
     copy: &[u32],
     fresh: &mut [u32],

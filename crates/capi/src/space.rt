@@ -7,8 +7,7 @@ use super::plan::NO_PLAN;
 use super::session::{is_session, parameters_in};
 
 // The most blocks that so many names take, put in by NSERT in any order; 2^64 - 1 where there is no session.
-#[unsafe(no_mangle)]
-pub extern "C" fn nasturakh_most_blocks(session: &[u32], names: u32) -> u64
+pub fn nasturakh_most_blocks(session: &[u32], names: u32) -> u64
     ensures { result ≡ space_in most_blocks session.now names }
 {
     if !is_session(session) {
@@ -22,8 +21,7 @@ pub extern "C" fn nasturakh_most_blocks(session: &[u32], names: u32) -> u64
 }
 
 // The most sections that they take; 2^64 - 1 where there is no session.
-#[unsafe(no_mangle)]
-pub extern "C" fn nasturakh_most_sections(session: &[u32], names: u32) -> u64
+pub fn nasturakh_most_sections(session: &[u32], names: u32) -> u64
     ensures { result ≡ space_in most_sections session.now names }
 {
     if !is_session(session) {

@@ -9,8 +9,7 @@ use numbers::WRONG_SIZE;
 const TOLD_WORDS: usize = 2;
 
 // Puts in the records of the tray; tells the transfers and how many were stored.
-#[unsafe(no_mangle)]
-pub extern "C" fn nasturakh_nsert_tray(
+pub fn nasturakh_nsert_tray(
     session: &mut [u32],
     file: &mut [u32],
     buffer: &mut [u32],

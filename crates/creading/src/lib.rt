@@ -1,5 +1,5 @@
-// The reading set's calls for programs in other languages, in an archive of their own: shapes and answers are those of the full set's calls, the file is
-// lent to be read alone.
+// The reading set's calls for programs in other languages, which crate `creading_c` exports: shapes and answers are those of the full set's calls, the
+// file is lent to be read alone.
 #![tactic(auto)]
 
 mod session;
@@ -15,8 +15,7 @@ use numbers::WRONG_SIZE;
 use session::{is_reading, reading_of, told_reading};
 
 // OPEN, which marks every block.
-#[unsafe(no_mangle)]
-pub extern "C" fn nasturakh_reading_open(
+pub fn nasturakh_reading_open(
     session: &mut [u32],
     file: &[u32],
     buffer: &[u32],
@@ -33,8 +32,7 @@ pub extern "C" fn nasturakh_reading_open(
 }
 
 // CLOSE.
-#[unsafe(no_mangle)]
-pub extern "C" fn nasturakh_reading_close(session: &mut [u32], file: &[u32], buffer: &[u32]) -> u64
+pub fn nasturakh_reading_close(session: &mut [u32], file: &[u32], buffer: &[u32]) -> u64
     ensures { returned result session.new file.now buffer.now []
         ≡ called_reading read_close session.old file.now buffer.now [] }
 {
@@ -46,8 +44,7 @@ pub extern "C" fn nasturakh_reading_close(session: &mut [u32], file: &[u32], buf
 }
 
 // SEEK.
-#[unsafe(no_mangle)]
-pub extern "C" fn nasturakh_reading_seek(
+pub fn nasturakh_reading_seek(
     session: &mut [u32],
     file: &[u32],
     buffer: &mut [u32],
@@ -64,8 +61,7 @@ pub extern "C" fn nasturakh_reading_seek(
 }
 
 // ADV.
-#[unsafe(no_mangle)]
-pub extern "C" fn nasturakh_reading_adv(
+pub fn nasturakh_reading_adv(
     session: &mut [u32],
     file: &[u32],
     buffer: &mut [u32],
@@ -82,8 +78,7 @@ pub extern "C" fn nasturakh_reading_adv(
 }
 
 // NSERT, refused.
-#[unsafe(no_mangle)]
-pub extern "C" fn nasturakh_reading_nsert(
+pub fn nasturakh_reading_nsert(
     session: &mut [u32],
     file: &[u32],
     buffer: &[u32],
@@ -100,8 +95,7 @@ pub extern "C" fn nasturakh_reading_nsert(
 }
 
 // DLETE, refused.
-#[unsafe(no_mangle)]
-pub extern "C" fn nasturakh_reading_dlete(
+pub fn nasturakh_reading_dlete(
     session: &mut [u32],
     file: &[u32],
     buffer: &[u32],
@@ -118,8 +112,7 @@ pub extern "C" fn nasturakh_reading_dlete(
 }
 
 // UPDAT, refused.
-#[unsafe(no_mangle)]
-pub extern "C" fn nasturakh_reading_updat(
+pub fn nasturakh_reading_updat(
     session: &mut [u32],
     file: &[u32],
     buffer: &[u32],
@@ -136,8 +129,7 @@ pub extern "C" fn nasturakh_reading_updat(
 }
 
 // XTEND, refused.
-#[unsafe(no_mangle)]
-pub extern "C" fn nasturakh_reading_xtend(
+pub fn nasturakh_reading_xtend(
     session: &mut [u32],
     file: &[u32],
     buffer: &[u32],
@@ -154,13 +146,7 @@ pub extern "C" fn nasturakh_reading_xtend(
 }
 
 // VIEW: where the current text of a block lies, as the full set tells it.
-#[unsafe(no_mangle)]
-pub extern "C" fn nasturakh_reading_view(
-    session: &[u32],
-    file: &[u32],
-    buffer: &[u32],
-    block: usize,
-) -> u64
+pub fn nasturakh_reading_view(session: &[u32], file: &[u32], buffer: &[u32], block: usize) -> u64
     ensures { result ≡ viewed_reading session.now file.now buffer.now block }
 {
     if !is_reading(session) {

@@ -1,0 +1,18 @@
+// The copying call for programs in other languages.
+ghost use Rattle.std.specs.Prelude.{◌≡◌};
+ghost use Rattle.capi.specs.Copying.{returned_copy, called_copy};
+
+// Copies the session's file into the second one with the new CONTROL; the session stays as it is.
+#[unsafe(no_mangle)]
+pub extern "C" fn nasturakh_copy(
+    session: &[u32],
+    file: &[u32],
+    second: &mut [u32],
+    control: usize,
+    marks: &mut [u8],
+) -> u64
+    ensures { returned_copy result session.now file.now second.new marks.new
+        ≡ called_copy session.now file.now second.old control marks.old }
+{
+    capi::copying::nasturakh_copy(session, file, second, control, marks)
+}

@@ -1,0 +1,19 @@
+// A tray of records put in by one call, for programs in other languages. The sum of the transfers may need more than 32 bits, so the number is
+// returned alone and the two figures go to words that are lent for them.
+ghost use Rattle.std.specs.Prelude.{◌≡◌};
+ghost use Rattle.capi.specs.Tray.{returned_tray, called_tray};
+
+// Puts in the records of the tray; tells the transfers and how many were stored.
+#[unsafe(no_mangle)]
+pub extern "C" fn nasturakh_nsert_tray(
+    session: &mut [u32],
+    file: &mut [u32],
+    buffer: &mut [u32],
+    tray: &[u32],
+    told: &mut [u64],
+) -> u64
+    ensures { returned_tray result session.new file.new buffer.new told.new
+        ≡ called_tray session.old file.old buffer.old tray.now told.old }
+{
+    capi::trays::nasturakh_nsert_tray(session, file, buffer, tray, told)
+}
