@@ -18,9 +18,9 @@ abbrev Filled : ℕ → ℕ → List ℕ → Type 0
 Filled cap n counts = All (λ c. c ≤ suc n + (c - low_count cap)) counts
 
 -- the last count, or d where there is none
-abbrev pub last_or_lem : ℕ → List ℕ → ℕ
-last_or_lem d [] = d
-last_or_lem d (c ∷ cs) = last_or_lem c cs
+abbrev pub last_or : ℕ → List ℕ → ℕ
+last_or d [] = d
+last_or d (c ∷ cs) = last_or c cs
 
 excess-append : (cap : ℕ) (xs ys : List ℕ) → excess cap (xs ++ ys) ≡ excess cap xs + excess cap ys
 unfolding excess
@@ -31,16 +31,16 @@ filled_more : (cap n m : ℕ) → n ≤ m → (cs : List ℕ) → Filled cap n c
 filled_more cap n m l [] h = tt
 filled_more cap n m l (c ∷ cs) h = (omega (arith, h.0), filled_more cap n m l cs h.1)
 
-pub last_or-append : (d : ℕ) (xs ys : List ℕ) → last_or_lem d (xs ++ ys) ≡ last_or_lem (last_or_lem d xs) ys
+pub last_or-append : (d : ℕ) (xs ys : List ℕ) → last_or d (xs ++ ys) ≡ last_or (last_or d xs) ys
 last_or-append d [] ys = refl
 last_or-append d (x ∷ xs) ys = last_or-append x xs ys
 
 -- the last count grows no more than an earlier one does
-last_or-le : (a b : ℕ) (ys : List ℕ) → a ≤ b → last_or_lem a ys ≤ last_or_lem b ys
+last_or-le : (a b : ℕ) (ys : List ℕ) → a ≤ b → last_or a ys ≤ last_or b ys
 last_or-le a b [] h = h
 last_or-le a b (y ∷ ys) h = omega arith
 
-last_or-suc : (a b : ℕ) (ys : List ℕ) → a ≤ suc b → last_or_lem a ys ≤ suc (last_or_lem b ys)
+last_or-suc : (a b : ℕ) (ys : List ℕ) → a ≤ suc b → last_or a ys ≤ suc (last_or b ys)
 last_or-suc a b [] h = h
 last_or-suc a b (y ∷ ys) h = omega arith
 
@@ -52,7 +52,7 @@ pub record Paid (cap fill : ℕ) (counts : List ℕ) (adds splits starts : ℕ) 
   pub halves : (cap + 1) / 2 * splits + excess cap counts + idle ≤ adds
   pub filled : Filled cap idle counts
   pub first : 1 ≤ splits → cap / 2 ≤ idle
-  pub fills : fill * starts + last_or_lem 1 counts ≤ suc adds
+  pub fills : fill * starts + last_or 1 counts ≤ suc adds
 
 pub paid-same : (cap fill : ℕ) (counts counts' : List ℕ) (adds adds' splits splits' starts starts' : ℕ) → counts ≡ counts' → adds ≡ adds' → splits ≡ splits'
     → starts ≡ starts'
@@ -70,7 +70,7 @@ module _ (cap fill : ℕ) (big : 2 ≤ cap) (adds splits starts : ℕ) (xs : Lis
   was-here : c ≤ suc h.idle + (c - low_count cap)
   was-here = (all_right _ xs (c ∷ ys) h.filled).0
 
-  was-last : fill * starts + last_or_lem c ys ≤ suc adds
+  was-last : fill * starts + last_or c ys ≤ suc adds
   was-last = rw (last_or-append 1 xs (c ∷ ys)) at h.fills
 
   -- others in its place
@@ -148,6 +148,6 @@ pub paid-first : (cap fill : ℕ) (counts : List ℕ) (adds splits starts : ℕ)
     → 1 ≤ splits → (cap + 1) / 2 * splits + cap / 2 ≤ adds
 paid-first cap fill counts adds splits starts h s = omega (arith, h.halves, h.first s)
 
-pub paid-fills : (cap fill : ℕ) (counts : List ℕ) (adds splits starts : ℕ) → Paid cap fill counts adds splits starts → 1 ≤ last_or_lem 1 counts
+pub paid-fills : (cap fill : ℕ) (counts : List ℕ) (adds splits starts : ℕ) → Paid cap fill counts adds splits starts → 1 ≤ last_or 1 counts
     → fill * starts ≤ adds
 paid-fills cap fill counts adds splits starts h l = omega (arith, h.fills)

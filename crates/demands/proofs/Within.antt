@@ -21,7 +21,7 @@ use Rattle.layout.specs.Tree.{Leaf, Section}
 use Rattle.demands.proofs.Trees.{leaves_in}
 use Rattle.demands.proofs.Holds.{Free, LeafFits, SectionOk}
 use Rattle.demands.proofs.Sound.{Sound}
-use Rattle.demands.proofs.Potential.{last_or_lem, paid-same, paid-halves, paid-first, paid-fills}
+use Rattle.demands.proofs.Potential.{last_or, paid-same, paid-halves, paid-first, paid-fills}
 use Rattle.demands.proofs.Growth.{counts, sizes, Growth, grown, plus, nothing, Tally, Grows, tally-made}
 use Rattle.demands.proofs.InUse.{details-are, indexes-are}
 use Rattle.demands.proofs.LastBlock.{last_number, last-is, LastTells}
@@ -155,7 +155,7 @@ ran-more p st ss f g q qs h z r =
     }
 
 -- the last leaf and the last section of a held tree are not empty
-last_some : (d : ℕ) (xs : List ℕ) → 1 ≤ d → All (λ n. 1 ≤ n) xs → 1 ≤ last_or_lem d xs
+last_some : (d : ℕ) (xs : List ℕ) → 1 ≤ d → All (λ n. 1 ≤ n) xs → 1 ≤ last_or d xs
 last_some d [] l h = l
 last_some d (n ∷ xs) l h = last_some n xs h.0 h.1
 
@@ -181,8 +181,8 @@ ran-within st qs r =
     let cs : List ℕ = counts (leaves_in r.sections) in
     let es : List ℕ = sizes r.sections in
     let ok : All (SectionOk p) r.sections = subst (λ (d : Description). All (SectionOk d) r.sections) r.desc-is r.sound.kept.holds.sized in
-    let a : 1 ≤ last_or_lem 1 cs = last_some 1 cs (omega arith) (counts_some p (leaves_in r.sections) (leaves-ok p r.sections ok)) in
-    let b : 1 ≤ last_or_lem 1 es = last_some 1 es (omega arith) (sizes-some p r.sections ok) in
+    let a : 1 ≤ last_or 1 cs = last_some 1 cs (omega arith) (counts_some p (leaves_in r.sections) (leaves-ok p r.sections ok)) in
+    let b : 1 ≤ last_or 1 es = last_some 1 es (omega arith) (sizes-some p r.sections ok) in
     record {
       splits = omega (arith, paid-halves (D p) (FD p) cs _ _ _ r.tally.leaves);
       starts = omega (arith, paid-fills (D p) (FD p) cs _ _ _ r.tally.leaves a);

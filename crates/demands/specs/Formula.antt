@@ -10,11 +10,11 @@ use Rattle.rules.specs.State.{Session, State, Outcome, desc, lent}
 use Rattle.rules.specs.Open.{create, open_file}
 use Rattle.rules.specs.Requests.{Request, opening, closing, seeking, advancing, inserting, deleting, updating, extending, answer, tally}
 
--- "h_d = (D+1)/2, h_i = (I+1)/2, rounded down." [F1]
+-- "hD = (D+1)/2, hI = (I+1)/2, rounded down." [F1]
 unfoldable pub h_d : Description → ℕ
 h_d p = (D p + 1) / 2
 
--- "h_i = (I+1)/2" [F1]
+-- "hI = (I+1)/2" [F1]
 unfoldable pub h_i : Description → ℕ
 h_i p = (I p + 1) / 2
 
@@ -128,7 +128,7 @@ module _ (st : State) (qs : List Request) where
   unfoldable pub shares : ℕ
   shares = tally (λ before q o. share q) st qs
 
--- "hD·S ≤ M, FD-as-X ≤ M, hI·s ≤ S+X, FI·x ≤ S+X, and the sum of transfers is at most 3·(SEEK+UPDAT+NSERT) + 5·ADV + 6·DLETE + 4·XTEND +
+-- "hD·S ≤ M, FD·X ≤ M, hI·s ≤ S+X, FI·x ≤ S+X, and the sum of transfers is at most 3·(SEEK+UPDAT+NSERT) + 5·ADV + 6·DLETE + 4·XTEND +
 -- CLOSE + 4·(S+X) + s + x, calls counted whether refused or not.", with 6 for XTEND's 4 [F3, F4, E6]
 pub record Within (st : State) (qs : List Request) : Type 0 where
   pub splits : h_d (desc st) * S st qs ≤ M st qs

@@ -29,9 +29,9 @@ OnlyNserts st qs = tally (λ before q o. other_change q o) st qs ≡ 0
 
 -- of a state and the number of its records, the end record counted [F6, F7]
 pub record HalfFull (st : State) (records : ℕ) : Type 0 where
-  -- "the number of detail blocks, if more than one, times h_d is at most its records, the end record counted"
+  -- "the number of detail blocks, if more than one, times hD is at most its records, the end record counted"
   pub details : 2 ≤ detail_blocks st → h_d (desc st) * detail_blocks st ≤ records
-  -- "likewise index blocks, if more than one, times h_i against detail blocks"
+  -- "likewise index blocks, if more than one, times hI against detail blocks"
   pub indexes : 2 ≤ index_blocks st → h_i (desc st) * index_blocks st ≤ detail_blocks st
 
 -- from a CREATE and then an OPEN that both answer 0, after any such calls, closing and reopening included: of the records of the file with the

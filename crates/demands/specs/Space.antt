@@ -9,11 +9,11 @@ use Rattle.demands.specs.Formula.{h_d, h_i, detail_blocks, index_blocks, M, Afte
 use Rattle.demands.specs.Reuse.{larger}
 use Rattle.demands.specs.Full.{OnlyNserts}
 
--- the detail blocks of r names: "if more than one, times h_d is at most its records, the end record counted" [F6, F9]
+-- the detail blocks of r names: "if more than one, times hD is at most its records, the end record counted" [F6, F9]
 unfoldable pub most_details : Description → ℕ → ℕ
 most_details p r = larger 1 ((r + 1) / h_d p)
 
--- the sections, each with its index block: "likewise index blocks, if more than one, times h_i against detail blocks" [F7, F9]
+-- the sections, each with its index block: "likewise index blocks, if more than one, times hI against detail blocks" [F7, F9]
 unfoldable pub most_sections : Description → ℕ → ℕ
 most_sections p r = larger 1 (most_details p r / h_i p)
 

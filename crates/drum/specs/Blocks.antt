@@ -69,7 +69,7 @@ pub record Texts : Type 0 where
 abbrev pub seen : Description → ℕ → List ℕ → List ℕ → Texts
 seen p cur f b = record { desc = p; current = cur; file = f; buffer = b }
 
--- the same of lent words, as they were when a function was called
+-- the same of the words that lent slices hold when a function is called, as its promise names them
 abbrev pub at_entry : Description → ℕ → List ℕ → List ℕ → Texts
 at_entry p current file buffer = seen p current file buffer
 

@@ -44,7 +44,7 @@ PrintsRows =
     (input : List ℕ) (p : Description) (ls : List (List ℕ)) → SessionInput input p ls
     → rows (output input) ≡ map row_of (results (begun p) (making ++ asked p ls))
 
--- "hD·S ≤ M, FD-as-X ≤ M, hI·s ≤ S+X, FI·x ≤ S+X, and the sum of transfers is at most 3·(SEEK+UPDAT+NSERT) + 5·ADV + 6·DLETE + 4·XTEND + CLOSE
+-- "hD·S ≤ M, FD·X ≤ M, hI·s ≤ S+X, FI·x ≤ S+X, and the sum of transfers is at most 3·(SEEK+UPDAT+NSERT) + 5·ADV + 6·DLETE + 4·XTEND + CLOSE
 -- + 4·(S+X) + s + x", with 6 for XTEND's 4 [E6]: with M, the sum and the calls as the rows have them
 pub record KeepsFormula (p : Description) (printed : List Row) (S s X x : ℕ) : Type 0 where
   pub splits : h_d p * S ≤ M printed
