@@ -6,7 +6,7 @@ use mathlib.Core.List.{List}
 use lib.ListN.{length, take, drop, length-take}
 use Rattle.lines.specs.declared.Taken.{Taken}
 use Rattle.lines.specs.Reading.{Read}
-use Rattle.lines.specs.Promise.{Took, took, to_line_feed}
+use Rattle.lines.specs.Promise.{took, to_line_feed}
 use Rattle.lines.proofs.Kept.{taken-within}
 use Rattle.terminal.specs.declared.input.Place.{Place}
 use Rattle.terminal.specs.Places.{Ready}

@@ -1,5 +1,4 @@
 -- A first line that is good gives parameters with which calls are played.
-use borrow.Author.Rules.{rules}
 use Rattle.terminal.proofs.Rooms.{started, begun-playable}
 use Rattle.terminal.proofs.play.Goals as goal
 
