@@ -1,5 +1,4 @@
 -- `printed::refuse_line` meets its contract: the name found in what was kept decides.
-use Rattle.std.proofs.Common.{rules}
 use Rattle.printed.proofs.Telling.{bad-said, refused-said}
 use Rattle.printed.proofs.refuse_line.Goals as goal
 
