@@ -11,26 +11,59 @@ mod deeds;
 mod list;
 mod shown;
 
-use std::env;
-use std::fs::File;
-use std::io::{self, Read};
-use std::rt::Files;
+ghost use Rattle.std.specs.Prelude.{◌≤◌};
 
-// At most 65,536 bytes of a list are read.
-fn play_named(rt: &(impl Print + Eprint + Files + Alloc), path: &str) -> io::Result<()> {
-    println!(rt; "{path}:")?;
-    let file = match File::open(rt, path) {
-        Ok(file) => file,
-        Err(error) => return eprintln!(rt; "{path}: {error}"),
-    };
-    let mut text = Vec::new(rt.alloc());
-    file.take(65536).read_to_end(&mut text)?;
-    list::play_list(rt, &text)
+use std::env::{Env, FillError};
+use std::fs::File;
+use std::io::{self, Error, ErrorKind, Read};
+
+// Reads until `text` is full, the list ends or a read fails, and returns how many bytes were read.
+fn read_full<R: Read>(list: &mut R, text: &mut [u8; 65536]) -> usize
+    ensures { result ≤ 65536 }
+{
+    let mut done = 0;
+    while done < 65536 {
+        match list.read(&mut text[done..]) {
+            Ok(n) if n != 0 => done += n,
+            _ => break,
+        }
+    }
+    done
 }
 
+// A path is text.
+fn open(rt: &HostRuntime, name: &[u8]) -> io::Result<File> {
+    match str::from_utf8(name) {
+        Ok(path) => File::open(rt, path),
+        Err(_) => Err(Error::from(ErrorKind::InvalidData)),
+    }
+}
+
+// At most 65,536 bytes of a list are read.
+fn play_named(rt: &HostRuntime, name: &[u8]) -> io::Result<()> {
+    rt.write_all(name)?;
+    rt.write_all(b":\n")?;
+    let mut list = match open(rt, name) {
+        Ok(list) => list,
+        Err(e) => {
+            rt.stderr().write_all(name)?;
+            return rt.eprintln(format_args!(": {e}"));
+        }
+    };
+    let mut text = [0; 65536];
+    let n = read_full(&mut list, &mut text);
+    list::play_list(rt, &text[..n])
+}
+
+// A name above 4,096 bytes is taken for none.
 fn main(rt: HostRuntime) -> io::Result<()> {
-    for path in env::args(&rt)?.skip(1) {
-        play_named(&rt, &path)?;
+    let mut name = [0; 4096];
+    for i in 1..usize::MAX {
+        match rt.arg(i, &mut name) {
+            Ok(length) => play_named(&rt, &name[..length])?,
+            Err(FillError::TooLong) => play_named(&rt, &name[..0])?,
+            Err(FillError::NotPresent) => break,
+        }
     }
     Ok(())
 }
