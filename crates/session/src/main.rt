@@ -15,9 +15,10 @@ fn text_of(ending: Ending) -> [u8; 2] {
     }
 }
 
-// How the session ended, for a caller that asks; one that gave no descriptor 3 is told nothing.
+// How the session ended, for a caller that asks; one that gave no descriptor 3 is told nothing. The descriptor is opened anew, at the end of what it
+// holds.
 fn write_ending(rt: &HostRuntime, ending: Ending) -> bool {
-    match OpenOptions::new().write(true).open(rt, "/dev/fd/3") {
+    match OpenOptions::new().append(true).open(rt, "/dev/fd/3") {
         Ok(mut asking) => asking.write_all(&text_of(ending)).is_ok(),
         Err(_) => false,
     }
