@@ -19,6 +19,7 @@ use Rattle.drum.proofs.Blocks.{text-current, text-other, block-still}
 use Rattle.rules.specs.declared.Path.{Path}
 use Rattle.rules.specs.declared.Way.{Way}
 use Rattle.rules.specs.declared.Way.TheVariants.{Here, By}
+use Rattle.rules.specs.declared.Done.{Done}
 use Rattle.rules.specs.Lookup.{flush_moves, reached, stopping}
 use Rattle.rules.specs.Fits.{FlushFits, WayFits}
 use Rattle.rules.specs.Told.{gave, told}
@@ -124,12 +125,13 @@ module _ (p : Description) (cur : ℕ) (flag : Bool) (f b : List ℕ) where
       way-file g eg = rw e (eg ∙ by-file v flag w f)
 
     -- the call stops at the block reached
-    pub stop-told : (here : Arrived) (g t : List ℕ) (number : ℕ) → came here g t ≡ come (reached v flag way)
-        → gave (record { number = number; transfers = here.transfers; current = here.current; flag = here.flag; keyed = false }) g t []
-        ≡ told v flag [] (passed (stopping number [] (reached v flag way)))
+    pub stop-told : (here : Arrived) (g t : List ℕ) (number : ℕ) (r : Done) → came here g t ≡ come (reached v flag way)
+        → r ≡ record { number = number; transfers = here.transfers; current = here.current; flag = here.flag; keyed = false }
+        → gave r g t [] ≡ told v flag [] (passed (stopping number [] (reached v flag way)))
     unfolding stopping
-    stop-told here g t number e =
-        λ j. record {
+    stop-told here g t number r e er =
+        ap (λ (z : Done). gave z g t []) er
+        ∙ (λ j. record {
           number = number;
           transfers = (e j).transfers;
           current = (e j).current;
@@ -138,7 +140,7 @@ module _ (p : Description) (cur : ℕ) (flag : Bool) (f b : List ℕ) where
           file = (e j).file;
           buffer = (e j).buffer;
           work = [];
-        }
+        })
 
 -- the workspace, written over in full, is the row
 pub row-given : (p : Description) (b w t : List ℕ) (i : ℕ) → t ≡ put w 0 (part (1 + i * p.wpr) p.wpr b)

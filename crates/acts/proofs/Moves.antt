@@ -18,7 +18,7 @@ use Rattle.rules.specs.Lookup.{Reached, flush_moves, bringing, reached, text_at,
 use Rattle.rules.specs.Fits.{FlushFits, WayFits}
 use Rattle.rules.specs.Told.{gave, told}
 pub use Rattle.rules.proofs.Kept.{row_within, reached-fits, reached-text, way-counts}
-use Rattle.acts.specs.Reach.{Come, come}
+use Rattle.acts.specs.Reach.{come}
 
 -- a list of reads leaves the file as it is
 abbrev pub OnlyReads : List Transfer → Type 0
@@ -81,25 +81,6 @@ come-by v flag b reads wrote n f t ew en ef et h =
     let eg : f ≡ written v.desc (flush_moves v flag ++ reads) v.file = ef ∙ sym (written-reads v.desc (flush_moves v flag) reads v.file h) in
     let ec : wrote + n ≡ length (flush_moves v flag ++ reads) = rw (ew, en) (sym (length-append (flush_moves v flag) reads)) in
     λ j. record { file = eg j; current = b; flag = false; buffer = et j; transfers = ec j }
-
--- the same, field by field: of `reach`, and of any block brought
-pub record Reaches (transfers current : ℕ) (flag : Bool) (f b : List ℕ) (r : Reached) : Type 0 where
-  pub transfers-is : transfers ≡ length r.moves
-  pub current-is : current ≡ r.current
-  pub flag_is : flag ≡ r.flag
-  pub file-is : f ≡ r.file
-  pub buffer-is : b ≡ r.buffer
-
-pub reaches : (transfers current : ℕ) (flag : Bool) (f b : List ℕ) (r : Reached)
-    → record { file = f; current = current; flag = flag; buffer = b; transfers = transfers } ≡ come r → Reaches transfers current flag f b r
-reaches transfers current flag f b r e =
-    record {
-      transfers-is = ap (λ (z : Come). z.transfers) e;
-      current-is = ap (λ (z : Come). z.current) e;
-      flag_is = ap (λ (z : Come). z.flag) e;
-      file-is = ap (λ (z : Come). z.file) e;
-      buffer-is = ap (λ (z : Come). z.buffer) e;
-    }
 
 -- a call that stops leaves the workspace, whatever it is
 pub stopped : (v : Texts) (flag : Bool) (number : ℕ) (work : List ℕ) (r : Done) (f b : List ℕ) (x : Reached)

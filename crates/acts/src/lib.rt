@@ -1,10 +1,12 @@
 // What the calls do once they are planned: a flagged buffer written, blocks brought and reached, a record given, the master's free words set.
+// What a call holds, the file and the buffer stay three parameters, here and in the deeds of the calls: as one struct of lent words each function must
+// promise that it lends the same words still, and one that only reads the buffer that it stays (tried: docs/DESIGN-PASS.md).
 #![tactic(auto)]
 
 ghost use Rattle.std.specs.Prelude.{◌≡◌, true, false, ◌+◌, ◌≤◌, length, []};
 ghost use Rattle.table.specs.Tables.{place, row};
 ghost use Rattle.drum.specs.Params.{detail_shape};
-ghost use Rattle.drum.specs.Blocks.{Fitting, Block, block_at, put_block, written, text_of, at_entry};
+ghost use Rattle.drum.specs.Blocks.{Fitting, Block, block_at, put_block, written, text_of};
 ghost use Rattle.rules.specs.Lookup.{flush_moves, reached, stopping};
 ghost use Rattle.rules.specs.Told.{gave, told};
 ghost use Rattle.numbers.specs.Checked.{passed};
@@ -23,6 +25,23 @@ pub struct Arrived {
     pub flag: bool,
 }
 
+impl Arrived {
+    // The call ends at the block reached, with its number, the flag it leaves, and whether position is the workspace's key then.
+    pub fn done(self, number: u32, flag: bool, keyed: bool) -> Done
+        ensures { result
+            ≡ record
+            { number = number; transfers = self.transfers; current = self.current; flag = flag; keyed = keyed } }
+    {
+        Done {
+            number,
+            transfers: self.transfers,
+            current: self.current,
+            flag,
+            keyed,
+        }
+    }
+}
+
 // Writes the buffer over its block if it is flagged, and counts it.
 pub fn flush(at: Held, file: &mut [u32], buffer: &[u32]) -> usize
     requires { Fitting at.desc file.old buffer.now × FlushFits (seen_by at file.old buffer.now) at.flag }
@@ -37,25 +56,23 @@ pub fn flush(at: Held, file: &mut [u32], buffer: &[u32]) -> usize
 }
 
 // Lets the file have the current text of block b.
-pub fn stage(p: Description, current: usize, file: &mut [u32], buffer: &[u32], b: usize)
-    requires { Fitting p file.old buffer.now × Block p b }
-    ensures { file.new ≡ put_block p file.old b (text_of (at_entry p current file.old buffer.now) b) }
+pub fn stage(at: Held, file: &mut [u32], buffer: &[u32], b: usize)
+    requires { Fitting at.desc file.old buffer.now × Block at.desc b }
+    ensures { file.new ≡ put_block at.desc file.old b (text_of (seen_by at file.old buffer.now) b) }
 {
-    if b != current {
-        return;
+    if b == at.current {
+        drum::write_block(at.desc, file, buffer, b);
     }
-    drum::write_block(p, file, buffer, b);
 }
 
 // Brings the current text of block b into the buffer.
-pub fn load(p: Description, current: usize, file: &[u32], buffer: &mut [u32], b: usize)
-    requires { Fitting p file.now buffer.old × Block p b }
-    ensures { buffer.new ≡ text_of (at_entry p current file.now buffer.old) b }
+pub fn load(at: Held, file: &[u32], buffer: &mut [u32], b: usize)
+    requires { Fitting at.desc file.now buffer.old × Block at.desc b }
+    ensures { buffer.new ≡ text_of (seen_by at file.now buffer.old) b }
 {
-    if b == current {
-        return;
+    if b != at.current {
+        drum::read_block(at.desc, file, buffer, b);
     }
-    drum::read_block(p, file, buffer, b);
 }
 
 // Writes the buffer if it is flagged, and brings the current text of block b into it. The index blocks that are read on the way are
@@ -69,7 +86,7 @@ pub fn bring(at: Held, file: &mut [u32], buffer: &mut [u32], b: usize) -> usize
         × (buffer.new ≡ text_of (seen_by at file.old buffer.old) b) }
 {
     let wrote = flush(at, file, buffer);
-    load(at.desc, at.current, file, buffer, b);
+    load(at, file, buffer, b);
     wrote
 }
 
@@ -119,13 +136,7 @@ pub fn stop(at: Held, file: &mut [u32], buffer: &mut [u32], way: Way, number: u3
         (passed (stopping number [] (reached (seen_by at file.old buffer.old) at.flag way))) }
 {
     let here = reach(at, file, buffer, way);
-    Done {
-        number,
-        transfers: here.transfers,
-        current: here.current,
-        flag: here.flag,
-        keyed: false,
-    }
+    here.done(number, here.flag, false)
 }
 
 // The buffer takes block b, which the file has, and the call ends there with its number.

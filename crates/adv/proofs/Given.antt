@@ -8,7 +8,7 @@ use lib.Dec.{eqb}
 use lib.ListN.{length}
 use mir.Syntax.{w64}
 use mir.Val.{Fits}
-use Rattle.numbers.specs.Numbers.{done, at_end, bad_file}
+use Rattle.numbers.specs.Numbers.{done, at_end}
 use Rattle.numbers.specs.Checked.{passed}
 use Rattle.words.specs.Words.{part, top_word, all_are}
 use Rattle.words.specs.Keys.{is_ones}
@@ -20,7 +20,7 @@ use Rattle.drum.proofs.Blocks.{length-text_of}
 use Rattle.rules.specs.declared.Path.{Path}
 use Rattle.rules.specs.declared.Way.{Way}
 use Rattle.rules.specs.declared.Step.{Step}
-use Rattle.rules.specs.declared.Step.TheVariants.{Bad, At, Beyond}
+use Rattle.rules.specs.declared.Step.TheVariants.{At, Beyond}
 use Rattle.rules.specs.declared.Done.{Done}
 use Rattle.rules.specs.Lookup.{Reached, flush_moves, bringing, reached}
 use Rattle.rules.specs.Fits.{WayFits, StepFits}
@@ -49,13 +49,13 @@ reads-most w x = go (eqb x.section w.section)
     go false = omega arith
 
 -- row i of the text b is handed over: its key decides number and position
-pub hands : (p : Description) (b : List ℕ) (i : ℕ) (here : Arrived) (end : Bool) (n : ℕ)
+pub hands : (p : Description) (b : List ℕ) (i : ℕ) (here : Arrived) (end : Bool) (n : ℕ) (r : Done)
     → end ≡ all_are top_word (part (1 + i * p.wpr) p.k b) → n ≡ cond end at_end done
-    → record { number = n; transfers = here.transfers; current = here.current; flag = here.flag; keyed = not end } ≡ handed p b i here
+    → r ≡ record { number = n; transfers = here.transfers; current = here.current; flag = here.flag; keyed = not end } → r ≡ handed p b i here
 unfolding is_ones key_at detail_shape
-hands p b i here end n e en =
+hands p b i here end n r e en er =
     let m = en ∙ ap (λ (z : Bool). cond z at_end done) e in
-    λ j. record { number = m j; transfers = here.transfers; current = here.current; flag = here.flag; keyed = not (e j) }
+    er ∙ (λ j. record { number = m j; transfers = here.transfers; current = here.current; flag = here.flag; keyed = not (e j) })
 
 module _ (p : Description) (cur : ℕ) (f b : List ℕ) (flag : Bool) (s : Step) where
   abbrev v : Texts
@@ -79,12 +79,6 @@ module _ (p : Description) (cur : ℕ) (f b : List ℕ) (flag : Bool) (s : Step)
         work = (ew ∙ (λ k. row (detail_shape p) (e k).buffer i)) j;
       })
 
-  -- a bad number: nothing moves
-  pub adv-bad : (work : List ℕ) (r : Done) → s ≡ Bad → r ≡ record { number = bad_file; transfers = 0; current = cur; flag = flag; keyed = false }
-      → gave r f b work ≡ told v flag work (adv_done v flag s)
-  unfolding adv_done
-  adv-bad work r es er = rw (er, es)
-
   -- the block is reached
   module _ (way : Way) (i : ℕ) (es : s ≡ At way i) where
     pub at-way : StepFits v flag s → WayFits v flag way
@@ -94,7 +88,8 @@ module _ (p : Description) (cur : ℕ) (f b : List ℕ) (flag : Bool) (s : Step)
       pub at_row : StepFits v flag s → Fitting p f b → place (detail_shape p) i + p.wpr ≤ length t
       at_row fits fit = row-reached v fit flag way (at-way fits) i (subst (StepFits v flag) es fits).1 t (ap (λ (z : Come). z.buffer) e)
 
-      pub adv-at-told : (work w : List ℕ) (r : Done) → r ≡ handed p t i here → w ≡ row (detail_shape p) t i → gave r g t w ≡ told v flag work (adv_done v flag s)
+      pub adv-at-told : (work w : List ℕ) (r : Done) → r ≡ handed p t i here → w ≡ row (detail_shape p) t i
+          → gave r g t w ≡ told v flag work (adv_done v flag s)
       unfolding adv_done
       adv-at-told work w r er ew = rw es (given-at work (reached v flag way) i here g t w r e er ew)
 

@@ -1,4 +1,3 @@
 pub mod Rows
 pub mod Fits
-pub mod Steps
 pub mod Given

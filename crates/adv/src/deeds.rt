@@ -1,6 +1,5 @@
 // The record that ADV comes to, brought to the workspace.
-ghost use Rattle.std.specs.Prelude.{◌≡◌, cond, ◌+◌, ◌≤◌, length};
-ghost use Rattle.numbers.specs.Numbers.{done, at_end};
+ghost use Rattle.std.specs.Prelude.{◌≡◌, ◌+◌, ◌≤◌, length};
 ghost use Rattle.table.specs.Tables.{place, row};
 ghost use Rattle.drum.specs.Params.{detail_shape};
 ghost use Rattle.drum.specs.Blocks.{Fitting};
@@ -12,7 +11,7 @@ ghost use Rattle.adv.specs.Answers.{handed};
 
 use acts::Arrived;
 use drum::Description;
-use numbers::{AT_END, BAD_FILE, DONE};
+use numbers::{AT_END, DONE};
 use rules::{Done, Held, Path, Step};
 
 const TOP_WORD: u32 = 262143;
@@ -21,10 +20,7 @@ const TOP_WORD: u32 = 262143;
 pub fn reads_beyond(w: Path, x: Path) -> usize
     ensures { result ≡ length (adv_reads w x) }
 {
-    if x.section == w.section {
-        return 3;
-    }
-    4
+    if x.section == w.section { 3 } else { 4 }
 }
 
 // The record i of the buffer to the workspace, with what was done before; the end record has its own number and leaves position.
@@ -34,22 +30,8 @@ pub fn hand_over(p: Description, here: Arrived, buffer: &[u32], work: &mut [u32]
 {
     acts::give(p, buffer, work, i);
     let end = words::all_are(buffer, 1 + i * p.wpr, p.k, TOP_WORD);
-    Done {
-        number: number_of(end),
-        transfers: here.transfers,
-        current: here.current,
-        flag: here.flag,
-        keyed: !end,
-    }
-}
-
-fn number_of(end: bool) -> u32
-    ensures { result ≡ cond end at_end done }
-{
-    if end {
-        return AT_END;
-    }
-    DONE
+    let number = if end { AT_END } else { DONE };
+    here.done(number, here.flag, !end)
 }
 
 // ADV, once the record is found.
@@ -60,7 +42,6 @@ pub fn do_adv(s: Step, at: Held, file: &mut [u32], buffer: &mut [u32], work: &mu
     ensures { FollowsAt result (λ v flag work. adv_done v flag s) at (file.old, file.new) (buffer.old, buffer.new) (work.old, work.new) }
 {
     match s {
-        Step::Bad => Done::refused(BAD_FILE, at.current, at.flag),
         Step::At(way, i) => {
             let here = acts::reach(at, file, buffer, way);
             hand_over(at.desc, here, buffer, work, i)

@@ -11,6 +11,7 @@ ghost use Rattle.rules.specs.Adv.{adv_steps};
 ghost use Rattle.rules.specs.Told.{FollowsAt};
 
 pub use deeds::{hand_over, reads_beyond};
+use drum::Seen;
 pub use plan::plan_adv;
 use rules::{Done, Held};
 
@@ -29,6 +30,14 @@ pub fn adv(
     ensures { FollowsAt result (λ v flag work. adv_steps v flag placed (part 0 at.desc.k position.now)) at
         (file.old, file.new) (buffer.old, buffer.new) (work.old, work.new) }
 {
-    let s = plan::plan_adv(at, file, buffer, placed, position);
-    deeds::do_adv(s, at, file, buffer, work)
+    let v = Seen {
+        desc: at.desc,
+        current: at.current,
+        file,
+        buffer,
+    };
+    match plan::plan_adv(v, at.flag, placed, position) {
+        Ok(s) => deeds::do_adv(s, at, file, buffer, work),
+        Err(refusal) => at.refused(refusal),
+    }
 }

@@ -57,44 +57,6 @@ module _ (ws : List ℕ) (at n : ℕ) (w : List ℕ) where
       go true e = absurd (clash e)
       go false e = refl
 
--- the clause of each kind
-module _ (ws : List ℕ) (p : Description) (w : List ℕ) (c : Call) where
-  pub create-staged : c ≡ Create → staged_as true w ≡ staged_for ws p w c
-  unfolding staged_for
-  create-staged e = rw e
-
-  pub open-staged : c ≡ Open → staged_as true w ≡ staged_for ws p w c
-  unfolding staged_for
-  open-staged e = rw e
-
-  pub close-staged : c ≡ Close → staged_as true w ≡ staged_for ws p w c
-  unfolding staged_for
-  close-staged e = rw e
-
-  pub adv-staged : c ≡ Adv → staged_as true w ≡ staged_for ws p w c
-  unfolding staged_for
-  adv-staged e = rw e
-
-  pub seek-staged : (r : Bool) (v : List ℕ) (at : ℕ) → staged_as r v ≡ staged ws at p.k w → c ≡ Seek at → staged_as r v ≡ staged_for ws p w c
-  unfolding staged_for
-  seek-staged r v at h e = rw e h
-
-  pub nsert-staged : (r : Bool) (v : List ℕ) (at : ℕ) → staged_as r v ≡ staged ws at p.wpr w → c ≡ Nsert at → staged_as r v ≡ staged_for ws p w c
-  unfolding staged_for
-  nsert-staged r v at h e = rw e h
-
-  pub dlete-staged : (r : Bool) (v : List ℕ) (at : ℕ) → staged_as r v ≡ staged ws at p.k w → c ≡ Dlete at → staged_as r v ≡ staged_for ws p w c
-  unfolding staged_for
-  dlete-staged r v at h e = rw e h
-
-  pub updat-staged : (r : Bool) (v : List ℕ) (at : ℕ) → staged_as r v ≡ staged ws at p.wpr w → c ≡ Updat at → staged_as r v ≡ staged_for ws p w c
-  unfolding staged_for
-  updat-staged r v at h e = rw e h
-
-  pub xtend-staged : (r : Bool) (v : List ℕ) (at : ℕ) → staged_as r v ≡ staged ws at p.wpr w → c ≡ Xtend at → staged_as r v ≡ staged_for ws p w c
-  unfolding staged_for
-  xtend-staged r v at h e = rw e h
-
 -- without room the workspace is as it was
 pub unfit-left : (ws : List ℕ) (p : Description) (w : List ℕ) (c : Call) → (staged_for ws p w c).fits ≡ false → (staged_for ws p w c).work ≡ w
 unfolding staged_for

@@ -14,7 +14,7 @@ use Rattle.rules.specs.NsertDone.{nsert}
 use Rattle.rules.specs.Dlete.{dlete}
 use Rattle.rules.specs.XtendDone.{xtend}
 use Rattle.rules.specs.Run.{created_outcome}
-use Rattle.searchfile.specs.declared.Answer.{Answer}
+use Rattle.searchfile.specs.Answers.{Answer}
 use Rattle.searchfile.specs.Promise.{CountedOpen, answered}
 
 -- whether what a call carries has room, and the workspace with it

@@ -14,33 +14,24 @@ use searchfile::{Answer, Session};
 fn stage_words(words: &[u32], at: usize, n: usize, work: &mut [u32]) -> bool
     ensures { staged_as result work.new ≡ staged words.now at n work.old }
 {
-    if work.len() < n {
-        return false;
+    if n <= work.len() && n <= words.len() && at <= words.len() - n {
+        words::copy_words(work, 0, words, at, n);
+        return true;
     }
-    if words.len() < n {
-        return false;
-    }
-    if words.len() - n < at {
-        return false;
-    }
-    words::copy_words(work, 0, words, at, n);
-    true
+    false
 }
 
 // Puts the key or record that the call carries into the workspace, if there is room for it.
+#[tactic(auto, unfolding(crate::specs::Perform::staged_for))]
 fn stage(call: Call, p: Description, words: &[u32], work: &mut [u32]) -> bool
     ensures { staged_as result work.new ≡ staged_for words.now p work.old call }
 {
     match call {
-        Call::Create => true,
-        Call::Open => true,
-        Call::Close => true,
-        Call::Seek { at } => stage_words(words, at, p.k, work),
-        Call::Adv => true,
-        Call::Nsert { at } => stage_words(words, at, p.wpr, work),
-        Call::Dlete { at } => stage_words(words, at, p.k, work),
-        Call::Updat { at } => stage_words(words, at, p.wpr, work),
-        Call::Xtend { at } => stage_words(words, at, p.wpr, work),
+        Call::Create | Call::Open | Call::Close | Call::Adv => true,
+        Call::Seek { at } | Call::Dlete { at } => stage_words(words, at, p.k, work),
+        Call::Nsert { at } | Call::Updat { at } | Call::Xtend { at } => {
+            stage_words(words, at, p.wpr, work)
+        }
     }
 }
 
@@ -69,11 +60,11 @@ pub fn perform(
         Call::Create => s.create(file),
         Call::Open => s.open_file(file, buffer, marks),
         Call::Close => s.close(file, buffer),
-        Call::Seek { at: _ } => s.seek(file, buffer, work),
+        Call::Seek { .. } => s.seek(file, buffer, work),
         Call::Adv => s.adv(file, buffer, work),
-        Call::Nsert { at: _ } => s.nsert(file, buffer, work),
-        Call::Dlete { at: _ } => s.dlete(file, buffer, work),
-        Call::Updat { at: _ } => s.updat(file, buffer, work),
-        Call::Xtend { at: _ } => s.xtend(file, buffer, work),
+        Call::Nsert { .. } => s.nsert(file, buffer, work),
+        Call::Dlete { .. } => s.dlete(file, buffer, work),
+        Call::Updat { .. } => s.updat(file, buffer, work),
+        Call::Xtend { .. } => s.xtend(file, buffer, work),
     }
 }

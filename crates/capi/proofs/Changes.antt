@@ -84,7 +84,6 @@ module _ (v : Texts) (fit : Fitting v.desc v.file v.buffer) (flag : Bool) (work 
 
   insert-after : (key : List ℕ) (l : Look) → LookFits v flag l → Passed Inserts (insert_after v flag key l)
   unfolding insert_after
-  insert-after key look_is.Bad h = search chain
   insert-after key (look_is.Found way i) h = by-passed _ (duplicate-deed way i _ h)
   insert-after key (look_is.Missing w) h = insert-at w _ h.0 h.1
 
@@ -122,7 +121,6 @@ module _ (v : Texts) (fit : Fitting v.desc v.file v.buffer) (flag : Bool) (work 
 
   delete-after : (key : List ℕ) (l : Look) → LookFits v flag l → Passed Deletes (delete_after v key l)
   unfolding delete_after empty_at empty_deed
-  delete-after key look_is.Bad h = search chain
   delete-after key (look_is.Missing w) h = by-passed _ (stopped w h)
   delete-after key (look_is.Found Here i) h = let r = removing Here i h in let b : WayFits v flag Here = h.0 in search (chain, either) depth 12
   delete-after key (look_is.Found (By w) i) h = let r = removing (By w) i h in let b : WayFits v flag (By w) = h.0 in search (chain, either) depth 12

@@ -1,15 +1,14 @@
 -- The copying call's promise, told in words; and two results allowed by it are equal.
 use Prim.Native.Nat.{ℕ, ◌≤◌}
 use mathlib.Core.Path.{◌≡◌, sym, ap, ◌∙◌}
-use mathlib.Core.Bool.{Bool, true, false, cond, not}
+use mathlib.Core.Bool.{Bool, true, false, cond}
 use mathlib.Core.List.{List, []}
 use native.Mathlib.Omega.{arith}
-use borrow.Author.Tests.{not-true, not-false}
 use Rattle.numbers.specs.Numbers.{wrong_size}
 use Rattle.rules.specs.State.{Session, lent}
 use Rattle.rules.specs.Copy.{copy_file}
 use Rattle.searchfile.specs.declared.Session as code
-use Rattle.searchfile.specs.declared.Answer.{Answer}
+use Rattle.searchfile.specs.Answers.{Answer}
 use Rattle.searchfile.specs.Promise.{held, given}
 use Rattle.searchfile.specs.Copying.{CountedCopy, counted_copy, answered_copy}
 use Rattle.capi.specs.Words.{is_session, session_of, words_of, packed}
@@ -23,25 +22,24 @@ copy-by : (ws f second m : List ℕ) (c : ℕ) (x : Bool) → is_session ws ≡ 
 unfolding called_copy
 copy-by ws f second m c x is = rw is
 
-module _ (ws : List ℕ) (t : Bool) where
+module _ (ws : List ℕ) where
   -- words that are no session's
-  pub copy-none : (f second m : List ℕ) (c r : ℕ) → r ≡ packed 0 wrong_size → t ≡ is_session ws → not t ≡ true
-      → returned_copy r ws f second m ≡ called_copy ws f second c m
-  copy-none f second m c r e q h = (λ j. returned_copy (e j) ws f second m) ∙ copy-by ws f second m c false (sym q ∙ not-true t h)
+  pub copy-none : (f second m : List ℕ) (c : ℕ) → is_session ws ≡ false → returned_copy wrong_size ws f second m ≡ called_copy ws f second c m
+  unfolding packed
+  copy-none f second m c not_one = copy-by ws f second m c false not_one
 
   -- what the answer of the session's call is told as; the words are still the session's
   pub copy-called : (s : code.Session) (a : Answer) (f second m x n : List ℕ) (c r : ℕ)
       → answered_copy a f x n ≡ counted_copy (copy_file (given s f [] []) second c m) → held s ≡ session_of ws
-      → r ≡ packed a.transfers a.number → t ≡ is_session ws → not t ≡ false → returned_copy r ws f x n ≡ called_copy ws f second c m
+      → r ≡ packed a.transfers a.number → is_session ws ≡ true → returned_copy r ws f x n ≡ called_copy ws f second c m
   unfolding copy_file
-  copy-called s a f second m x n c r e same p q h =
-      let yes : is_session ws ≡ true = sym q ∙ not-false t h in
+  copy-called s a f second m x n c r e same p is =
       let kept : words_of ws (held a.session) ≡ ws =
-      ap (λ (o : CountedCopy). words_of ws o.outcome.after.session) e ∙ ap (words_of ws) same ∙ words-kept ws yes in
+      ap (λ (o : CountedCopy). words_of ws o.outcome.after.session) e ∙ ap (words_of ws) same ∙ words-kept ws is in
       (λ j. returned_copy (p j) (sym kept j) f x n)
       ∙ ap (told_copy ws) e
       ∙ ap (λ (o : Session). told_copy ws (counted_copy (copy_file (lent o f [] []) second c m))) same
-      ∙ copy-by ws f second m c true yes
+      ∙ copy-by ws f second m c true is
 
 -- no transfers
 pub copy-free : (s : code.Session) (a : Answer) (f second m x n : List ℕ) (c : ℕ)

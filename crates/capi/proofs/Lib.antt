@@ -15,3 +15,4 @@ pub mod TrayTold
 pub mod Registered
 pub mod TurnTold
 pub mod SalvageTold
+pub mod Planner

@@ -86,7 +86,6 @@ module _ (v : Texts) (fit : Fitting v.desc v.file v.buffer) (flag : Bool) (work 
 
   seek-done : (l : Look) → LookFits v flag l → Passed (Modest v) (seek_done v flag work l)
   unfolding seek_done
-  seek-done look_is.Bad h = search chain
   seek-done (look_is.Found way i) h = by-passed _ (give-modest v fit (reached v flag way) _ i _ (way-brought v fit flag way h.0))
   seek-done (look_is.Missing w) h = by-passed _ (stop-modest v fit _ work (reached v flag (By w)) (way-brought v fit flag (By w) h))
 
@@ -96,7 +95,6 @@ module _ (v : Texts) (fit : Fitting v.desc v.file v.buffer) (flag : Bool) (work 
 
   updat-done : (l : Look) → LookFits v flag l → Passed (Modest v) (updat_done v flag work l)
   unfolding updat_done
-  updat-done look_is.Bad h = search chain
   updat-done (look_is.Found way i) h = by-passed _ (store-modest v fit _ work (reached v flag way) _ (way-brought v fit flag way h.0))
   updat-done (look_is.Missing w) h = by-passed _ (stop-modest v fit _ work (reached v flag (By w)) (way-brought v fit flag (By w) h))
 
@@ -119,7 +117,6 @@ module _ (v : Texts) (fit : Fitting v.desc v.file v.buffer) (flag : Bool) where
 
   adv-done : (s : Step) → StepFits v flag s → Passed (Modest v) (adv_done v flag s)
   unfolding adv_done adv_giving
-  adv-done step_is.Bad h = search chain
   adv-done (step_is.At way i) h = by-passed _ (give-modest v fit (reached v flag way) _ i _ (way-brought v fit flag way h.0))
   adv-done (step_is.Beyond w x i) h =
       by-passed _ (give-modest v fit (bringing v flag x.detail (adv_reads w x)) _ i _ (brought v fit flag x.detail (adv_reads w x) h.0.detail-most (next-few w x)))

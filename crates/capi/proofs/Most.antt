@@ -1,11 +1,11 @@
 -- What `nasturakh_most_transfers` tests, one law for each return.
 use Prim.Native.Nat.{ℕ, ◌≤◌, ◌<◌}
 use mathlib.Core.Path.{◌≡◌, refl, sym, ap, ◌∙◌}
-use mathlib.Core.Bool.{Bool, true, false, cond, not, ◌&&◌}
+use mathlib.Core.Bool.{Bool, true, false, cond, ◌&&◌}
 use mathlib.Core.List.{List}
 use native.Mathlib.Nat.{div-le_self}
 use native.Mathlib.Omega.{arith}
-use borrow.Author.Tests.{not-true, not-false, eq-eqb, ne_eqb}
+use borrow.Author.Tests.{eq-eqb, ne_eqb}
 use lib.Dec.{eqb}
 use lib.ListN.{length, get_or}
 use Rattle.drum.specs.declared.Description.{Description}
@@ -14,48 +14,41 @@ use Rattle.demands.specs.declared.Plan.{Plan}
 use Rattle.demands.specs.Formula.{h_d, h_i}
 use Rattle.demands.specs.Planned.{plan_shares, plan_details, plan_indexes, planned}
 use Rattle.capi.specs.Words.{is_session, parameters_in, most_word}
+use Rattle.capi.specs.Space.{is_planner}
 use Rattle.capi.specs.Plan.{plan_in, is_plan, no_plan, most_in, OnlyNoPlan}
 
 module _ (ws ps : List ℕ) where
-  tested : Bool → Bool → Bool → ℕ
-  tested a b c = cond (a && (b && c)) (planned (parameters_in ws) (plan_in ps)) no_plan
+  tested : Bool → ℕ
+  tested x = cond x (planned (parameters_in ws) (plan_in ps)) no_plan
 
-  -- a test that fails
-  last-fails : (a b : Bool) → tested a b false ≡ no_plan
+  -- the tests of a planner, and then that of the plan
+  planner-first : (a b c : Bool) → a && (b && c) ≡ (a && b) && c
+  planner-first true b c = refl
+  planner-first false b c = refl
+
+  by-tests : (x y : Bool) → is_planner ws ≡ x → eqb (length ps) 8 ≡ y → tested (x && y) ≡ most_in ws ps
+  unfolding most_in is_plan is_planner tested
+  by-tests x y e h =
+      (λ j. tested (sym e j && sym h j))
+      ∙ ap tested (sym (planner-first (is_session ws) (good_params (parameters_in ws)) (eqb (length ps) 8)))
+
+  pub most-none : is_planner ws ≡ false → no_plan ≡ most_in ws ps
   unfolding tested
-  last-fails true true = refl
-  last-fails true false = refl
-  last-fails false b = refl
+  most-none not_one = by-tests false (eqb (length ps) 8) not_one refl
 
-  second-fails : (a c : Bool) → tested a false c ≡ no_plan
+  pub most-length : is_planner ws ≡ true → (length ps ≡ 8 → ⊥) → no_plan ≡ most_in ws ps
   unfolding tested
-  second-fails true c = refl
-  second-fails false c = refl
-
-  pub most-none : (t : Bool) → t ≡ is_session ws → not t ≡ true → no_plan ≡ most_in ws ps
-  unfolding most_in is_plan
-  most-none t e h = simp (sym e ∙ not-true t h)
-
-  pub most-out : (p : Description) (t : Bool) → p ≡ parameters_in ws → t ≡ good_params p → not t ≡ true → no_plan ≡ most_in ws ps
-  unfolding most_in is_plan tested
-  most-out p t d e h =
-      let g : good_params (parameters_in ws) ≡ false = ap good_params (sym d) ∙ sym e ∙ not-true t h in
-      sym (second-fails (is_session ws) (eqb (length ps) 8)) ∙ ap (λ (x : Bool). tested (is_session ws) x (eqb (length ps) 8)) (sym g)
-
-  pub most-length : (length ps ≡ 8 → ⊥) → no_plan ≡ most_in ws ps
-  unfolding most_in is_plan tested
-  most-length h =
-      sym (last-fails (is_session ws) (good_params (parameters_in ws))) ∙ ap (tested (is_session ws) (good_params (parameters_in ws))) (sym (ne_eqb (length ps) 8 h))
+  most-length is h = by-tests true false is (ne_eqb (length ps) 8 h)
 
   -- all three hold
   pub most-some : is_session ws ≡ true → good_params (parameters_in ws) ≡ true → length ps ≡ 8 → most_in ws ps ≡ planned (parameters_in ws) (plan_in ps)
   unfolding most_in is_plan
   most-some h g l = simp (h, g, eq-eqb (length ps) 8 l)
 
-  pub most-planned : (r : ℕ) (p : Description) (q : Plan) (t u : Bool) → r ≡ planned p q → p ≡ parameters_in ws → q ≡ plan_in ps
-      → t ≡ is_session ws → not t ≡ false → u ≡ good_params p → not u ≡ false → length ps ≡ 8 → r ≡ most_in ws ps
-  most-planned r p q t u e d m a b c f l =
-      e ∙ (λ j. planned (d j) (m j)) ∙ sym (most-some (sym a ∙ not-false t b) (ap good_params (sym d) ∙ sym c ∙ not-false u f) l)
+  pub most-planned : (r : ℕ) (p : Description) (q : Plan) → r ≡ planned p q → p ≡ parameters_in ws → q ≡ plan_in ps
+      → is_planner ws ≡ true → length ps ≡ 8 → r ≡ most_in ws ps
+  unfolding tested
+  most-planned r p q e d m is l = e ∙ (λ j. planned (d j) (m j)) ∙ by-tests true true is (eq-eqb (length ps) 8 l)
 
 -- ---- a plan of 32-bit words costs less than 2^64 - 1
 

@@ -1,10 +1,9 @@
 -- What the planner's functions test, one law for each return; and what they return, of a run of the exported functions.
 use Prim.Native.Nat.{ℕ, ◌≤◌, ◌<◌}
 use mathlib.Core.Path.{◌≡◌, refl, sym, ap, ◌∙◌, subst}
-use mathlib.Core.Bool.{Bool, true, false, cond, not}
+use mathlib.Core.Bool.{Bool, true, false, cond}
 use mathlib.Core.List.{List}
 use native.Mathlib.Omega.{arith}
-use borrow.Author.Tests.{not-true, not-false}
 use Rattle.numbers.specs.Numbers.{no_room}
 use Rattle.drum.specs.declared.Description.{Description}
 use Rattle.drum.specs.Params.{good_params}
@@ -26,24 +25,19 @@ use Rattle.capi.proofs.Runs as runs
 -- ---- the two functions
 
 module _ (most : Description → ℕ → ℕ) (ws : List ℕ) (names : ℕ) where
-  pub space-none : (t : Bool) → t ≡ is_session ws → not t ≡ true → no_plan ≡ space_in most ws names
-  unfolding space_in is_planner
-  space-none t e h = simp (sym e ∙ not-true t h)
+  pub space-none : is_planner ws ≡ false → no_plan ≡ space_in most ws names
+  unfolding space_in
+  space-none not_one = sym (ap (λ (t : Bool). cond t (most (parameters_in ws) names) no_plan) not_one)
 
   -- both hold
   pub space-some : is_session ws ≡ true → good_params (parameters_in ws) ≡ true → space_in most ws names ≡ most (parameters_in ws) names
   unfolding space_in is_planner
   space-some h g = simp (h, g)
 
-  pub space-out : (p : Description) (t u : Bool) → p ≡ parameters_in ws → t ≡ good_params p → not t ≡ true → u ≡ is_session ws → not u ≡ false
-      → no_plan ≡ space_in most ws names
-  unfolding space_in is_planner
-  space-out p t u d e h eu hu = simp (sym eu ∙ not-false u hu, ap good_params (sym d) ∙ sym e ∙ not-true t h)
-
-  pub space-is : (r : ℕ) (p : Description) (t u : Bool) → r ≡ most p names → p ≡ parameters_in ws → t ≡ is_session ws → not t ≡ false
-      → u ≡ good_params p → not u ≡ false → r ≡ space_in most ws names
-  space-is r p t u e d a b c f =
-      e ∙ ap (λ (q : Description). most q names) d ∙ sym (space-some (sym a ∙ not-false t b) (ap good_params (sym d) ∙ sym c ∙ not-false u f))
+  pub space-is : (r : ℕ) (p : Description) → r ≡ most p names → p ≡ parameters_in ws → is_planner ws ≡ true → r ≡ space_in most ws names
+  unfolding space_in
+  space-is r p e d is =
+      e ∙ ap (λ (q : Description). most q names) d ∙ sym (ap (λ (t : Bool). cond t (most (parameters_in ws) names) no_plan) is)
 
   only_none : most (parameters_in ws) names < no_plan → space_in most ws names ≡ no_plan → is_planner ws ≡ false
   unfolding space_in

@@ -6,7 +6,7 @@ use mathlib.Core.List.{List, [], ◌∷◌}
 use native.Mathlib.Omega.{arith}
 use lib.ListN.{length}
 use Rattle.numbers.specs.Numbers as number_is
-use Rattle.numbers.specs.Checked.{Checked, passed, refused, ◌>>=◌, ◌>>◌}
+use Rattle.numbers.specs.Checked.{Checked, passed, refused, ◌>>◌}
 use Rattle.numbers.proofs.Passed.{Passed, chain, required}
 use Rattle.drum.specs.Blocks.{Write, Fitting}
 use Rattle.drum.proofs.Good.{sized-facts}

@@ -17,7 +17,7 @@ use Rattle.register.specs.Names.{raw, romanised, on_hold, state_of}
 use Rattle.register.specs.Register.{has_state, name_ok, spelled_ok, checked, raw_name, stopped, joined, sought, followed, move, spelled, turned, turn, enter, ask, romanise, hold, free}
 use Rattle.register.proofs.Costs.{seek-few, updat-few}
 use Rattle.searchfile.specs.declared.Session as code
-use Rattle.searchfile.specs.declared.Answer.{Answer}
+use Rattle.searchfile.specs.Answers.{Answer}
 use Rattle.searchfile.specs.Promise.{held, given, counted, answered}
 use Rattle.capi.specs.Words.{is_session, session_of}
 use Rattle.capi.specs.Calls.{Tellable}
@@ -98,7 +98,7 @@ unfolding romanise
 romanise-telling spelling st = checked-telling st (spelled_ok spelling st) _ (move-telling st raw (spelled (desc st) spelling))
 
 -- romanising can be told, whatever the spelling
-pub romanise-tellable : (spelling ws : List ℕ) (t : Bool) (s : code.Session) (a : Answer) (f b w f₁ b₁ w₁ : List ℕ)
-    → answered a f₁ b₁ w₁ ≡ counted (romanise spelling (given s f b w)) → held s ≡ session_of ws → t ≡ is_session ws → not t ≡ false
+pub romanise-tellable : (spelling ws : List ℕ) (s : code.Session) (a : Answer) (f b w f₁ b₁ w₁ : List ℕ)
+    → answered a f₁ b₁ w₁ ≡ counted (romanise spelling (given s f b w)) → held s ≡ session_of ws → is_session ws ≡ true
     → ((i : ℕ) → Fits w32 (get_or ws i 0)) → Tellable ws a
 romanise-tellable spelling = tellable (romanise spelling) (romanise-telling spelling)

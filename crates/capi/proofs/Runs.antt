@@ -1,7 +1,7 @@
 -- A run of the exported functions is a run of the calls: the state read from the words, and what is unpacked from the numbers returned.
 use Prim.Native.Nat.{ℕ, ◌+◌, ◌≤◌}
 use mathlib.Core.Path.{◌≡◌, refl, sym, ap, ap₂, ◌∙◌, subst}
-use mathlib.Core.Bool.{Bool, true, false, not}
+use mathlib.Core.Bool.{Bool, true, false}
 use mathlib.Core.List.{List, [], ◌∷◌}
 use native.Mathlib.Omega.{arith}
 use lib.ListN.{length}
@@ -83,11 +83,11 @@ archive-follows x cs ok p =
 none_answers : (x : Returned) (marks : List ℕ) → is_session x.session ≡ false → number_in (promised x (opening marks)).answer ≡ number_is.wrong_size
 unfolding promised packed
 none_answers x marks h =
-    ap (λ (r : ReturnedOpen). number_in r.returned.answer) (sym (open_none x.session _ x.file x.buffer marks _ refl (ap not h) refl))
+    ap (λ (r : ReturnedOpen). number_in r.returned.answer) (sym (open_none x.session h x.file x.buffer marks))
 
 none-creates : (x : Returned) → is_session x.session ≡ false → number_in (promised_create x).answer ≡ number_is.wrong_size
 unfolding promised_create packed
-none-creates x h = ap (λ (r : Returned). number_in r.answer) (sym (called-none x.session _ creating x.file [] [] _ refl (ap not h) refl))
+none-creates x h = ap (λ (r : Returned). number_in r.answer) (sym (called-none x.session h creating x.file [] []))
 
 sessioned : (ws : List ℕ) (n : ℕ) → (is_session ws ≡ false → n ≡ number_is.wrong_size) → n ≡ number_is.done → is_session ws ≡ true
 sessioned ws n h e = go (is_session ws) refl

@@ -1,9 +1,8 @@
 -- A session call's promise, told in words: one law for every call, and what it asks of the answer before it is told. They speak as the
--- code does: t is its test of the words, s the session that it reads from them, a the session call's answer, r what it returns.
+-- code does: s is the session that it reads from the words, a the session call's answer, r what it returns.
 use Prim.Native.Nat.{ℕ, ◌≤◌}
 use mathlib.Core.Path.{◌≡◌, sym, ap, ◌∙◌}
-use mathlib.Core.Bool.{Bool, true, false, cond, not}
-use borrow.Author.Tests.{not-true, not-false}
+use mathlib.Core.Bool.{Bool, true, false, cond}
 use mathlib.Core.List.{List, []}
 use native.Mathlib.Omega.{arith}
 use mir.Syntax.{w32}
@@ -14,7 +13,7 @@ use Rattle.rules.specs.State.{Session, State, Outcome, lent}
 use Rattle.rules.specs.Open.{open_file}
 use Rattle.rules.specs.Run.{created_outcome}
 use Rattle.searchfile.specs.declared.Session as code
-use Rattle.searchfile.specs.declared.Answer.{Answer}
+use Rattle.searchfile.specs.Answers.{Answer}
 use Rattle.searchfile.specs.Promise.{Counted, CountedOpen, held, given, counted, counted_open, answered, answered_open, creating}
 use Rattle.capi.specs.Words.{is_session, parameters_in, session_of, words_of, packed}
 use Rattle.capi.specs.Calls.{returned, told_in_words, told_open, marked, called, called_open, Tellable}
@@ -34,83 +33,70 @@ module _ (ws : List ℕ) (x : Bool) (is : is_session ws ≡ x) where
   unfolding called_open
   open_by f b m = rw is
 
-module _ (ws : List ℕ) (t : Bool) where
-  -- what the code's test tells
-  asked-yes : t ≡ is_session ws → not t ≡ false → is_session ws ≡ true
-  asked-yes e h = sym e ∙ not-false t h
+-- words that are no session's
+module _ (ws : List ℕ) (not_one : is_session ws ≡ false) where
+  pub called-none : (call : State → Outcome) (f b w : List ℕ) → returned wrong_size ws f b w ≡ called call ws f b w
+  unfolding packed
+  called-none = called-by ws false not_one
 
-  asked-no : t ≡ is_session ws → not t ≡ true → is_session ws ≡ false
-  asked-no e h = sym e ∙ not-true t h
-
-  pub asked-whole : t ≡ is_session ws → not t ≡ false → 73 ≤ length ws
-  asked-whole e h = (session-facts ws (asked-yes e h)).whole
-
-  pub asked-no-more : t ≡ is_session ws → not t ≡ false → length ws ≤ 74
-  asked-no-more e h = (session-facts ws (asked-yes e h)).no_more
-
-  -- words that are no session's
-  pub called-none : (call : State → Outcome) (f b w : List ℕ) (r : ℕ) → t ≡ is_session ws → not t ≡ true → r ≡ packed 0 wrong_size
-      → returned r ws f b w ≡ called call ws f b w
-  called-none call f b w r e h p = (λ j. returned (p j) ws f b w) ∙ called-by ws false (asked-no e h) call f b w
-
-  pub open_none : (f b m : List ℕ) (r : ℕ) → t ≡ is_session ws → not t ≡ true → r ≡ packed 0 wrong_size
-      → marked (returned r ws f b []) m ≡ called_open ws f b m
-  open_none f b m r e h p = (λ j. marked (returned (p j) ws f b []) m) ∙ open_by ws false (asked-no e h) f b m
+  pub open_none : (f b m : List ℕ) → marked (returned wrong_size ws f b []) m ≡ called_open ws f b m
+  unfolding packed
+  open_none = open_by ws false not_one
 
 -- words that are one's
-module _ (ws : List ℕ) (yes : is_session ws ≡ true) where
+module _ (ws : List ℕ) (is : is_session ws ≡ true) where
   pub called-some : (call : State → Outcome) (f b w : List ℕ) → told_in_words ws (counted (call (lent (session_of ws) f b w))) ≡ called call ws f b w
-  called-some = called-by ws true yes
+  called-some = called-by ws true is
 
   pub open-some : (f b m : List ℕ) → told_open ws (counted_open (open_file (lent (session_of ws) f b []) m)) ≡ called_open ws f b m
-  open-some = open_by ws true yes
+  open-some = open_by ws true is
 
 -- what CREATE answers is told, its session as it was; and it can be told
 module _ (s : code.Session) (a : Answer) (f g : List ℕ) (e : answered a g [] [] ≡ counted (creating (given s f [] []))) where
-  pub create-called : (ws : List ℕ) (t : Bool) (r : ℕ) → held s ≡ session_of ws → r ≡ packed a.transfers a.number
-      → t ≡ is_session ws → not t ≡ false → returned r ws g [] [] ≡ called creating ws f [] []
+  pub create-called : (ws : List ℕ) (r : ℕ) → held s ≡ session_of ws → r ≡ packed a.transfers a.number
+      → is_session ws ≡ true → returned r ws g [] [] ≡ called creating ws f [] []
   unfolding creating created_outcome
-  create-called ws t r same p q h =
-      let yes = asked-yes ws t q h in
-      let k = words-kept ws yes in
+  create-called ws r same p is =
+      let k = words-kept ws is in
       let c = e ∙ ap (λ (x : Session). counted (creating (lent x f [] []))) same in
       (λ j. returned (p j) (sym k j) g [] [])
       ∙ (λ j. returned (packed (c j).transfers (c j).number) (words_of ws (session_of ws)) (c j).after.file [] [])
-      ∙ called-some ws yes creating f [] []
+      ∙ called-some ws is creating f [] []
 
   pub create-few : a.transfers ≤ 16
   unfolding creating created_outcome
   create-few = let n : a.transfers ≡ 0 = ap (λ (x : Counted). x.transfers) e in omega arith
 
 -- what the answer of a call is told as
-module _ (ws : List ℕ) (t : Bool) (s : code.Session) (a : Answer) where
+module _ (ws : List ℕ) (s : code.Session) (a : Answer) where
   pub call-called : (call : State → Outcome) (f b w f₁ b₁ w₁ us : List ℕ) (r : ℕ)
       → answered a f₁ b₁ w₁ ≡ counted (call (given s f b w)) → held s ≡ session_of ws
       → (r ≡ packed a.transfers a.number) × (us ≡ words_of ws (held a.session))
-      → t ≡ is_session ws → not t ≡ false → returned r us f₁ b₁ w₁ ≡ called call ws f b w
-  call-called call f b w f₁ b₁ w₁ us r e same p q h =
+      → is_session ws ≡ true → returned r us f₁ b₁ w₁ ≡ called call ws f b w
+  call-called call f b w f₁ b₁ w₁ us r e same p is =
       (λ j. returned (p.0 j) (p.1 j) f₁ b₁ w₁)
       ∙ ap (told_in_words ws) e
       ∙ ap (λ (x : Session). told_in_words ws (counted (call (lent x f b w)))) same
-      ∙ called-some ws (asked-yes ws t q h) call f b w
+      ∙ called-some ws is call f b w
 
   pub open-called : (f b m m₁ us : List ℕ) (r : ℕ)
       → answered_open a f b m₁ ≡ counted_open (open_file (given s f b []) m) → held s ≡ session_of ws
       → (r ≡ packed a.transfers a.number) × (us ≡ words_of ws (held a.session))
-      → t ≡ is_session ws → not t ≡ false → marked (returned r us f b []) m₁ ≡ called_open ws f b m
-  open-called f b m m₁ us r e same p q h =
+      → is_session ws ≡ true → marked (returned r us f b []) m₁ ≡ called_open ws f b m
+  open-called f b m m₁ us r e same p is =
       (λ j. marked (returned (p.0 j) (p.1 j) f b []) m₁)
       ∙ ap (told_open ws) e
       ∙ ap (λ (x : Session). told_open ws (counted_open (open_file (lent x f b []) m))) same
-      ∙ open-some ws (asked-yes ws t q h) f b m
+      ∙ open-some ws is f b m
 
 -- and it can be told: the call is given by hand, the rest is in reach
 pub tellable : (call : State → Outcome) → ((st : State) → Telling st (call st))
-    → (ws : List ℕ) (t : Bool) (s : code.Session) (a : Answer) (f b w f₁ b₁ w₁ : List ℕ)
-    → answered a f₁ b₁ w₁ ≡ counted (call (given s f b w)) → held s ≡ session_of ws → t ≡ is_session ws → not t ≡ false
+    → (ws : List ℕ) (s : code.Session) (a : Answer) (f b w f₁ b₁ w₁ : List ℕ)
+    → answered a f₁ b₁ w₁ ≡ counted (call (given s f b w)) → held s ≡ session_of ws → is_session ws ≡ true
     → ((i : ℕ) → Fits w32 (get_or ws i 0)) → Tellable ws a
 unfolding session_of
-tellable call tells ws t s a f b w f₁ b₁ w₁ e same q h word =
+tellable call tells ws s a f b w f₁ b₁ w₁ e same is word =
+    let facts = session-facts ws is in
     let m = tells (given s f b w) in
     let p : (held s).desc ≡ parameters_in ws = ap (λ (x : Session). x.desc) same in
     let c : (held s).current ≡ get_or ws 7 0 = ap (λ (x : Session). x.current) same in
@@ -120,16 +106,16 @@ tellable call tells ws t s a f b w f₁ b₁ w₁ e same q h word =
     let k = word 7 in
     record {
       session = record {
-        whole = asked-whole ws t q h;
-        no_more = asked-no-more ws t q h;
+        whole = facts.whole;
+        no_more = facts.no_more;
         same-parameters = sym (d ∙ m.same-parameters ∙ p);
         current-most = rw u (m.current-most (rw c (omega arith)));
       };
       few = rw n m.few;
     }
 
-pub open-tellable : (ws : List ℕ) (t : Bool) (s : code.Session) (a : Answer) (f b m m₁ : List ℕ)
-    → answered_open a f b m₁ ≡ counted_open (open_file (given s f b []) m) → held s ≡ session_of ws → t ≡ is_session ws → not t ≡ false
+pub open-tellable : (ws : List ℕ) (s : code.Session) (a : Answer) (f b m m₁ : List ℕ)
+    → answered_open a f b m₁ ≡ counted_open (open_file (given s f b []) m) → held s ≡ session_of ws → is_session ws ≡ true
     → ((i : ℕ) → Fits w32 (get_or ws i 0)) → Tellable ws a
-open-tellable ws t s a f b m m₁ e =
-    tellable (λ st. (open_file st m).outcome) (λ st. open-telling st m) ws t s a f b [] f b [] (ap (λ (o : CountedOpen). o.outcome) e)
+open-tellable ws s a f b m m₁ e =
+    tellable (λ st. (open_file st m).outcome) (λ st. open-telling st m) ws s a f b [] f b [] (ap (λ (o : CountedOpen). o.outcome) e)

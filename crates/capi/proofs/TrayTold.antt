@@ -1,10 +1,10 @@
 -- The tray's promise, told in words: it leaves what words can tell; and two results allowed by it are equal.
 use Prim.Native.Nat.{ℕ, ◌≤◌}
 use mathlib.Core.Path.{◌≡◌, refl, sym, ap, ◌∙◌}
-use mathlib.Core.Bool.{Bool, true, false, cond, not, ◌&&◌}
+use mathlib.Core.Bool.{Bool, true, false, cond, ◌&&◌}
 use mathlib.Core.List.{List, [], ◌∷◌}
 use native.Mathlib.Omega.{arith}
-use borrow.Author.Tests.{not-true, not-false, eq-eqb, ne_eqb}
+use borrow.Author.Tests.{eq-eqb, ne_eqb}
 use mir.Syntax.{w32}
 use mir.Val.{Fits}
 use lib.Dec.{eqb}
@@ -21,7 +21,7 @@ use Rattle.tray.specs.Promise.{CountedTray, counted_tray, answered_tray}
 use Rattle.capi.specs.Words.{is_session, parameters_in, session_of, words_of, most_word}
 use Rattle.capi.specs.Calls.{Writable}
 use Rattle.capi.specs.Tray.{returned_tray, told_tray, called_tray, OneReturnedTray}
-use Rattle.capi.proofs.Told.{asked-whole, asked-no-more}
+use Rattle.capi.proofs.Words.{session-facts}
 use Rattle.capi.proofs.Outcomes.{nsert-telling}
 
 -- ---- every tray leaves what words can tell: the parameters it was given, and a current block that fits a word
@@ -75,16 +75,16 @@ module _ (s : code.Session) (r : Trayed) (f b t g d : List ℕ) (e : answered_tr
       rw k ((tray-tells (given s f b []) t).current-most (rw c (omega arith)))
 
   -- so the words have room for its session
-  pub tray-writable : (ws : List ℕ) (x : Bool) → held s ≡ session_of ws → x ≡ is_session ws → not x ≡ false
+  pub tray-writable : (ws : List ℕ) → held s ≡ session_of ws → is_session ws ≡ true
       → ((i : ℕ) → Fits w32 (get_or ws i 0)) → Writable ws r.session
-  tray-writable ws x same q h word = record {
-    whole = asked-whole ws x q h;
-    no_more = asked-no-more ws x q h;
+  tray-writable ws same is word = record {
+    whole = (session-facts ws is).whole;
+    no_more = (session-facts ws is).no_more;
     same-parameters = tray-parameters ws same;
     current-most = tray-current ws same word;
   }
 
--- ---- the returns of the code: x is its test of the words
+-- ---- the returns of the code
 
 pub two-words : (l : List ℕ) (a b : ℕ) → length l ≡ 2 → set (set l 0 a) 1 b ≡ a ∷ b ∷ []
 two-words [] a b h = absurd (omega arith)
@@ -98,28 +98,23 @@ module _ (ws f b t told : List ℕ) where
   unfolding called_tray
   tray-by c e = rw e
 
-  module _ (x : Bool) (asked : x ≡ is_session ws) where
-    pub tray-none : (r : ℕ) → r ≡ wrong_size → not x ≡ true → returned_tray r ws f b told ≡ called_tray ws f b t told
-    tray-none r e h = (λ j. returned_tray (e j) ws f b told) ∙ tray-by false (ap (λ (c : Bool). c && eqb (length told) 2) (sym asked ∙ not-true x h))
+  pub tray-none : is_session ws ≡ false → returned_tray wrong_size ws f b told ≡ called_tray ws f b t told
+  tray-none not_one = tray-by false (ap (λ (c : Bool). c && eqb (length told) 2) not_one)
 
-    pub tray-untold : (r : ℕ) → r ≡ wrong_size → (length told ≡ 2 → ⊥) → not x ≡ false → returned_tray r ws f b told ≡ called_tray ws f b t told
-    tray-untold r e l h =
-        let y = sym asked ∙ not-false x h in
-        let z = ne_eqb (length told) 2 l in
-        (λ j. returned_tray (e j) ws f b told) ∙ tray-by false (λ j. y j && z j)
+  module _ (is : is_session ws ≡ true) where
+    pub tray-untold : (length told ≡ 2 → ⊥) → returned_tray wrong_size ws f b told ≡ called_tray ws f b t told
+    tray-untold l = let z = ne_eqb (length told) 2 l in tray-by false (λ j. is j && z j)
 
     pub tray-called : (s : code.Session) (a : Trayed) (g d us : List ℕ) (r : ℕ)
         → answered_tray a g d ≡ counted_tray (nsert_tray (given s f b []) t) → held s ≡ session_of ws → us ≡ words_of ws (held a.session) → r ≡ a.number
-        → length told ≡ 2 → not x ≡ false
-        → returned_tray r us g d (set (set told 0 a.transfers) 1 a.stored) ≡ called_tray ws f b t told
-    tray-called s a g d us r e same u n l h =
-        let y = sym asked ∙ not-false x h in
+        → length told ≡ 2 → returned_tray r us g d (set (set told 0 a.transfers) 1 a.stored) ≡ called_tray ws f b t told
+    tray-called s a g d us r e same u n l =
         let z = eq-eqb (length told) 2 l in
         let w = two-words told a.transfers a.stored l in
         (λ j. returned_tray (n j) (u j) g d (w j))
         ∙ ap (told_tray ws) e
         ∙ ap (λ (o : Session). told_tray ws (counted_tray (nsert_tray (lent o f b []) t))) same
-        ∙ tray-by true (λ j. y j && z j)
+        ∙ tray-by true (λ j. is j && z j)
 
 pub one-returned-tray : OneReturnedTray
 one-returned-tray ws file buffer t told r s us vs f g b d m n x y =

@@ -1,10 +1,10 @@
 -- The turning call's promise, told in words: of a session's words the form alone is written; and two results allowed by it are equal.
 use Prim.Native.Nat.{ℕ, ◌≤◌}
 use mathlib.Core.Path.{◌≡◌, refl, sym, ap, ◌∙◌}
-use mathlib.Core.Bool.{Bool, true, false, cond, not, ◌&&◌}
+use mathlib.Core.Bool.{Bool, true, false, cond, ◌&&◌}
 use mathlib.Core.List.{List, [], ◌∷◌, ◌++◌}
 use native.Mathlib.Omega.{arith}
-use borrow.Author.Tests.{not-true, not-false, eq-eqb, ne_eqb, eqb-true}
+use borrow.Author.Tests.{eq-eqb, ne_eqb, eqb-true}
 use mir.Syntax.{w32}
 use mir.Val.{Fits}
 use lib.Dec.{eqb}
@@ -21,7 +21,7 @@ use Rattle.layout.specs.Turned.{other_form}
 use Rattle.rules.specs.State.{Session, lent}
 use Rattle.rules.specs.Turning.{turn_checks, turn_layout, turn_done, turning, describing, turn_file}
 use Rattle.searchfile.specs.declared.Session as code
-use Rattle.searchfile.specs.declared.Answer.{Answer}
+use Rattle.searchfile.specs.Answers.{Answer}
 use Rattle.searchfile.specs.Promise.{held, given}
 use Rattle.searchfile.specs.Turning.{CountedTurn, counted_turn, answered_turn}
 use Rattle.capi.specs.Words.{is_session, parameters_in, session_of, words_of, most_word, bit, packed}
@@ -71,7 +71,7 @@ form-written ws s x n l =
     ∙ ap (front s) (set_at s.position s.desc.form [] x 63 l)
     ∙ (λ j. front s (s.position ++ cond (sym q j) (x ∷ []) []))
 
-module _ (ws f m : List ℕ) (yes : is_session ws ≡ true) (n : length ws ≡ 74) where
+module _ (ws f m : List ℕ) (is : is_session ws ≡ true) (n : length ws ≡ 74) where
   abbrev after : Session
   after = (turn_file (lent (session_of ws) f [] []) m).outcome.after.session
 
@@ -80,7 +80,7 @@ module _ (ws f m : List ℕ) (yes : is_session ws ≡ true) (n : length ws ≡ 7
   turned-words =
       let l : length (part 10 63 ws) ≡ 63 = length_part 10 63 ws (omega arith) in
       let t = (turning-turns (parameters_in ws) f (session_of ws).opened m).same-else in
-      ap (λ (z : List ℕ). set z 73 after.desc.form) (sym (words-kept ws yes))
+      ap (λ (z : List ℕ). set z 73 after.desc.form) (sym (words-kept ws is))
       ∙ form-written ws (session_of ws) after.desc.form n l
       ∙ ap (λ (d : Description). words_of ws (describing d (session_of ws))) t
 
@@ -91,7 +91,7 @@ module _ (ws f m : List ℕ) (yes : is_session ws ≡ true) (n : length ws ≡ 7
       let e = form-read ws (get_or ws 73 0) refl (omega arith) in
       (turning-turns (parameters_in ws) f (session_of ws).opened m).form-most (omega arith)
 
--- ---- the returns of the code: x is its test of the words
+-- ---- the returns of the code
 
 -- what is told with these words for the session
 abbrev form_told : CountedTurn → List ℕ → ReturnedTurn
@@ -103,35 +103,32 @@ module _ (ws f m : List ℕ) where
   unfolding called_turn
   turn_by c e = rw e
 
-  module _ (x : Bool) (asked : x ≡ is_session ws) where
-    pub turn-none : (r : ℕ) → r ≡ packed 0 wrong_size → not x ≡ true → returned_turn r ws f m ≡ called_turn ws f m
-    turn-none r e h = (λ j. returned_turn (e j) ws f m) ∙ turn_by false (ap (λ (c : Bool). c && eqb (length ws) 74) (sym asked ∙ not-true x h))
+  pub turn-none : is_session ws ≡ false → returned_turn wrong_size ws f m ≡ called_turn ws f m
+  unfolding packed
+  turn-none not_one = turn_by false (ap (λ (c : Bool). c && eqb (length ws) 74) not_one)
 
-    pub turn-formless : (r : ℕ) → r ≡ packed 0 wrong_size → (length ws ≡ 74 → ⊥) → not x ≡ false → returned_turn r ws f m ≡ called_turn ws f m
-    turn-formless r e l h =
-        let y = sym asked ∙ not-false x h in
-        let z = ne_eqb (length ws) 74 l in
-        (λ j. returned_turn (e j) ws f m) ∙ turn_by false (λ j. y j && z j)
+  module _ (is : is_session ws ≡ true) where
+    pub turn-formless : (length ws ≡ 74 → ⊥) → returned_turn wrong_size ws f m ≡ called_turn ws f m
+    unfolding packed
+    turn-formless l = let z = ne_eqb (length ws) 74 l in turn_by false (λ j. is j && z j)
 
     module _ (s : code.Session) (a : Answer) (g n : List ℕ) (e : answered_turn a g n ≡ counted_turn (turn_file (given s f [] []) m)) where
       pub turn-called : (us : List ℕ) (r : ℕ) → held s ≡ session_of ws → us ≡ set ws 73 a.session.desc.form
-          → r ≡ packed a.transfers a.number → length ws ≡ 74 → not x ≡ false → returned_turn r us g n ≡ called_turn ws f m
-      turn-called us r same u p l h =
-          let y = sym asked ∙ not-false x h in
+          → r ≡ packed a.transfers a.number → length ws ≡ 74 → returned_turn r us g n ≡ called_turn ws f m
+      turn-called us r same u p l =
           let z = eq-eqb (length ws) 74 l in
           let c = e ∙ ap (λ (o : Session). counted_turn (turn_file (lent o f [] []) m)) same in
           (λ j. returned_turn (p j) (u j) g n)
           ∙ ap (λ (b : CountedTurn). form_told b (set ws 73 b.outcome.after.session.desc.form)) c
-          ∙ ap (form_told (counted_turn (turn_file (lent (session_of ws) f [] []) m))) (turned-words ws f m y l)
-          ∙ turn_by true (λ j. y j && z j)
+          ∙ ap (form_told (counted_turn (turn_file (lent (session_of ws) f [] []) m))) (turned-words ws f m is l)
+          ∙ turn_by true (λ j. is j && z j)
 
-      pub turn-most : held s ≡ session_of ws → length ws ≡ 74 → not x ≡ false → ((i : ℕ) → Fits w32 (get_or ws i 0))
+      pub turn-most : held s ≡ session_of ws → length ws ≡ 74 → ((i : ℕ) → Fits w32 (get_or ws i 0))
           → a.session.desc.form ≤ most_word
-      turn-most same l h word =
-          let y = sym asked ∙ not-false x h in
+      turn-most same l word =
           let c = e ∙ ap (λ (o : Session). counted_turn (turn_file (lent o f [] []) m)) same in
-          let k : a.session.desc.form ≡ (after ws f m y l).desc.form = ap (λ (b : CountedTurn). b.outcome.after.session.desc.form) c in
-          rw k (turned-most ws f m y l word)
+          let k : a.session.desc.form ≡ (after ws f m is l).desc.form = ap (λ (b : CountedTurn). b.outcome.after.session.desc.form) c in
+          rw k (turned-most ws f m is l word)
 
 -- no transfers
 pub turn-free : (s : code.Session) (a : Answer) (f m g n : List ℕ) → answered_turn a g n ≡ counted_turn (turn_file (given s f [] []) m) → a.transfers ≤ 16

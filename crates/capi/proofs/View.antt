@@ -131,19 +131,18 @@ module _ (s : code.Session) (f d : List ℕ) (b : ℕ) (t : Bool) (e : t ≡ sho
   place-file r is h c = simp (sym e ∙ not-false t h, ne_eqb b s.current c) is
 
 module _ (ws f b : List ℕ) (block : ℕ) where
-  -- t is the code's test of the words, r what it returns
-  pub viewed-none : (t : Bool) (r : ℕ) → r ≡ packed 0 wrong_size → t ≡ is_session ws → not t ≡ true → r ≡ viewed ws f b block
-  unfolding viewed
-  viewed-none t r e q h =
-      e ∙ sym (ap (λ (t : Bool). cond t (place_of (lent (session_of ws) f b []) block) (packed 0 wrong_size)) (sym q ∙ not-true t h))
+  pub viewed-none : is_session ws ≡ false → wrong_size ≡ viewed ws f b block
+  unfolding viewed packed
+  viewed-none not_one = sym (ap (λ (t : Bool). cond t (place_of (lent (session_of ws) f b []) block) (packed 0 wrong_size)) not_one)
 
   viewed-some : is_session ws ≡ true → place_of (lent (session_of ws) f b []) block ≡ viewed ws f b block
   unfolding viewed
   viewed-some h = sym (ap (λ (t : Bool). cond t (place_of (lent (session_of ws) f b []) block) (packed 0 wrong_size)) h)
 
-  pub viewed_by : (t : Bool) (s : code.Session) (r : ℕ) → r ≡ place_of (given s f b []) block → held s ≡ session_of ws
-      → t ≡ is_session ws → not t ≡ false → r ≡ viewed ws f b block
-  viewed_by t s r e same q h = e ∙ ap (λ (x : Session). place_of (lent x f b []) block) same ∙ viewed-some (sym q ∙ not-false t h)
+  -- s is the session that the code reads from the words, r what it returns
+  pub viewed_by : (s : code.Session) (r : ℕ) → r ≡ place_of (given s f b []) block → held s ≡ session_of ws
+      → is_session ws ≡ true → r ≡ viewed ws f b block
+  viewed_by s r e same is = e ∙ ap (λ (x : Session). place_of (lent x f b []) block) same ∙ viewed-some is
 
   -- "VIEW of block b lends back that text": the part that the number names is VIEW's, and an empty one where the words are no session's
   pub viewed-named : is_session ws ≡ true

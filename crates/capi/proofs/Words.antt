@@ -5,7 +5,7 @@ use mathlib.Core.Bool.{Bool, true, false, cond}
 use mathlib.Core.List.{List, [], ◌∷◌, ◌++◌, append-nil}
 use native.Mathlib.Omega.{arith}
 use native.Mathlib.Decide.{dec_lt}
-use borrow.Author.Tests.{eq-eqb, ne_eqb, le-leb, lt-leb, leb-true}
+use borrow.Author.Tests.{eq-eqb, ne_eqb, le-leb, leb-true}
 use lib.Dec.{leb, eqb}
 use lib.ListN.{length, get_or, set, drop, length-append, take-append-drop, get_or-eq_default}
 use lib.Seq.{drop-length, drop-cons, drop-drop, take_at, get_or_at}
@@ -60,26 +60,9 @@ module _ (ws : List ℕ) where
         le-leb _ _ h.placed-most,
       )
 
-  -- the tests one by one, as the code makes them
-  pub session-short : length ws < 73 → false ≡ is_session ws
-  unfolding is_session
-  session-short h = simp (lt-leb _ _ h)
-
-  pub session-long : 73 ≤ length ws → 74 < length ws → false ≡ is_session ws
-  unfolding is_session
-  session-long h k = simp (le-leb _ _ h, lt-leb _ _ k)
-
-  pub session-opened : 73 ≤ length ws → length ws ≤ 74 → 1 < get_or ws 6 0 → false ≡ is_session ws
-  unfolding is_session
-  session-opened h k a = simp (le-leb _ _ h, le-leb _ _ k, lt-leb _ _ a)
-
-  pub session-flag : 73 ≤ length ws → length ws ≤ 74 → get_or ws 6 0 ≤ 1 → 1 < get_or ws 8 0 → false ≡ is_session ws
-  unfolding is_session
-  session-flag h k a b = simp (le-leb _ _ h, le-leb _ _ k, le-leb _ _ a, lt-leb _ _ b)
-
-  pub session-placed : 73 ≤ length ws → length ws ≤ 74 → get_or ws 6 0 ≤ 1 → get_or ws 8 0 ≤ 1 → leb (get_or ws 9 0) 1 ≡ is_session ws
-  unfolding is_session
-  session-placed h k a b = simp (le-leb _ _ h, le-leb _ _ k, le-leb _ _ a, le-leb _ _ b)
+  -- what the code's test t tells
+  pub asked-whole : (t : Bool) → t ≡ is_session ws → t ≡ true → 73 ≤ length ws
+  asked-whole t e h = (session-facts (sym e ∙ h)).whole
 
   -- the form as the code reads it: without a place for it the first, else word 73
   pub form-none : length ws ≤ 73 → 1 ≡ get_or ws 73 1

@@ -4,7 +4,7 @@ use Rattle.numbers.specs.Numbers.{wrong_size}
 use Rattle.rules.specs.State.{State, Outcome, lent}
 use Rattle.rules.specs.Open.{open_file}
 use Rattle.searchfile.specs.declared.Session as code
-use Rattle.searchfile.specs.declared.Answer.{Answer}
+use Rattle.searchfile.specs.Answers.{Answer}
 use Rattle.searchfile.specs.Promise.{Counted, CountedOpen, counted, counted_open}
 use Rattle.capi.specs.Words.{is_session, parameters_in, session_of, words_of, most_word, packed}
 

@@ -2,8 +2,7 @@
 ghost use Rattle.std.specs.Prelude.{◌≡◌};
 ghost use Rattle.capi.specs.Copying.{returned_copy, called_copy};
 
-use super::session::{is_session, packed, session_of};
-use numbers::WRONG_SIZE;
+use super::session::{WRONG_WORDS, packed, session_in};
 
 // Copies the session's file into the second one with the new CONTROL; the session stays as it is.
 pub fn nasturakh_copy(
@@ -16,9 +15,9 @@ pub fn nasturakh_copy(
     ensures { returned_copy result session.now file.now second.new marks.new
         ≡ called_copy session.now file.now second.old control marks.old }
 {
-    if !is_session(session) {
-        return packed(0, WRONG_SIZE);
-    }
-    let answer = session_of(session).copy_file(file, second, control, marks);
+    let Some(s) = session_in(session) else {
+        return WRONG_WORDS;
+    };
+    let answer = s.copy_file(file, second, control, marks);
     packed(answer.transfers, answer.number)
 }

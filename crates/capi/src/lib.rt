@@ -1,5 +1,6 @@
 // The calls for programs in other languages, which crate `capi_c` exports. A session is lent as 73 or 74 words (module `session`), every slice is a pointer
 // and a length, and a call's answer is one number: its transfers times 2^32, plus its number. A session slice that is none answers 020007 and changes nothing.
+// Not one function over a closure: tried, and the proof doesn't close, since its caller learns nothing of the slices that the closure captures.
 #![tactic(auto)]
 
 pub mod copying;
@@ -25,19 +26,18 @@ ghost use Rattle.capi.specs.Calls.{returned, called, marked, called_open};
 ghost use Rattle.capi.specs.View.{viewed};
 ghost use Rattle.capi.specs.Plan.{most_in};
 
-use numbers::WRONG_SIZE;
 use place::place_of;
-use plan::{NO_PLAN, PLAN_WORDS, plan_in};
-use session::{is_session, packed, parameters_in, session_of, told};
+use plan::{NO_PLAN, PLAN_WORDS, plan_in, planner_in};
+use session::{WRONG_WORDS, packed, session_in, told};
 
 // CREATE with the session's parameters; the session stays as it is.
 pub fn nasturakh_create(session: &[u32], file: &mut [u32]) -> u64
     ensures { returned result session.now file.new [] [] ≡ called creating session.now file.old [] [] }
 {
-    if !is_session(session) {
-        return packed(0, WRONG_SIZE);
-    }
-    let answer = session_of(session).create(file);
+    let Some(s) = session_in(session) else {
+        return WRONG_WORDS;
+    };
+    let answer = s.create(file);
     packed(answer.transfers, answer.number)
 }
 
@@ -46,10 +46,10 @@ pub fn nasturakh_open(session: &mut [u32], file: &[u32], buffer: &[u32], marks: 
     ensures { marked (returned result session.new file.now buffer.now []) marks.new
         ≡ called_open session.old file.now buffer.now marks.old }
 {
-    if !is_session(session) {
-        return packed(0, WRONG_SIZE);
-    }
-    let answer = session_of(session).open_file(file, buffer, marks);
+    let Some(s) = session_in(session) else {
+        return WRONG_WORDS;
+    };
+    let answer = s.open_file(file, buffer, marks);
     told(session, answer)
 }
 
@@ -58,10 +58,10 @@ pub fn nasturakh_close(session: &mut [u32], file: &mut [u32], buffer: &[u32]) ->
     ensures { returned result session.new file.new buffer.now []
         ≡ called close session.old file.old buffer.now [] }
 {
-    if !is_session(session) {
-        return packed(0, WRONG_SIZE);
-    }
-    let answer = session_of(session).close(file, buffer);
+    let Some(s) = session_in(session) else {
+        return WRONG_WORDS;
+    };
+    let answer = s.close(file, buffer);
     told(session, answer)
 }
 
@@ -75,10 +75,10 @@ pub fn nasturakh_seek(
     ensures { returned result session.new file.new buffer.new work.new
         ≡ called seek session.old file.old buffer.old work.old }
 {
-    if !is_session(session) {
-        return packed(0, WRONG_SIZE);
-    }
-    let answer = session_of(session).seek(file, buffer, work);
+    let Some(s) = session_in(session) else {
+        return WRONG_WORDS;
+    };
+    let answer = s.seek(file, buffer, work);
     told(session, answer)
 }
 
@@ -92,10 +92,10 @@ pub fn nasturakh_adv(
     ensures { returned result session.new file.new buffer.new work.new
         ≡ called adv session.old file.old buffer.old work.old }
 {
-    if !is_session(session) {
-        return packed(0, WRONG_SIZE);
-    }
-    let answer = session_of(session).adv(file, buffer, work);
+    let Some(s) = session_in(session) else {
+        return WRONG_WORDS;
+    };
+    let answer = s.adv(file, buffer, work);
     told(session, answer)
 }
 
@@ -109,10 +109,10 @@ pub fn nasturakh_nsert(
     ensures { returned result session.new file.new buffer.new work.now
         ≡ called nsert session.old file.old buffer.old work.now }
 {
-    if !is_session(session) {
-        return packed(0, WRONG_SIZE);
-    }
-    let answer = session_of(session).nsert(file, buffer, work);
+    let Some(s) = session_in(session) else {
+        return WRONG_WORDS;
+    };
+    let answer = s.nsert(file, buffer, work);
     told(session, answer)
 }
 
@@ -126,10 +126,10 @@ pub fn nasturakh_dlete(
     ensures { returned result session.new file.new buffer.new work.now
         ≡ called dlete session.old file.old buffer.old work.now }
 {
-    if !is_session(session) {
-        return packed(0, WRONG_SIZE);
-    }
-    let answer = session_of(session).dlete(file, buffer, work);
+    let Some(s) = session_in(session) else {
+        return WRONG_WORDS;
+    };
+    let answer = s.dlete(file, buffer, work);
     told(session, answer)
 }
 
@@ -143,10 +143,10 @@ pub fn nasturakh_updat(
     ensures { returned result session.new file.new buffer.new work.now
         ≡ called updat session.old file.old buffer.old work.now }
 {
-    if !is_session(session) {
-        return packed(0, WRONG_SIZE);
-    }
-    let answer = session_of(session).updat(file, buffer, work);
+    let Some(s) = session_in(session) else {
+        return WRONG_WORDS;
+    };
+    let answer = s.updat(file, buffer, work);
     told(session, answer)
 }
 
@@ -160,10 +160,10 @@ pub fn nasturakh_xtend(
     ensures { returned result session.new file.new buffer.new work.now
         ≡ called xtend session.old file.old buffer.old work.now }
 {
-    if !is_session(session) {
-        return packed(0, WRONG_SIZE);
-    }
-    let answer = session_of(session).xtend(file, buffer, work);
+    let Some(s) = session_in(session) else {
+        return WRONG_WORDS;
+    };
+    let answer = s.xtend(file, buffer, work);
     told(session, answer)
 }
 
@@ -171,10 +171,9 @@ pub fn nasturakh_xtend(
 pub fn nasturakh_view(session: &[u32], file: &[u32], buffer: &[u32], block: usize) -> u64
     ensures { result ≡ viewed session.now file.now buffer.now block }
 {
-    if !is_session(session) {
-        return packed(0, WRONG_SIZE);
-    }
-    let s = session_of(session);
+    let Some(s) = session_in(session) else {
+        return WRONG_WORDS;
+    };
     place_of(s, file, buffer, block)
 }
 
@@ -182,13 +181,9 @@ pub fn nasturakh_view(session: &[u32], file: &[u32], buffer: &[u32], block: usiz
 pub fn nasturakh_most_transfers(session: &[u32], plan: &[u32]) -> u64
     ensures { result ≡ most_in session.now plan.now }
 {
-    if !is_session(session) {
+    let Some(p) = planner_in(session) else {
         return NO_PLAN;
-    }
-    let p = parameters_in(session);
-    if !p.is_good() {
-        return NO_PLAN;
-    }
+    };
     if plan.len() != PLAN_WORDS {
         return NO_PLAN;
     }

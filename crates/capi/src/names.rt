@@ -3,8 +3,7 @@ ghost use Rattle.std.specs.Prelude.{◌≡◌};
 ghost use Rattle.register.specs.Register.{enter, ask, romanise, hold, free};
 ghost use Rattle.capi.specs.Calls.{returned, called};
 
-use super::session::{is_session, packed, session_of, told};
-use numbers::WRONG_SIZE;
+use super::session::{WRONG_WORDS, session_in, told};
 
 // Enters the workspace's key as a raw name.
 pub fn nasturakh_enter(
@@ -16,10 +15,10 @@ pub fn nasturakh_enter(
     ensures { returned result session.new file.new buffer.new work.new
         ≡ called enter session.old file.old buffer.old work.old }
 {
-    if !is_session(session) {
-        return packed(0, WRONG_SIZE);
-    }
-    let answer = register::enter(session_of(session), file, buffer, work);
+    let Some(s) = session_in(session) else {
+        return WRONG_WORDS;
+    };
+    let answer = register::enter(s, file, buffer, work);
     told(session, answer)
 }
 
@@ -33,10 +32,10 @@ pub fn nasturakh_ask(
     ensures { returned result session.new file.new buffer.new work.new
         ≡ called ask session.old file.old buffer.old work.old }
 {
-    if !is_session(session) {
-        return packed(0, WRONG_SIZE);
-    }
-    let answer = register::ask(session_of(session), file, buffer, work);
+    let Some(s) = session_in(session) else {
+        return WRONG_WORDS;
+    };
+    let answer = register::ask(s, file, buffer, work);
     told(session, answer)
 }
 
@@ -51,10 +50,10 @@ pub fn nasturakh_romanise(
     ensures { returned result session.new file.new buffer.new work.new
         ≡ called (romanise spelling.now) session.old file.old buffer.old work.old }
 {
-    if !is_session(session) {
-        return packed(0, WRONG_SIZE);
-    }
-    let answer = register::romanise(session_of(session), file, buffer, work, spelling);
+    let Some(s) = session_in(session) else {
+        return WRONG_WORDS;
+    };
+    let answer = register::romanise(s, file, buffer, work, spelling);
     told(session, answer)
 }
 
@@ -68,10 +67,10 @@ pub fn nasturakh_hold(
     ensures { returned result session.new file.new buffer.new work.new
         ≡ called hold session.old file.old buffer.old work.old }
 {
-    if !is_session(session) {
-        return packed(0, WRONG_SIZE);
-    }
-    let answer = register::hold(session_of(session), file, buffer, work);
+    let Some(s) = session_in(session) else {
+        return WRONG_WORDS;
+    };
+    let answer = register::hold(s, file, buffer, work);
     told(session, answer)
 }
 
@@ -85,9 +84,9 @@ pub fn nasturakh_free_name(
     ensures { returned result session.new file.new buffer.new work.new
         ≡ called free session.old file.old buffer.old work.old }
 {
-    if !is_session(session) {
-        return packed(0, WRONG_SIZE);
-    }
-    let answer = register::free(session_of(session), file, buffer, work);
+    let Some(s) = session_in(session) else {
+        return WRONG_WORDS;
+    };
+    let answer = register::free(s, file, buffer, work);
     told(session, answer)
 }

@@ -7,16 +7,16 @@ ghost use Rattle.capi.specs.View.{in_file, place_of};
 use drum::Description;
 use searchfile::Session;
 
-const IN_FILE: u64 = 4294967296;
+const IN_FILE: u64 = 1 << 32;
 
-const IN_BUFFER: u64 = 8589934592;
+const IN_BUFFER: u64 = 1 << 33;
 
 // The number for a block that lies in the file.
 fn in_file(p: Description, b: usize) -> u64
     requires { (good_params p ≡ true) × (1 ≤ b) × (b ≤ p.n) }
     ensures { result ≡ in_file + start p b }
 {
-    IN_FILE + (p.start(b) as u64)
+    IN_FILE + p.start(b) as u64
 }
 
 // The number for block b as the session sees it: 0 where VIEW lends an empty part.
@@ -24,10 +24,10 @@ pub fn place_of(s: Session, file: &[u32], buffer: &[u32], b: usize) -> u64
     ensures { result ≡ place_of (given s file.now buffer.now []) b }
 {
     if !s.shows(file.len(), buffer.len(), b) {
-        return 0;
+        0
+    } else if b == s.current {
+        IN_BUFFER
+    } else {
+        in_file(s.desc, b)
     }
-    if b == s.current {
-        return IN_BUFFER;
-    }
-    in_file(s.desc, b)
 }

@@ -1,13 +1,27 @@
 // A plan as eight words: how many calls of each kind, and how many records.
-ghost use Rattle.std.specs.Prelude.{◌≡◌, length};
+ghost use Rattle.std.specs.Prelude.{◌≡◌, true, false, length, IfSome, IfNone};
+ghost use Rattle.capi.specs.Words.{parameters_in};
+ghost use Rattle.capi.specs.Space.{is_planner};
 ghost use Rattle.capi.specs.Plan.{plan_in};
 
+use super::session::session_in;
 use demands::Plan;
+use drum::Description;
 
 pub const PLAN_WORDS: usize = 8;
 
 // Says that there is no plan: more than any plan can cost.
-pub const NO_PLAN: u64 = 18446744073709551615;
+pub const NO_PLAN: u64 = u64::MAX;
+
+// The parameters to plan by: those of a session's words, where they are in range.
+pub fn planner_in(words: &[u32]) -> Option<Description>
+    ensures yes { IfSome result (λ p. is_planner words.now ≡ true) }
+    ensures same { IfSome result (λ p. p ≡ parameters_in words.now) }
+    ensures no { IfNone result (is_planner words.now ≡ false) }
+{
+    let s = session_in(words)?;
+    if s.desc.is_good() { Some(s.desc) } else { None }
+}
 
 // The plan that eight words are.
 pub fn plan_in(words: &[u32]) -> Plan

@@ -3,10 +3,7 @@
 ghost use Rattle.std.specs.Prelude.{◌≡◌};
 ghost use Rattle.capi.specs.Salvage.{returned_salvage, called_salvage};
 
-use super::session::{is_session, parameters_in, wide};
-use numbers::WRONG_SIZE;
-
-const TOLD_WORDS: usize = 2;
+use super::session::{TOLD_WORDS, WRONG_WORDS, session_in};
 
 // Builds a fresh file of the records in the copy, and reports what was not carried; tells the transfers and the lines. Of the session only the
 // parameters are used.
@@ -21,14 +18,14 @@ pub fn nasturakh_salvage(
     ensures { returned_salvage result fresh.new buffer.new report.new told.new
         ≡ called_salvage session.now copy.now fresh.old buffer.old report.old told.old }
 {
-    if !is_session(session) {
-        return wide(WRONG_SIZE);
-    }
+    let Some(s) = session_in(session) else {
+        return WRONG_WORDS;
+    };
     if told.len() != TOLD_WORDS {
-        return wide(WRONG_SIZE);
+        return WRONG_WORDS;
     }
-    let done = salvage::salvage(parameters_in(session), copy, fresh, buffer, report);
+    let done = salvage::salvage(s.desc, copy, fresh, buffer, report);
     told[0] = done.transfers as u64;
     told[1] = done.lines as u64;
-    wide(done.number)
+    u64::from(done.number)
 }

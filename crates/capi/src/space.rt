@@ -3,20 +3,15 @@ ghost use Rattle.std.specs.Prelude.{◌≡◌};
 ghost use Rattle.demands.specs.Space.{most_sections, most_blocks};
 ghost use Rattle.capi.specs.Space.{space_in};
 
-use super::plan::NO_PLAN;
-use super::session::{is_session, parameters_in};
+use super::plan::{NO_PLAN, planner_in};
 
 // The most blocks that so many names take, put in by NSERT in any order; 2^64 - 1 where there is no session.
 pub fn nasturakh_most_blocks(session: &[u32], names: u32) -> u64
     ensures { result ≡ space_in most_blocks session.now names }
 {
-    if !is_session(session) {
+    let Some(p) = planner_in(session) else {
         return NO_PLAN;
-    }
-    let p = parameters_in(session);
-    if !p.is_good() {
-        return NO_PLAN;
-    }
+    };
     demands::most_blocks(p, names)
 }
 
@@ -24,12 +19,8 @@ pub fn nasturakh_most_blocks(session: &[u32], names: u32) -> u64
 pub fn nasturakh_most_sections(session: &[u32], names: u32) -> u64
     ensures { result ≡ space_in most_sections session.now names }
 {
-    if !is_session(session) {
+    let Some(p) = planner_in(session) else {
         return NO_PLAN;
-    }
-    let p = parameters_in(session);
-    if !p.is_good() {
-        return NO_PLAN;
-    }
+    };
     demands::most_sections(p, names)
 }

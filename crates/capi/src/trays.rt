@@ -3,10 +3,7 @@
 ghost use Rattle.std.specs.Prelude.{◌≡◌};
 ghost use Rattle.capi.specs.Tray.{returned_tray, called_tray};
 
-use super::session::{is_session, put_session, session_of, wide};
-use numbers::WRONG_SIZE;
-
-const TOLD_WORDS: usize = 2;
+use super::session::{TOLD_WORDS, WRONG_WORDS, put_session, session_in};
 
 // Puts in the records of the tray; tells the transfers and how many were stored.
 pub fn nasturakh_nsert_tray(
@@ -19,15 +16,15 @@ pub fn nasturakh_nsert_tray(
     ensures { returned_tray result session.new file.new buffer.new told.new
         ≡ called_tray session.old file.old buffer.old tray.now told.old }
 {
-    if !is_session(session) {
-        return wide(WRONG_SIZE);
-    }
+    let Some(s) = session_in(session) else {
+        return WRONG_WORDS;
+    };
     if told.len() != TOLD_WORDS {
-        return wide(WRONG_SIZE);
+        return WRONG_WORDS;
     }
-    let trayed = tray::nsert_tray(session_of(session), file, buffer, tray);
+    let trayed = tray::nsert_tray(s, file, buffer, tray);
     put_session(session, trayed.session);
     told[0] = trayed.transfers as u64;
     told[1] = trayed.stored as u64;
-    wide(trayed.number)
+    u64::from(trayed.number)
 }

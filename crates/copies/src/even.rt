@@ -1,13 +1,16 @@
 // A master of 6 words becomes one of 10: its length is made even, so one section more moves the blocks by 4 words, not by K+1.
-use super::said::{copied, told};
+use super::shown::copied;
 use drum::Description;
+use said::told;
 use searchfile::Session;
 use std::io;
 
 fn copy(out: &impl Print, s: Session, file: &[u32]) -> io::Result<()> {
     let mut second = [9u32; 34];
     let mut marks = [9u8; 3];
-    copied(out, b"COPY 2", s, file, &mut second, 2, &mut marks)
+    let answer = s.copy_file(file, &mut second, 2, &mut marks);
+    print!(out; "COPY 2")?;
+    copied(out, answer, &second, &marks)
 }
 
 fn description() -> Description {
@@ -26,15 +29,22 @@ pub fn run(out: &impl Print) -> io::Result<()> {
     let work = [3u32, 4];
     let begun = told(
         out,
-        b"CREATE",
+        "CREATE",
+        &[],
         Session::new(description()).create(&mut file),
     )?;
-    let opened = told(out, b"OPEN", begun.open_file(&file, &buffer, &mut marks))?;
+    let opened = told(
+        out,
+        "OPEN",
+        &[],
+        begun.open_file(&file, &buffer, &mut marks),
+    )?;
     let stored = told(
         out,
-        b"NSERT 3 4",
+        "NSERT 3 4",
+        &[],
         opened.nsert(&mut file, &mut buffer, &work),
     )?;
-    let s = told(out, b"CLOSE", stored.close(&mut file, &buffer))?;
+    let s = told(out, "CLOSE", &[], stored.close(&mut file, &buffer))?;
     copy(out, s, &file)
 }

@@ -1,6 +1,7 @@
 // The fifteen calls of the printed session; their file copied to CONTROL 5, then copies into the same words that are refused.
-use super::said::{copied, told};
+use super::shown::copied;
 use drum::Description;
+use said::told;
 use searchfile::Session;
 use std::io;
 
@@ -11,7 +12,7 @@ fn nsert(
     buffer: &mut [u32; 8],
     record: [u32; 3],
 ) -> io::Result<Session> {
-    told(out, b"NSERT", s.nsert(file, buffer, &record))
+    told(out, "NSERT", &[], s.nsert(file, buffer, &record))
 }
 
 fn dlete(
@@ -22,7 +23,7 @@ fn dlete(
     key: u32,
 ) -> io::Result<Session> {
     let work = [key, 0, 0];
-    told(out, b"DLETE", s.dlete(file, buffer, &work))
+    told(out, "DLETE", &[], s.dlete(file, buffer, &work))
 }
 
 fn xtend(
@@ -32,7 +33,7 @@ fn xtend(
     buffer: &mut [u32; 8],
     record: [u32; 3],
 ) -> io::Result<Session> {
-    told(out, b"XTEND", s.xtend(file, buffer, &record))
+    told(out, "XTEND", &[], s.xtend(file, buffer, &record))
 }
 
 // The calls that store.
@@ -61,9 +62,9 @@ fn read(
     buffer: &mut [u32; 8],
 ) -> io::Result<Session> {
     let mut work = [20u32, 0, 0];
-    let sought = told(out, b"SEEK", start.seek(file, buffer, &mut work))?;
-    let next = told(out, b"ADV", sought.adv(file, buffer, &mut work))?;
-    told(out, b"ADV", next.adv(file, buffer, &mut work))
+    let sought = told(out, "SEEK", &[], start.seek(file, buffer, &mut work))?;
+    let next = told(out, "ADV", &[], sought.adv(file, buffer, &mut work))?;
+    told(out, "ADV", &[], next.adv(file, buffer, &mut work))
 }
 
 fn close(
@@ -72,29 +73,19 @@ fn close(
     file: &mut [u32; 40],
     buffer: &[u32; 8],
 ) -> io::Result<Session> {
-    told(out, b"CLOSE", s.close(file, buffer))
-}
-
-fn copy(
-    out: &impl Print,
-    name: &[u8],
-    s: Session,
-    file: &[u32; 40],
-    second: &mut [u32; 46],
-    control: usize,
-    marks: &mut [u8; 4],
-) -> io::Result<()> {
-    copied(out, name, s, file, second, control, marks)
+    told(out, "CLOSE", &[], s.close(file, buffer))
 }
 
 // A copy; then a CONTROL that is too low, one for which the second file is too long, and one that is too high.
 fn copies(out: &impl Print, s: Session, file: &[u32; 40]) -> io::Result<()> {
     let mut second = [9u32; 46];
     let mut marks = [9u8; 4];
-    copy(out, b"COPY 5", s, file, &mut second, 5, &mut marks)?;
-    copy(out, b"COPY 0", s, file, &mut second, 0, &mut marks)?;
-    copy(out, b"COPY 1", s, file, &mut second, 1, &mut marks)?;
-    copy(out, b"COPY 16384", s, file, &mut second, 16384, &mut marks)
+    for control in [5, 0, 1, 16384] {
+        let answer = s.copy_file(file, &mut second, control, &mut marks);
+        print!(out; "COPY {control}")?;
+        copied(out, answer, &second, &marks)?;
+    }
+    Ok(())
 }
 
 fn description() -> Description {
@@ -112,10 +103,16 @@ pub fn run(out: &impl Print) -> io::Result<()> {
     let mut marks = [9u8; 4];
     let begun = told(
         out,
-        b"CREATE",
+        "CREATE",
+        &[],
         Session::new(description()).create(&mut file),
     )?;
-    let opened = told(out, b"OPEN", begun.open_file(&file, &buffer, &mut marks))?;
+    let opened = told(
+        out,
+        "OPEN",
+        &[],
+        begun.open_file(&file, &buffer, &mut marks),
+    )?;
     let stored = changed(out, opened, &mut file, &mut buffer)?;
     let found = read(out, stored, &mut file, &mut buffer)?;
     let s = close(out, found, &mut file, &buffer)?;

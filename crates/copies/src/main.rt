@@ -4,7 +4,7 @@
 mod even;
 mod fifteen;
 mod many;
-mod said;
+mod shown;
 
 use std::io;
 

@@ -1,16 +1,8 @@
 // 4,200 sections made by XTEND, copied to CONTROL 16383; the copy opened, and the last key found there.
-use super::said::{print_bytes, print_number, told};
 use drum::Description;
+use said::told;
 use searchfile::Session;
 use std::io;
-
-fn long(x: u32) -> u64 {
-    x as u64
-}
-
-fn count(x: usize) -> u64 {
-    x as u64
-}
 
 fn description() -> Description {
     Description::new()
@@ -34,21 +26,12 @@ fn ascending(
     for key in 1u32..41991 {
         let work = [key];
         let answer = s.xtend(file, buffer, &work);
-        numbers = numbers.wrapping_add(long(answer.number));
-        transfers = transfers.wrapping_add(count(answer.transfers));
+        numbers = numbers.wrapping_add(u64::from(answer.number));
+        transfers = transfers.wrapping_add(answer.transfers as u64);
         s = answer.session;
     }
-    print_bytes(out, b"XTEND 1 to 41990, numbers and transfers")?;
-    print_number(out, numbers)?;
-    print_number(out, transfers)?;
-    print_bytes(out, b"\n")?;
+    println!(out; "XTEND 1 to 41990, numbers and transfers {numbers} {transfers}")?;
     Ok(s)
-}
-
-fn print_sections(out: &impl Print, file: &[u32; 130004]) -> io::Result<()> {
-    print_bytes(out, b"sections")?;
-    print_number(out, long(file[0]))?;
-    print_bytes(out, b"\n")
 }
 
 // 4095 is below the sections in use.
@@ -57,7 +40,8 @@ fn too_few(out: &impl Print, s: Session, file: &[u32]) -> io::Result<()> {
     let mut marks = [9u8; 20000];
     told(
         out,
-        b"COPY 4095",
+        "COPY 4095",
+        &[],
         s.copy_file(file, &mut second, 4095, &mut marks),
     )?;
     Ok(())
@@ -69,10 +53,16 @@ fn used(out: &impl Print, second: &mut [u32; 152770]) -> io::Result<()> {
     let mut work = [41990u32];
     let mut marks = [9u8; 20000];
     let begun = Session::new(description().with_control(16383));
-    let opened = told(out, b"OPEN", begun.open_file(second, &buffer, &mut marks))?;
+    let opened = told(
+        out,
+        "OPEN",
+        &[],
+        begun.open_file(second, &buffer, &mut marks),
+    )?;
     told(
         out,
-        b"SEEK 41990",
+        "SEEK 41990",
+        &[],
         opened.seek(second, &mut buffer, &mut work),
     )?;
     Ok(())
@@ -83,7 +73,8 @@ fn enough(out: &impl Print, s: Session, file: &[u32]) -> io::Result<()> {
     let mut marks = [9u8; 20000];
     told(
         out,
-        b"COPY 16383",
+        "COPY 16383",
+        &[],
         s.copy_file(file, &mut second, 16383, &mut marks),
     )?;
     used(out, &mut second)
@@ -95,13 +86,19 @@ pub fn run(out: &impl Print) -> io::Result<()> {
     let mut marks = [9u8; 20000];
     let begun = told(
         out,
-        b"CREATE",
+        "CREATE",
+        &[],
         Session::new(description()).create(&mut file),
     )?;
-    let opened = told(out, b"OPEN", begun.open_file(&file, &buffer, &mut marks))?;
+    let opened = told(
+        out,
+        "OPEN",
+        &[],
+        begun.open_file(&file, &buffer, &mut marks),
+    )?;
     let filled = ascending(out, opened, &mut file, &mut buffer)?;
-    let s = told(out, b"CLOSE", filled.close(&mut file, &buffer))?;
-    print_sections(out, &file)?;
+    let s = told(out, "CLOSE", &[], filled.close(&mut file, &buffer))?;
+    println!(out; "sections {}", file[0])?;
     too_few(out, s, &file)?;
     enough(out, s, &file)
 }

@@ -3,6 +3,7 @@
 
 ghost use Rattle.std.specs.Prelude.{◌≡◌, true, ◌&&◌, ◌++◌, ◌-◌, ◌≤◌, eqb, length};
 ghost use Rattle.words.specs.Words.{part, put, zeros};
+ghost use Rattle.numbers.specs.Refused.{number};
 ghost use Rattle.drum.specs.Params.{good_params, master_size, file_size};
 ghost use Rattle.drum.specs.Blocks.{sections};
 ghost use Rattle.layout.specs.Inspected.{Fit};
@@ -11,37 +12,22 @@ ghost use Rattle.rules.specs.Copy.{copy_left, copy_sizes, copy};
 ghost use Rattle.copy.specs.Fits.{CopyFits};
 
 use drum::Description;
-use numbers::{ALREADY_OPEN, BAD_FILE, DONE, WRONG_SIZE};
+use numbers::{Refusal, require};
 
 // Whether the parameters are good and a file of that length is theirs.
 fn is_file(p: Description, file: usize) -> bool
     ensures { result ≡ (good_params p && eqb file (file_size p)) }
 {
-    if !p.is_good() {
-        return false;
-    }
-    file == p.file_size()
+    p.is_good() && file == p.file_size()
 }
 
 // Whether parameters, lengths and the new CONTROL are right. Word 0 of the file is taken as it stands: nobody has inspected the file yet.
 fn is_sized(p: Description, control: usize, file: &[u32], second: usize, marks: usize) -> bool
     ensures { result ≡ copy_sizes p control file.now second marks }
 {
-    if !is_file(p, file.len()) {
-        return false;
-    }
-    let sections = words::word_at(file, 0);
-    if marks != p.n {
-        return false;
-    }
     let q = p.with_control(control);
-    if !is_file(q, second) {
-        return false;
-    }
-    if control < sections {
-        return false;
-    }
-    true
+    let are_files = is_file(p, file.len()) && is_file(q, second);
+    are_files && marks == p.n && words::word_at(file, 0) <= control
 }
 
 // The words of the master that are in use: its three numbers and its entries.
@@ -67,8 +53,7 @@ fn new_master(p: Description, control: usize) -> usize
     requires { good_params (under_control control p) ≡ true }
     ensures { result ≡ master_size (under_control control p) }
 {
-    let q = p.with_control(control);
-    master_of(q)
+    master_of(p.with_control(control))
 }
 
 // Writes a master of `new` words: the `used` words of the file's, and zeros behind them.
@@ -92,7 +77,7 @@ fn lay_copy(p: Description, control: usize, file: &[u32], second: &mut [u32])
     words::copy_words(second, new, file, old, file.len() - old);
 }
 
-// Copies the file of a session with these parameters, open or not, into the second one with the new CONTROL; answers the number.
+// Copies the file of a session with these parameters, open or not, into the second one with the new CONTROL.
 pub fn copy_file(
     p: Description,
     opened: bool,
@@ -100,18 +85,15 @@ pub fn copy_file(
     file: &[u32],
     second: &mut [u32],
     marks: &mut [u8],
-) -> u32
-    ensures { copy_left result second.new marks.new ≡ copy p opened control file.now second.old marks.old }
+) -> Result<(), Refusal>
+    ensures { copy_left (number result) second.new marks.new ≡ copy p opened control file.now second.old marks.old }
 {
-    if !is_sized(p, control, file, second.len(), marks.len()) {
-        return WRONG_SIZE;
-    }
-    if opened {
-        return ALREADY_OPEN;
-    }
-    if !layout::inspect(p, file, marks) {
-        return BAD_FILE;
-    }
+    require(
+        is_sized(p, control, file, second.len(), marks.len()),
+        Refusal::WrongSize,
+    )?;
+    require(!opened, Refusal::AlreadyOpen)?;
+    require(layout::inspect(p, file, marks), Refusal::BadFile)?;
     lay_copy(p, control, file, second);
-    DONE
+    Ok(())
 }

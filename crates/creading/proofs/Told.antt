@@ -1,11 +1,11 @@
--- A reading call's promise, told in words by the laws of the full set's calls. The laws speak as the code does: t is its test of the words, s the reading
--- session that it reads from them, a the reading call's answer, r what it returns.
-use Prim.Native.Nat.{ℕ, ◌≤◌, ◌<◌}
+-- A reading call's promise, told in words by the laws of the full set's calls. The laws speak as the code does: s is the reading session that it reads from
+-- the words, a the reading call's answer, r what it returns.
+use Prim.Native.Nat.{ℕ, zero, suc, ◌≤◌}
 use mathlib.Core.Path.{◌≡◌, refl, sym, ap, ◌∙◌}
-use mathlib.Core.Bool.{Bool, true, false, cond, not}
+use mathlib.Core.Bool.{Bool, true, false, cond, not, ◌&&◌}
 use mathlib.Core.List.{List, []}
 use native.Mathlib.Omega.{arith}
-use borrow.Author.Tests.{not-true, not-false, eqb-true, eq-eqb, ne_eqb}
+use borrow.Author.Tests.{eqb-true, eq-eqb, ne_eqb}
 use lib.Dec.{eqb}
 use lib.ListN.{length, get_or}
 use mir.Syntax.{w32}
@@ -22,7 +22,7 @@ use Rattle.searchfile.specs.Promise.{held}
 use Rattle.searchfile.specs.Promise as full
 use Rattle.face.specs.Counted.{CountedOpen, counted, counted_open}
 use Rattle.reading.specs.declared.ReadingSession.{ReadingSession}
-use Rattle.reading.specs.declared.Answer.{Answer}
+use Rattle.reading.specs.Answers.{Answer}
 use Rattle.reading.specs.Finished.{finished_marks}
 use Rattle.reading.specs.Reading.{one_section, as_session, given, answered, answered_open, profile, altering, read_open, read_open_done}
 use Rattle.capi.specs.Words.{is_session, parameters_in, session_of, words_of, packed}
@@ -73,102 +73,110 @@ open-telling marks st = go (require (one_section (desc st)) wrong_size >> open_c
 
 -- ---- the words of a reading session
 
-pub word-there : (ws : List ℕ) (t : Bool) → t ≡ is_session ws → not t ≡ false → 8 < length ws
-word-there ws t e h = omega (arith, (session-facts ws (sym e ∙ not-false t h)).whole)
-
-pub reading-none : (ws : List ℕ) (t : Bool) → t ≡ is_session ws → not t ≡ true → false ≡ is_reading ws
+pub reading-none : (ws : List ℕ) → is_session ws ≡ false → is_reading ws ≡ false
 unfolding is_reading
-reading-none ws t e h = simp (sym e ∙ not-true t h)
+reading-none ws h = ap (λ (t : Bool). t && eqb (get_or ws 8 0) 0) h
 
-pub reading-off : (ws : List ℕ) (t : Bool) → t ≡ is_session ws → not t ≡ false → eqb (get_or ws 8 0) 0 ≡ is_reading ws
+-- a word that is 0 or 1 is 0, or 1
+zero_or_one : (x : ℕ) → x ≤ 1 → eqb x 0 ≡ not (eqb x 1)
+zero_or_one zero h = refl
+zero_or_one (suc zero) h = refl
+zero_or_one (suc (suc x)) h = absurd (omega arith)
+
+module _ (ws : List ℕ) (is : is_session ws ≡ true) (s : code.Session) (same : held s ≡ session_of ws) where
+  -- the flag of the session read from them says whether they are a reading session's
+  reading_is : (t : Bool) → s.flag ≡ t → is_reading ws ≡ not t
+  unfolding is_reading session_of
+  reading_is t f =
+      ap (λ (x : Bool). x && eqb (get_or ws 8 0) 0) is
+      ∙ zero_or_one (get_or ws 8 0) (session-facts ws is).flag-most
+      ∙ ap not (sym (ap (λ (x : Session). x.flag) same) ∙ f)
+
+  pub reading-flagged : s.flag ≡ true → is_reading ws ≡ false
+  reading-flagged = reading_is true
+
+  pub reading-unflagged : s.flag ≡ false → is_reading ws ≡ true
+  reading-unflagged = reading_is false
+
+parts : (ws : List ℕ) → is_reading ws ≡ true → (is_session ws ≡ true) × (eqb (get_or ws 8 0) 0 ≡ true)
 unfolding is_reading
-reading-off ws t e h = simp (sym e ∙ not-false t h)
-
-module _ (ws : List ℕ) (t : Bool) (e : t ≡ is_reading ws) (h : not t ≡ false) where
-  parts : (is_session ws ≡ true) × (eqb (get_or ws 8 0) 0 ≡ true)
-  unfolding is_reading
-  parts = and_both (is_session ws) (eqb (get_or ws 8 0) 0) (sym e ∙ not-false t h)
-
-  pub asked-whole : 73 ≤ length ws
-  asked-whole = (session-facts ws parts.0).whole
-
-  pub asked-off : get_or ws 8 0 ≡ 0
-  asked-off = eqb-true _ _ parts.1
+parts ws = and_both (is_session ws) (eqb (get_or ws 8 0) 0)
 
 -- the session read from them, without its flag
-pub reading-by : (ws : List ℕ) (s : code.Session) → held s ≡ session_of ws → get_or ws 8 0 ≡ 0
+pub reading-by : (ws : List ℕ) (s : code.Session) → held s ≡ session_of ws → is_reading ws ≡ true
     → ◌≡◌ {A = Session}
     (record { desc = s.desc; opened = s.opened; current = s.current; flag = false; placed = s.placed; position = s.position }) (session_of ws)
 unfolding session_of
-reading-by ws s e z =
+reading-by ws s e is =
+    let z = eqb-true (get_or ws 8 0) 0 (parts ws is).1 in
     let off : s.flag ≡ false = ap (λ (x : Session). x.flag) e ∙ ap (λ (n : ℕ). eqb n 1) z in
     (λ i. record { desc = s.desc; opened = s.opened; current = s.current; flag = sym off i; placed = s.placed; position = s.position }) ∙ e
 
 -- ---- the calls
 
 -- words that are no reading session's
-module _ (ws : List ℕ) (t : Bool) (r : ℕ) (e : t ≡ is_reading ws) (h : not t ≡ true) (p : r ≡ packed 0 wrong_size) where
-  pub called-none : (call : State → Outcome) (f b w : List ℕ) → returned r ws f b w ≡ called_reading call ws f b w
-  unfolding called_reading
-  called-none call f b w = simp (sym e ∙ not-true t h) (λ j. returned (p j) ws f b w)
+module _ (ws : List ℕ) (h : is_reading ws ≡ false) where
+  pub called-none : (call : State → Outcome) (f b w : List ℕ) → returned wrong_size ws f b w ≡ called_reading call ws f b w
+  unfolding called_reading packed
+  called-none call f b w = simp h
 
-  pub open_none : (f b m : List ℕ) → marked (returned r ws f b []) m ≡ called_reading_open ws f b m
-  unfolding called_reading_open
-  open_none f b m = simp (sym e ∙ not-true t h) (λ j. marked (returned (p j) ws f b []) m)
+  pub open_none : (f b m : List ℕ) → marked (returned wrong_size ws f b []) m ≡ called_reading_open ws f b m
+  unfolding called_reading_open packed
+  open_none f b m = simp h
 
-  pub view-none : (f b : List ℕ) (block : ℕ) → r ≡ viewed_reading ws f b block
-  unfolding viewed_reading
-  view-none f b block = simp (sym e ∙ not-true t h) p
+  pub view-none : (f b : List ℕ) (block : ℕ) → wrong_size ≡ viewed_reading ws f b block
+  unfolding viewed_reading packed
+  view-none f b block = simp h
 
 -- words that are one's: the answer is told
-module _ (ws : List ℕ) (t : Bool) (s : ReadingSession) (a : Answer) where
+module _ (ws : List ℕ) (s : ReadingSession) (a : Answer) where
   pub call-told : (call : State → Outcome) (f b w b₁ w₁ us : List ℕ) (r : ℕ) → answered a f b₁ w₁ ≡ counted (call (given s f b w))
       → as_session s ≡ session_of ws → (r ≡ packed a.transfers a.number) × (us ≡ words_of ws (as_session a.session))
-      → t ≡ is_reading ws → not t ≡ false → returned r us f b₁ w₁ ≡ called_reading call ws f b w
+      → is_reading ws ≡ true → returned r us f b₁ w₁ ≡ called_reading call ws f b w
   unfolding called_reading
-  call-told call f b w b₁ w₁ us r e same p x h =
-      simp (sym x ∙ not-false t h)
+  call-told call f b w b₁ w₁ us r e same p h =
+      simp h
       ((λ j. returned (p.0 j) (p.1 j) f b₁ w₁)
       ∙ ap (told_in_words ws) e
       ∙ ap (λ (z : Session). told_in_words ws (counted (call (lent z f b w)))) same)
 
   pub open_told : (f b m m₁ us : List ℕ) (r : ℕ) → answered_open a f b m₁ ≡ counted_open (read_open (given s f b []) m)
       → as_session s ≡ session_of ws → (r ≡ packed a.transfers a.number) × (us ≡ words_of ws (as_session a.session))
-      → t ≡ is_reading ws → not t ≡ false → marked (returned r us f b []) m₁ ≡ called_reading_open ws f b m
+      → is_reading ws ≡ true → marked (returned r us f b []) m₁ ≡ called_reading_open ws f b m
   unfolding called_reading_open
-  open_told f b m m₁ us r e same p x h =
-      simp (sym x ∙ not-false t h)
+  open_told f b m m₁ us r e same p h =
+      simp h
       ((λ j. marked (returned (p.0 j) (p.1 j) f b []) m₁)
       ∙ ap (told_open ws) e
       ∙ ap (λ (z : Session). told_open ws (counted_open (read_open (lent z f b []) m))) same)
 
 -- and it can be told
 pub can-tell : (call : State → Outcome) → ((st : State) → Telling st (call st))
-    → (ws : List ℕ) (t : Bool) (s : ReadingSession) (a : Answer) (f b w b₁ w₁ : List ℕ)
+    → (ws : List ℕ) (s : ReadingSession) (a : Answer) (f b w b₁ w₁ : List ℕ)
     → answered a f b₁ w₁ ≡ counted (call (given s f b w))
-    → as_session s ≡ session_of ws → t ≡ is_reading ws → not t ≡ false → ((i : ℕ) → Fits w32 (get_or ws i 0)) → Tellable ws (whole_answer a)
-can-tell call tells ws t s a f b w b₁ w₁ e same x h word =
-    tellable call tells ws true (whole_session s) (whole_answer a) f b w f b₁ w₁ e same (sym (parts ws t x h).0) refl word
+    → as_session s ≡ session_of ws → is_reading ws ≡ true → ((i : ℕ) → Fits w32 (get_or ws i 0)) → Tellable ws (whole_answer a)
+can-tell call tells ws s a f b w b₁ w₁ e same h word =
+    tellable call tells ws (whole_session s) (whole_answer a) f b w f b₁ w₁ e same (parts ws h).0 word
 
-pub can-tell-open : (ws : List ℕ) (t : Bool) (s : ReadingSession) (a : Answer) (f b m m₁ : List ℕ)
+pub can-tell-open : (ws : List ℕ) (s : ReadingSession) (a : Answer) (f b m m₁ : List ℕ)
     → answered_open a f b m₁ ≡ counted_open (read_open (given s f b []) m)
-    → as_session s ≡ session_of ws → t ≡ is_reading ws → not t ≡ false → ((i : ℕ) → Fits w32 (get_or ws i 0)) → Tellable ws (whole_answer a)
-can-tell-open ws t s a f b m m₁ e =
-    can-tell (λ st. (read_open st m).outcome) (open-telling m) ws t s a f b [] b [] (ap (λ (o : CountedOpen). o.outcome) e)
+    → as_session s ≡ session_of ws → is_reading ws ≡ true → ((i : ℕ) → Fits w32 (get_or ws i 0)) → Tellable ws (whole_answer a)
+can-tell-open ws s a f b m m₁ e =
+    can-tell (λ st. (read_open st m).outcome) (open-telling m) ws s a f b [] b [] (ap (λ (o : CountedOpen). o.outcome) e)
 
 -- ---- VIEW
 
-module _ (ws f b : List ℕ) (block : ℕ) (t : Bool) (s : code.Session) (same : held s ≡ session_of ws) (e : t ≡ is_reading ws) (h : not t ≡ false) where
+module _ (ws f b : List ℕ) (block : ℕ) (s : code.Session) (same : held s ≡ session_of ws) (h : is_reading ws ≡ true) where
   control : s.desc.control ≡ (parameters_in ws).control
   unfolding session_of
   control = ap (λ (x : Session). x.desc.control) same
 
   pub view-many : (s.desc.control ≡ 1 → ⊥) → 0 ≡ viewed_reading ws f b block
   unfolding viewed_reading
-  view-many n = simp (sym e ∙ not-false t h, ne_eqb (parameters_in ws).control 1 (λ x. n (control ∙ x)))
+  view-many n = simp (h, ne_eqb (parameters_in ws).control 1 (λ x. n (control ∙ x)))
 
   pub view-told : (r : ℕ) → r ≡ place_of (full.given s f b []) block → s.desc.control ≡ 1 → r ≡ viewed_reading ws f b block
   unfolding viewed_reading
   view-told r q one =
-      simp (sym e ∙ not-false t h, eq-eqb (parameters_in ws).control 1 (sym control ∙ one))
+      simp (h, eq-eqb (parameters_in ws).control 1 (sym control ∙ one))
       (q ∙ ap (λ (x : Session). place_of (lent x f b []) block) same)

@@ -4,9 +4,9 @@ use Rattle.numbers.specs.Numbers.{wrong_size}
 use Rattle.rules.specs.State.{State, Outcome, lent}
 use Rattle.face.specs.Counted.{counted, counted_open}
 use Rattle.searchfile.specs.declared.Session.{Session}
-use Rattle.searchfile.specs.declared.Answer.{Answer}
+use Rattle.searchfile.specs.Answers.{Answer}
 use Rattle.reading.specs.declared.ReadingSession.{ReadingSession}
-use Rattle.reading.specs.declared.Answer as reading
+use Rattle.reading.specs.Answers as reading
 use Rattle.reading.specs.Reading.{one_section, read_open}
 use Rattle.capi.specs.Words.{is_session, parameters_in, session_of, packed}
 use Rattle.capi.specs.Calls.{Returned, ReturnedOpen, returned, told_in_words, marked, told_open}

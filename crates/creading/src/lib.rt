@@ -1,5 +1,6 @@
 // The reading set's calls for programs in other languages, which crate `creading_c` exports: shapes and answers are those of the full set's calls, the
 // file is lent to be read alone.
+// Not one function over a closure, as in `capi`: the proof doesn't close.
 #![tactic(auto)]
 
 mod session;
@@ -10,9 +11,8 @@ ghost use Rattle.capi.specs.Calls.{returned, marked};
 ghost use Rattle.creading.specs.Calls.{called_reading, called_reading_open, viewed_reading};
 
 use capi::place::place_of;
-use capi::session::{packed, session_of};
-use numbers::WRONG_SIZE;
-use session::{is_reading, reading_of, told_reading};
+use capi::session::WRONG_WORDS;
+use session::{reading_in, told_reading, unflagged_in};
 
 // OPEN, which marks every block.
 pub fn nasturakh_reading_open(
@@ -24,10 +24,10 @@ pub fn nasturakh_reading_open(
     ensures { marked (returned result session.new file.now buffer.now []) marks.new
         ≡ called_reading_open session.old file.now buffer.now marks.old }
 {
-    if !is_reading(session) {
-        return packed(0, WRONG_SIZE);
-    }
-    let answer = reading_of(session).open(file, buffer, marks);
+    let Some(s) = reading_in(session) else {
+        return WRONG_WORDS;
+    };
+    let answer = s.open(file, buffer, marks);
     told_reading(session, answer)
 }
 
@@ -36,10 +36,10 @@ pub fn nasturakh_reading_close(session: &mut [u32], file: &[u32], buffer: &[u32]
     ensures { returned result session.new file.now buffer.now []
         ≡ called_reading read_close session.old file.now buffer.now [] }
 {
-    if !is_reading(session) {
-        return packed(0, WRONG_SIZE);
-    }
-    let answer = reading_of(session).close(file, buffer);
+    let Some(s) = reading_in(session) else {
+        return WRONG_WORDS;
+    };
+    let answer = s.close(file, buffer);
     told_reading(session, answer)
 }
 
@@ -53,10 +53,10 @@ pub fn nasturakh_reading_seek(
     ensures { returned result session.new file.now buffer.new work.new
         ≡ called_reading read_seek session.old file.now buffer.old work.old }
 {
-    if !is_reading(session) {
-        return packed(0, WRONG_SIZE);
-    }
-    let answer = reading_of(session).seek(file, buffer, work);
+    let Some(s) = reading_in(session) else {
+        return WRONG_WORDS;
+    };
+    let answer = s.seek(file, buffer, work);
     told_reading(session, answer)
 }
 
@@ -70,10 +70,10 @@ pub fn nasturakh_reading_adv(
     ensures { returned result session.new file.now buffer.new work.new
         ≡ called_reading read_adv session.old file.now buffer.old work.old }
 {
-    if !is_reading(session) {
-        return packed(0, WRONG_SIZE);
-    }
-    let answer = reading_of(session).adv(file, buffer, work);
+    let Some(s) = reading_in(session) else {
+        return WRONG_WORDS;
+    };
+    let answer = s.adv(file, buffer, work);
     told_reading(session, answer)
 }
 
@@ -87,10 +87,10 @@ pub fn nasturakh_reading_nsert(
     ensures { returned result session.new file.now buffer.now work.now
         ≡ called_reading read_alter session.old file.now buffer.now work.now }
 {
-    if !is_reading(session) {
-        return packed(0, WRONG_SIZE);
-    }
-    let answer = reading_of(session).nsert(file, buffer, work);
+    let Some(s) = reading_in(session) else {
+        return WRONG_WORDS;
+    };
+    let answer = s.nsert(file, buffer, work);
     told_reading(session, answer)
 }
 
@@ -104,10 +104,10 @@ pub fn nasturakh_reading_dlete(
     ensures { returned result session.new file.now buffer.now work.now
         ≡ called_reading read_alter session.old file.now buffer.now work.now }
 {
-    if !is_reading(session) {
-        return packed(0, WRONG_SIZE);
-    }
-    let answer = reading_of(session).dlete(file, buffer, work);
+    let Some(s) = reading_in(session) else {
+        return WRONG_WORDS;
+    };
+    let answer = s.dlete(file, buffer, work);
     told_reading(session, answer)
 }
 
@@ -121,10 +121,10 @@ pub fn nasturakh_reading_updat(
     ensures { returned result session.new file.now buffer.now work.now
         ≡ called_reading read_alter session.old file.now buffer.now work.now }
 {
-    if !is_reading(session) {
-        return packed(0, WRONG_SIZE);
-    }
-    let answer = reading_of(session).updat(file, buffer, work);
+    let Some(s) = reading_in(session) else {
+        return WRONG_WORDS;
+    };
+    let answer = s.updat(file, buffer, work);
     told_reading(session, answer)
 }
 
@@ -138,10 +138,10 @@ pub fn nasturakh_reading_xtend(
     ensures { returned result session.new file.now buffer.now work.now
         ≡ called_reading read_alter session.old file.now buffer.now work.now }
 {
-    if !is_reading(session) {
-        return packed(0, WRONG_SIZE);
-    }
-    let answer = reading_of(session).xtend(file, buffer, work);
+    let Some(s) = reading_in(session) else {
+        return WRONG_WORDS;
+    };
+    let answer = s.xtend(file, buffer, work);
     told_reading(session, answer)
 }
 
@@ -149,13 +149,12 @@ pub fn nasturakh_reading_xtend(
 pub fn nasturakh_reading_view(session: &[u32], file: &[u32], buffer: &[u32], block: usize) -> u64
     ensures { result ≡ viewed_reading session.now file.now buffer.now block }
 {
-    if !is_reading(session) {
-        return packed(0, WRONG_SIZE);
+    let Some(s) = unflagged_in(session) else {
+        return WRONG_WORDS;
+    };
+    if s.desc.control != 1 {
+        0
+    } else {
+        place_of(s, file, buffer, block)
     }
-    let s = session_of(session);
-    let p = s.desc;
-    if p.control != 1 {
-        return 0;
-    }
-    place_of(s, file, buffer, block)
 }

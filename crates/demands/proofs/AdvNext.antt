@@ -1,5 +1,5 @@
 -- ADV outside the buffer: in the block that covers the position, else in the next block, or in the next section's first.
-use Prim.Native.Nat.{ℕ, ◌+◌, ◌-◌, ◌≤◌}
+use Prim.Native.Nat.{ℕ, ◌+◌, ◌≤◌}
 use mathlib.Core.Bool.{Bool, true, false, cond}
 use mathlib.Core.Path.{◌≡◌, refl, sym, ap, ap₂, ◌∙◌, subst}
 use mathlib.Core.List.{List, [], ◌∷◌, ◌++◌, append-nil, append_assoc}
@@ -27,7 +27,7 @@ use Rattle.demands.proofs.Scene.{scene}
 use Rattle.demands.proofs.Lists.{All, all_right}
 use Rattle.demands.proofs.Order.{asc-wide, below, from, from-above}
 use Rattle.layout.specs.Tree.{Leaf, Section}
-use Rattle.demands.proofs.Trees.{leaves_in, leaves_in-append, records_in, key, reach, reach-append}
+use Rattle.demands.proofs.Trees.{leaves_in, leaves_in-append, records_in, reach, reach-append}
 use Rattle.demands.proofs.Holds.{Free, HoldsCells, SectionOk}
 use Rattle.demands.proofs.Steps.{sec}
 use Rattle.demands.proofs.Places.{Place, tree_of, olds, lo, hi, index-text, asc-leaf}

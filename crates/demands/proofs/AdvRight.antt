@@ -1,5 +1,5 @@
 -- ADV on a sound open state, all its ways: in the buffer, in the covering block, in the next block, in the next section.
-use Prim.Native.Nat.{ℕ, ◌+◌, ◌-◌, ◌≤◌, ◌<◌}
+use Prim.Native.Nat.{ℕ, ◌-◌, ◌≤◌, ◌<◌}
 use mathlib.Core.Bool.{Bool, true, false, cond, ◌&&◌}
 use mathlib.Core.Logic.{◌⊎◌, inl, inr}
 use mathlib.Core.Path.{◌≡◌, refl, sym, ap, ap₂, ◌∙◌, subst}
@@ -8,12 +8,12 @@ use native.Mathlib.Omega.{arith}
 use native.Mathlib.Decide.{ℕ_discrete}
 use lib.ListN.{length, take, length-append}
 use borrow.Author.Tests.{ltb-true, ltb-false}
-use Rattle.numbers.specs.Checked.{Checked, passed, ◌>>=◌, ◌>>◌}
+use Rattle.numbers.specs.Checked.{Checked, passed, ◌>>=◌}
 use Rattle.words.specs.Words.{all_words}
 use Rattle.words.specs.Keys.{key_lt, key_le, val}
 use Rattle.words.proofs.Keys.{key_le-true}
 use Rattle.words.proofs.Values.{key_lt-val}
-use Rattle.table.specs.Tables.{count, row, key_at}
+use Rattle.table.specs.Tables.{count, key_at}
 use Rattle.drum.specs.Params.{detail_shape}
 use Rattle.drum.specs.Blocks.{text_of}
 use Rattle.drum.proofs.Good.{good-facts}

@@ -1,6 +1,6 @@
 -- XTEND behind all ordinary keys, where the last block holds only the end record and the key is not above the bound before it, does what NSERT of
 -- the same record does.
-use Prim.Native.Nat.{ℕ, ◌+◌, ◌-◌}
+use Prim.Native.Nat.{ℕ, ◌+◌}
 use mathlib.Core.Path.{◌≡◌, sym, ap, ◌∙◌, subst}
 use mathlib.Core.List.{List}
 use lib.ListN.{length}

@@ -1,5 +1,5 @@
 -- Every step of a call behind its first refusals, and OPEN's walk through the file, refuse with 070003 alone.
-use Prim.Native.Nat.{ℕ, zero, suc, ◌+◌, ◌-◌}
+use Prim.Native.Nat.{ℕ, zero, suc, ◌+◌}
 use mathlib.Core.Path.{◌≡◌, refl}
 use mathlib.Core.Bool.{Bool, true, false}
 use mathlib.Core.List.{List}
@@ -63,7 +63,6 @@ look-bad v flag key = search (refusing, buffer-bad, path-bad) depth 9
 -- SEEK and UPDAT
 seek-done-bad : (v : Texts) (flag : Bool) (work : List ℕ) (l : Look) → Refuses IsBad (seek_done v flag work l)
 unfolding seek_done
-seek-done-bad v flag work look_is.Bad = search refusing
 seek-done-bad v flag work (look_is.Found way i) = search refusing
 seek-done-bad v flag work (look_is.Missing w) = search refusing
 
@@ -73,7 +72,6 @@ seek-bad v flag work = search (refusing, look-bad, seek-done-bad)
 
 updat-done-bad : (v : Texts) (flag : Bool) (work : List ℕ) (l : Look) → Refuses IsBad (updat_done v flag work l)
 unfolding updat_done
-updat-done-bad v flag work look_is.Bad = search refusing
 updat-done-bad v flag work (look_is.Found way i) = search refusing
 updat-done-bad v flag work (look_is.Missing w) = search refusing
 
@@ -110,7 +108,6 @@ step-bad v flag true at = search (refusing, buffer-bad, path-bad) depth 14
 
 adv-done-bad : (v : Texts) (flag : Bool) (s : Step) → Refuses IsBad (adv_done v flag s)
 unfolding adv_done
-adv-done-bad v flag step_is.Bad = search refusing
 adv-done-bad v flag (step_is.At way i) = search refusing
 adv-done-bad v flag (step_is.Beyond w u i) = search refusing
 
@@ -121,7 +118,6 @@ adv-bad v flag placed at = search (refusing, step-bad, adv-done-bad)
 -- NSERT
 insert-bad : (v : Texts) (flag : Bool) (key : List ℕ) (l : Look) → Refuses IsBad (insert_after v flag key l)
 unfolding insert_after insert_at room_deed split_deed both_deed
-insert-bad v flag key look_is.Bad = search refusing
 insert-bad v flag key (look_is.Found way i) = search refusing
 insert-bad v flag key (look_is.Missing w) = search (refusing, one-bad, two-bad, stored-bad) depth 14
 
@@ -135,7 +131,6 @@ nsert-deed-bad v flag key = search (refusing, look-bad, insert-bad)
 
 insert-done-bad : (v : Texts) (flag : Bool) (work : List ℕ) (d : Insert) → Refuses IsBad (insert_done v flag work d)
 unfolding insert_done
-insert-done-bad v flag work insert-is.Bad = search refusing
 insert-done-bad v flag work (insert-is.Stop way n) = search refusing
 insert-done-bad v flag work (insert-is.Room w i n) = search refusing
 insert-done-bad v flag work (insert-is.Split w i d n) = search refusing
@@ -148,7 +143,6 @@ nsert-bad v flag work = search (refusing, nsert-deed-bad, insert-done-bad)
 -- DLETE
 delete-bad : (v : Texts) (key : List ℕ) (l : Look) → Refuses IsBad (delete_after v key l)
 unfolding delete_after empty_at empty_deed
-delete-bad v key look_is.Bad = search refusing
 delete-bad v key (look_is.Missing w) = search refusing
 delete-bad v key (look_is.Found Here i) = search (refusing, path-bad) depth 12
 delete-bad v key (look_is.Found (By w) i) = search refusing depth 12
@@ -159,7 +153,6 @@ dlete-deed-bad v flag key = search (refusing, look-bad, delete-bad)
 
 delete-done-bad : (v : Texts) (flag : Bool) (work : List ℕ) (d : Delete) → Refuses IsBad (delete_done v flag work d)
 unfolding delete_done
-delete-done-bad v flag work delete-is.Bad = search refusing
 delete-done-bad v flag work (delete-is.Stop w) = search refusing
 delete-done-bad v flag work (delete-is.Remove way i) = search refusing
 delete-done-bad v flag work (delete-is.Empty way w head) = search refusing
@@ -189,7 +182,6 @@ xtend-deed-bad v flag key = search (refusing, last-bad, extend-bad)
 
 extend-done-bad : (v : Texts) (flag : Bool) (work : List ℕ) (d : Extend) → Refuses IsBad (extend_done v flag work d)
 unfolding extend_done
-extend-done-bad v flag work extend-is.Bad = search refusing
 extend-done-bad v flag work (extend-is.Stop way i n) = search refusing
 extend-done-bad v flag work (extend-is.Room way i n) = search refusing
 extend-done-bad v flag work (extend-is.New way w d n) = search refusing

@@ -6,7 +6,7 @@ use mathlib.Core.Bool.{Bool, true, false, cond}
 use mathlib.Core.List.{List}
 use Rattle.numbers.specs.Numbers as number_is
 use Rattle.numbers.specs.Numbers.{accepted}
-use Rattle.numbers.specs.Checked.{Checked, passed, refused, ◌>>=◌, ◌>>◌}
+use Rattle.numbers.specs.Checked.{Checked, passed, refused, ◌>>◌}
 use Rattle.numbers.proofs.Passed.{Passed, chain}
 use Rattle.layout.specs.Inspect.{layout_marks}
 use Rattle.rules.specs.State.{Session, State, Outcome, Effect, desc, texts, key_in, holding, positioned, at_rest, outcome, unchanged, settle}

@@ -35,7 +35,7 @@ use Rattle.rules.specs.XtendDone as xtend-is
 use Rattle.rules.specs.Close.{close_checks, close_done, close}
 use Rattle.rules.specs.Open.{open_checks, open_layout, open_done, open_file}
 use Rattle.rules.specs.Requests.{Request, opening, closing, seeking, advancing, inserting, deleting, updating, extending, lending, answer}
-use Rattle.numbers.proofs.Passed.{Passed, by-refused, by-bind, by-then, by-passed}
+use Rattle.numbers.proofs.Passed.{Passed, by-bind, by-then, by-passed}
 use Rattle.demands.specs.Formula.{share}
 use Rattle.demands.specs.Counted.{detail_splits, index_splits, detail_starts, index_starts, extend_splits, nsert_plan, xtend_plan, of_plan, splits_of, starts_of}
 use Rattle.rules.proofs.Sizes.{flush-few, bring-few, way-few, adv-few}
@@ -58,7 +58,6 @@ way-calm v (By w) ms = omega arith
 
 insert-calm : (v : Texts) (work : List ℕ) (d : Insert) → Passed (Most (2 + 4 * detail_splits d + index_splits d)) (insert_done v false work d)
 unfolding insert_done landing stopping storing detail_splits index_splits split_moves nsert-is.both_split_moves
-insert-calm v work insert-is.Bad = by-refused _
 insert-calm v work (insert-is.Stop way n) = by-passed _ (omega (arith, way-calm v way [], ap length (append-nil (reached v false way).moves)))
 insert-calm v work (insert-is.Room w i n) = by-passed _ (omega (arith, way-calm v (By w) [], ap length (append-nil (reached v false (By w)).moves)))
 insert-calm v work (insert-is.Split w i d n) = by-passed _ (way-calm v (By w) _)
@@ -75,25 +74,21 @@ module _ (v : Texts) (flag : Bool) (work : List ℕ) where
 
   seek-most : (l : Look) → Passed (Most 3) (seek_done v flag work l)
   unfolding seek_done giving
-  seek-most look_is.Bad = by-refused _
   seek-most (look_is.Found way i) = by-passed _ (way-few v flag way)
   seek-most (look_is.Missing w) = by-passed _ (stop-most (By w) _)
 
   updat-most : (l : Look) → Passed (Most 3) (updat_done v flag work l)
   unfolding updat_done
-  updat-most look_is.Bad = by-refused _
   updat-most (look_is.Found way i) = by-passed _ (store-most way _ _)
   updat-most (look_is.Missing w) = by-passed _ (stop-most (By w) _)
 
   adv-most : (s : Step) → Passed (Most 5) (adv_done v flag s)
   unfolding adv_done adv_giving giving
-  adv-most step_is.Bad = by-refused _
   adv-most (step_is.At way i) = by-passed _ (omega (arith, way-few v flag way))
   adv-most (step_is.Beyond w x i) = by-passed _ (omega (arith, bring-few v flag x.detail (adv_reads w x), adv-few w x))
 
   insert-most : (d : Insert) → Passed (Most (3 + 4 * detail_splits d + index_splits d)) (insert_done v flag work d)
   unfolding insert_done landing detail_splits index_splits split_moves nsert-is.both_split_moves
-  insert-most insert-is.Bad = by-refused _
   insert-most (insert-is.Stop way n) = by-passed _ (stop-most way n)
   insert-most (insert-is.Room w i n) = by-passed _ (store-most (By w) n _)
   insert-most (insert-is.Split w i d n) = by-passed _ (way-more v flag (By w) _)
@@ -101,7 +96,6 @@ module _ (v : Texts) (flag : Bool) (work : List ℕ) where
 
   delete-most : (d : Delete) → Passed (Most 6) (delete_done v flag work d)
   unfolding delete_done stopping storing emptying empty_all both_all empty_moves
-  delete-most delete-is.Bad = by-refused _
   delete-most (delete-is.Stop w) = by-passed _ (omega (arith, way-few v flag (By w)))
   delete-most (delete-is.Remove way i) = by-passed _ (omega (arith, way-few v flag way))
   delete-most (delete-is.Empty way w head) = by-passed _ (way-more v flag way _)
@@ -133,7 +127,6 @@ module _ (v : Texts) (flag : Bool) (work : List ℕ) where
   extend-most : (d : Extend)
       → Passed (Most (6 + 4 * (detail_starts d + extend_splits detail_splits d) + (index_starts d + extend_splits index_splits d))) (extend_done v flag work d)
   unfolding extend_done stopping storing landing listed detail_starts index_starts extend_splits new_moves xtend-is.section_moves
-  extend-most extend-is.Bad = by-refused _
   extend-most (extend-is.Stop way x n) = by-passed _ (omega (arith, read-most x way))
   extend-most (extend-is.Room way x n) = by-passed _ (omega (arith, read-most x way))
   extend-most (extend-is.Before way w d) =
@@ -260,7 +253,6 @@ call-cost st (extending w) = omega (arith, xtend-cost (lending w st))
 splits-few : (c : Checked Insert) → 4 * of_plan detail_splits c + of_plan index_splits c ≤ 5
 unfolding of_plan detail_splits index_splits
 splits-few (refused n) = omega arith
-splits-few (passed insert-is.Bad) = omega arith
 splits-few (passed (insert-is.Stop way n)) = omega arith
 splits-few (passed (insert-is.Room w i n)) = omega arith
 splits-few (passed (insert-is.Split w i d n)) = omega arith
@@ -270,7 +262,6 @@ starts-few : (c : Checked Extend)
     → 4 * (of_plan detail_starts c + of_plan (extend_splits detail_splits) c) + (of_plan index_starts c + of_plan (extend_splits index_splits) c) ≤ 5
 unfolding of_plan detail_starts index_starts extend_splits
 starts-few (refused n) = omega arith
-starts-few (passed extend-is.Bad) = omega arith
 starts-few (passed (extend-is.Stop way x n)) = omega arith
 starts-few (passed (extend-is.Room way x n)) = omega arith
 starts-few (passed (extend-is.New way w d n)) = omega arith

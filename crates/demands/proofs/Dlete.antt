@@ -1,5 +1,5 @@
 -- DLETE on a sound open state: not found, and a record taken out of a block that keeps some.
-use Prim.Native.Nat.{ℕ, suc, ◌+◌, ◌-◌, ◌*◌, ◌≤◌}
+use Prim.Native.Nat.{ℕ, suc, ◌+◌, ◌*◌, ◌≤◌}
 use mathlib.Core.Path.{◌≡◌, refl, sym, ap, ◌∙◌, subst}
 use mathlib.Core.List.{List, [], ◌∷◌, ◌++◌, append-nil}
 use native.Mathlib.Omega.{arith}
@@ -7,7 +7,7 @@ use native.Mathlib.Nat.{mul-le-mul_right}
 use lib.ListN.{length, length-append}
 use borrow.Author.Tests.{ne_eqb}
 use Rattle.numbers.specs.Numbers.{done, not_found}
-use Rattle.numbers.specs.Checked.{Checked, passed, ◌>>=◌, ◌>>◌}
+use Rattle.numbers.specs.Checked.{Checked, passed, ◌>>=◌}
 use Rattle.words.specs.Keys.{val}
 use Rattle.table.specs.Tables.{count, removed}
 use Rattle.drum.specs.Params.{detail_shape}

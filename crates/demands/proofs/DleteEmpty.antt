@@ -44,7 +44,7 @@ use Rattle.words.specs.Words.{zeros}
 use Rattle.layout.specs.Create.{end_record}
 use Rattle.rules.specs.Dlete.{empty_deed, empty_at, delete_after, delete_deed, delete_done, dlete, entry_gone, empty_moves, empty_all, both_all, empty_file, both_file}
 use Rattle.rules.specs.Dlete.{emptying}
-use Rattle.demands.proofs.Cells.{Cell, is, is-self, weigh, cell_times, wrotes}
+use Rattle.demands.proofs.Cells.{Cell, is-self, weigh, cell_times, wrotes}
 use Rattle.demands.proofs.Steps.{sec, ix, push, link, with_bound, drop-leaf, drop-last, drop-section}
 use Rattle.demands.proofs.Flat.{zeros-length}
 use Rattle.demands.proofs.Entries.{head-is, file-is, count_index, index_key, index-long}

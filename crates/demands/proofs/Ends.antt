@@ -144,7 +144,6 @@ module _ (v : Texts) (flag : Bool) (key : List ℕ) where
   -- NSERT's plan
   insert-after : (l : Look) → look v flag key ≡ passed l → Passed (Inserts v flag key) (insert_after v flag key l)
   unfolding insert_after insert_at room_deed split_deed both_deed leaves_all inserts
-  insert-after look_is.Bad e = search chain
   insert-after (look_is.Found way i) e = search (chain, stop, by-found)
   insert-after (look_is.Missing w) e = search (chain, stop, room, split, both, by-missing, stored) depth 16
 
@@ -159,7 +158,6 @@ module _ (v : Texts) (flag : Bool) (key : List ℕ) where
 
   delete-after : (l : Look) → look v flag key ≡ passed l → Passed (Deletes v flag key) (delete_after v key l)
   unfolding delete_after empty_at empty_deed
-  delete-after look_is.Bad e = search chain
   delete-after (look_is.Missing w) e = search (chain, stop)
   delete-after (look_is.Found Here i) e = search (chain, remove, head-or) depth 9
   delete-after (look_is.Found (By w) i) e = search (chain, remove, head-or) depth 9
@@ -210,7 +208,6 @@ module _ (v : Texts) (flag : Bool) (work : List ℕ) where
   seek-done : (l : Look) → look v flag (key_in v.desc work) ≡ passed l
       → Passed (Ends finds (LookedUp v flag (key_in v.desc work)) work) (seek_done v flag work l)
   unfolding seek_done giving leaves_all stops finds
-  seek-done look_is.Bad e = search chain
   seek-done (look_is.Found way i) e = search (chain, went)
   seek-done (look_is.Missing w) e = search (chain, stopped, by-missing)
 
@@ -221,7 +218,6 @@ module _ (v : Texts) (flag : Bool) (work : List ℕ) where
   updat-done : (l : Look) → look v flag (key_in v.desc work) ≡ passed l
       → Passed (Ends finds (LookedUp v flag (key_in v.desc work)) work) (updat_done v flag work l)
   unfolding updat_done storing leaves_all stops finds
-  updat-done look_is.Bad e = search chain
   updat-done (look_is.Found way i) e = search (chain, went)
   updat-done (look_is.Missing w) e = search (chain, stopped, by-missing)
 
@@ -243,7 +239,6 @@ module _ (v : Texts) (flag : Bool) (work : List ℕ) where
 
   adv-done : (s : Step) → Passed (Ends advances Never work) (adv_done v flag s)
   unfolding adv_done
-  adv-done step_is.Bad = search chain
   adv-done (step_is.At way i) = search (chain, given-row)
   adv-done (step_is.Beyond w u i) = search (chain, given-row)
 

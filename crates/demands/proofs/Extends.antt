@@ -1,5 +1,5 @@
 -- XTEND's answer over the ordered records: out of sequence exactly where an ordinary key is not below the key.
-use Prim.Native.Nat.{ℕ, suc, ◌+◌, ◌-◌, ◌≤◌}
+use Prim.Native.Nat.{ℕ, suc, ◌+◌, ◌≤◌}
 use mathlib.Core.Bool.{Bool, true, false, cond, ◌&&◌}
 use mathlib.Core.Logic.{◌⊎◌, inl, inr}
 use mathlib.Core.Path.{◌≡◌, refl, sym, ap, ◌∙◌, subst}
@@ -22,7 +22,7 @@ use Rattle.demands.specs.Answers.{ordinary, records_from, Extended}
 use Rattle.demands.proofs.Scene.{scene}
 use Rattle.demands.proofs.Lists.{All, all_left}
 use Rattle.demands.proofs.Order.{Asc, asc-append, hit}
-use Rattle.demands.proofs.Trees.{leaves_in, leaves_in-append, records_in, records-append, key, reach-append, Ranged, ranged-left, ranged-asc}
+use Rattle.demands.proofs.Trees.{leaves_in, leaves_in-append, records_in, records-append, reach-append, Ranged, ranged-left, ranged-asc}
 use Rattle.demands.proofs.Holds.{Free, RowOk}
 use Rattle.demands.proofs.Steps.{sec}
 use Rattle.demands.proofs.Places.{lo}

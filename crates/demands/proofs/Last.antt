@@ -1,5 +1,5 @@
 -- XTEND's way to the last block, on a sound state: it passes, and comes to the file's last leaf, whose last record is the end record.
-use Prim.Native.Nat.{ℕ, suc, ◌+◌, ◌-◌, ◌≤◌, ◌<◌}
+use Prim.Native.Nat.{ℕ, suc, ◌-◌, ◌≤◌, ◌<◌}
 use mathlib.Core.Bool.{Bool, true, false, cond}
 use mathlib.Core.Logic.{◌⊎◌, inl, inr}
 use mathlib.Core.Path.{◌≡◌, refl, sym, ap, ap₂, ◌∙◌, subst}

@@ -7,7 +7,7 @@ use native.Mathlib.Omega.{arith}
 use borrow.Author.Tests.{eqb-true}
 use lib.ListN.{length, length-replicate}
 use Rattle.numbers.specs.Numbers as number_is
-use Rattle.numbers.specs.Checked.{Checked, passed, refused, ◌>>=◌, ◌>>◌, require}
+use Rattle.numbers.specs.Checked.{Checked, passed, refused, ◌>>◌, require}
 use Rattle.words.specs.Words.{put}
 use Rattle.words.proofs.Parts.{length_part, length-put}
 use Rattle.drum.specs.Blocks.{writes, block_at, Fitting, Block}

@@ -1,5 +1,5 @@
 -- "Lookup", on a sound state: it passes, and comes to THE leaf that covers the key, with its place in the tree. All keyed calls start here.
-use Prim.Native.Nat.{ℕ, suc, ◌+◌, ◌≤◌, ◌<◌}
+use Prim.Native.Nat.{ℕ, suc, ◌≤◌, ◌<◌}
 use mathlib.Core.Bool.{Bool, true, false, cond}
 use mathlib.Core.Path.{◌≡◌, sym, ap, ◌∙◌, subst}
 use mathlib.Core.List.{List, [], ◌∷◌, ◌++◌}
@@ -8,7 +8,7 @@ use native.Mathlib.Decide.{ℕ_discrete}
 use lib.Dec.{ltb, leb}
 use lib.ListN.{length, length-append}
 use borrow.Author.Tests.{lt-ltb, le-ltb}
-use Rattle.numbers.specs.Checked.{Checked, passed, ◌>>=◌, ◌>>◌, within}
+use Rattle.numbers.specs.Checked.{Checked, passed, ◌>>=◌}
 use Rattle.words.specs.Keys.{val}
 use Rattle.table.specs.Tables.{count, row_with}
 use Rattle.drum.specs.declared.Description.{Description}
@@ -28,7 +28,7 @@ use Rattle.demands.proofs.Holds.{Free, HoldsCells}
 use Rattle.demands.proofs.Locate.{Located, locate, covered, sec_bd}
 use Rattle.demands.proofs.Places.{Place, tree_of, olds, lo, hi, Spot, leaf-text, leaf-ok, asc-leaf, hit-here}
 use Rattle.demands.proofs.Texts.{count-table}
-use Rattle.demands.proofs.Blocks.{master_of, behind}
+use Rattle.demands.proofs.Blocks.{master_of}
 use Rattle.demands.proofs.Paths.{path_of, path-to}
 use Rattle.demands.proofs.Records.{AtKey, missing, present, at_key, cut-front, cut-back, hit-at}
 use Rattle.demands.proofs.Sound.{Key, KeptTree, buffer-leaf}

@@ -75,25 +75,21 @@ module _ (v : Texts) (flag : Bool) (work : List ℕ) where
 
   seek-done : (l : Look) → Passed (Leaves v flag) (seek_done v flag work l)
   unfolding seek_done
-  seek-done look_is.Bad = search chain
   seek-done (look_is.Found way i) = search (chain, give-leaves)
   seek-done (look_is.Missing w) = search (chain, stop-leaves)
 
   updat-done : (l : Look) → Passed (Leaves v flag) (updat_done v flag work l)
   unfolding updat_done
-  updat-done look_is.Bad = search chain
   updat-done (look_is.Found way i) = search (chain, store-leaves)
   updat-done (look_is.Missing w) = search (chain, stop-leaves)
 
   adv-done : (s : Step) → Passed (Leaves v flag) (adv_done v flag s)
   unfolding adv_done adv_giving giving bringing
-  adv-done step_is.Bad = search chain
   adv-done (step_is.At way i) = search (chain, give-leaves)
   adv-done (step_is.Beyond w x i) = search (chain, off)
 
   insert-done : (d : Insert) → Passed (Leaves v flag) (insert_done v flag work d)
   unfolding insert_done landing
-  insert-done insert-is.Bad = search chain
   insert-done (insert-is.Stop way n) = search (chain, stop-leaves)
   insert-done (insert-is.Room w i n) = search (chain, store-leaves)
   insert-done (insert-is.Split w i d n) = search (chain, off)
@@ -101,7 +97,6 @@ module _ (v : Texts) (flag : Bool) (work : List ℕ) where
 
   delete-done : (d : Delete) → Passed (Leaves v flag) (delete_done v flag work d)
   unfolding delete_done emptying
-  delete-done delete-is.Bad = search chain
   delete-done (delete-is.Stop w) = search (chain, stop-leaves)
   delete-done (delete-is.Remove way i) = search (chain, store-leaves)
   delete-done (delete-is.Empty way w head) = search (chain, off)
@@ -109,7 +104,6 @@ module _ (v : Texts) (flag : Bool) (work : List ℕ) where
 
   extend-done : (d : Extend) → Passed (Leaves v flag) (extend_done v flag work d)
   unfolding extend_done landing
-  extend-done extend-is.Bad = search chain
   extend-done (extend-is.Stop way x n) = search (chain, last-leaves)
   extend-done (extend-is.Room way x n) = search (chain, extend-leaves)
   extend-done (extend-is.New way w d n) = search (chain, off)

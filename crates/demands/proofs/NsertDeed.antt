@@ -1,5 +1,5 @@
 -- NSERT into a full block: what it will do, and that it will stop where no room is left.
-use Prim.Native.Nat.{ℕ, ◌-◌, ◌≤◌, ◌<◌}
+use Prim.Native.Nat.{ℕ, ◌≤◌, ◌<◌}
 use mathlib.Core.Bool.{true, cond}
 use mathlib.Core.Path.{◌≡◌, ◌∙◌}
 use mathlib.Core.List.{List, []}
@@ -33,7 +33,7 @@ use Rattle.demands.proofs.Reach.{At}
 use Rattle.demands.proofs.Lookup.{Covers}
 use Rattle.demands.proofs.Frees.{next, free_count, taken, taken_of, stored_with, FreeOk, free-taken, taken-count, stored-number}
 use Rattle.demands.proofs.Takes.{next-is, one_none, one-some, two_none, two-few, two-full, two-some}
-use Rattle.demands.proofs.Nsert.{deed-at, place, held, free₀}
+use Rattle.demands.proofs.Nsert.{deed-at, place, free₀}
 
 module _ (st : State) (ss : List Section) (f : Free) (r : Ready (desc st).wpr st ss f) (kw : Key (desc st) (key_in (desc st) st.work)) (a : Place)
     (A : At (texts st) st.session.flag ss f a (By (path_of a))) (C : Covers (texts st) (key_in (desc st) st.work) a)

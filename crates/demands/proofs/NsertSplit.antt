@@ -30,7 +30,7 @@ use Rattle.demands.proofs.Holds.{Free, HoldsCells, LeafFits, head_or, master_for
 use Rattle.demands.proofs.Steps.{sec, lf, ix, lower, upper}
 use Rattle.demands.proofs.Places.{Place, tree_of, tree_with, olds, lo, hi}
 use Rattle.demands.proofs.Texts.{half}
-use Rattle.demands.proofs.Blocks.{master_of, behind, cells_written, Fits}
+use Rattle.demands.proofs.Blocks.{master_of, cells_written, Fits}
 use Rattle.demands.proofs.Entries.{index-long}
 use Rattle.demands.proofs.Paths.{path_of}
 use Rattle.demands.proofs.Sound.{Key}
@@ -43,7 +43,7 @@ use Rattle.demands.proofs.Cells.{Cell}
 use Rattle.demands.proofs.Masters.{master-entered}
 use Rattle.demands.proofs.Acts.{low_fits, high_fits, index-fits, two-spot, two-gives, leaves-cut, half-spot, last-cut, four-gives}
 use Rattle.demands.proofs.NsertTexts.{low_ok, high-ok, low-is, high_is, index_is, news-length, news-ok, size₂, index-low, index-high, index-entry, size}
-use Rattle.demands.proofs.Nsert.{nsert-by, place, held, asc-ins-here, ins-contents, ins-ended}
+use Rattle.demands.proofs.Nsert.{nsert-by, place, asc-ins-here, ins-contents, ins-ended}
 use Rattle.demands.proofs.NsertDeed.{split-deed, both-deed}
 use Rattle.demands.proofs.Growth.{a_split, both_split, grow-from}
 use Rattle.demands.proofs.Changes.{grow-split, grow-both}

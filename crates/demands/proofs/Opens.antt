@@ -1,5 +1,5 @@
 -- OPEN and the sentences of Layout: an OPEN that answers 0 leaves a sound state; a sound state's file is as under Layout, with and without its buffer, and opens.
-use Prim.Native.Nat.{ℕ, ◌+◌}
+use Prim.Native.Nat.{ℕ}
 use mathlib.Core.Bool.{Bool, true, false}
 use mathlib.Core.Logic.{inl}
 use mathlib.Core.Path.{◌≡◌, refl, sym, ap, ◌∙◌, subst}
@@ -30,7 +30,7 @@ use Rattle.demands.proofs.Reach.{bring}
 use Rattle.demands.proofs.Answers.{sizes-pass}
 use Rattle.demands.proofs.Reader.{free_of}
 use Rattle.demands.proofs.Joined.{cells-held, contents-ended}
-use Rattle.demands.proofs.Told.{tree, told-holds}
+use Rattle.demands.proofs.Told.{told-holds}
 use Rattle.demands.proofs.Step.{open_step, closed-fine}
 
 -- an OPEN that answers 0: a tree stands in the file, and the state it leaves is sound with that tree

@@ -1,6 +1,7 @@
 -- What the planner's code computes step by step is what the formula says of a plan.
-use Prim.Native.Nat.{ℕ, zero, suc, ◌+◌, ◌*◌, ◌/◌, ◌≤◌}
-use mathlib.Core.Path.{◌≡◌, refl}
+use Prim.Native.Nat.{ℕ, zero, suc, max, ◌+◌, ◌*◌, ◌/◌}
+use mathlib.Core.Path.{◌≡◌, refl, ◌∙◌}
+use native.Mathlib.Nat.{max-eq_left}
 use native.Mathlib.Omega.{arith}
 use borrow.Author.Tests.{le-leb}
 use Rattle.drum.specs.declared.Description.{Description}
@@ -27,31 +28,25 @@ module _ (p : Description) (plan : Plan) where
 
 -- ---- the space of so many names
 
-pub one_none : (x : ℕ) → x ≡ 0 → 1 ≡ larger 1 x
+-- there is always one block
+at_least_one : (x : ℕ) → max x 1 ≡ larger 1 x
 unfolding larger
-one_none x e = rw e
-
-pub one-some : (x : ℕ) → (x ≡ 0 → ⊥) → x ≡ larger 1 x
-unfolding larger
-one-some x n = simp (le-leb 1 x (go x n))
-  where
-    go : (x : ℕ) → (x ≡ 0 → ⊥) → 1 ≤ x
-    go zero n = absurd (n refl)
-    go (suc x) n = omega arith
+at_least_one zero = refl
+at_least_one (suc x) = rw (max-eq_left {n = suc x} {m = 1} (omega arith), le-leb 1 (suc x) (omega arith)) refl
 
 module _ (p : Description) (names : ℕ) where
   -- the records by the larger half of D, and one block at least
-  pub names-details : (r x n half d d₀ : ℕ) → r ≡ larger 1 x → x ≡ (n + 1) / half → n ≡ names → half ≡ (d + 1) / 2 → d ≡ d₀ → d₀ ≡ D p
+  pub names-details : (r x n half d d₀ : ℕ) → r ≡ max x 1 → x ≡ (n + 1) / half → n ≡ names → half ≡ (d + 1) / 2 → d ≡ d₀ → d₀ ≡ D p
       → r ≡ most_details p names
   unfolding most_details h_d
-  names-details r x n half d d₀ er ex en eh ed e₀ = rw (er, ex, en, eh, ed, e₀)
+  names-details r x n half d d₀ er ex en eh ed e₀ = er ∙ at_least_one x ∙ rw (ex, en, eh, ed, e₀) refl
 
   -- these by the larger half of I, and one at least
-  pub names-sections : (r x details half i i₀ : ℕ) → r ≡ larger 1 x → x ≡ details / half → details ≡ most_details p names → half ≡ (i + 1) / 2 → i ≡ i₀
+  pub names-sections : (r x details half i i₀ : ℕ) → r ≡ max x 1 → x ≡ details / half → details ≡ most_details p names → half ≡ (i + 1) / 2 → i ≡ i₀
       → i₀ ≡ I p
       → r ≡ most_sections p names
   unfolding most_sections h_i
-  names-sections r x details half i i₀ er ex ed eh ei e₀ = rw (er, ex, ed, eh, ei, e₀)
+  names-sections r x details half i i₀ er ex ed eh ei e₀ = er ∙ at_least_one x ∙ rw (ex, ed, eh, ei, e₀) refl
 
   pub names-blocks : (details sections : ℕ) → details ≡ most_details p names → sections ≡ most_sections p names → details + sections ≡ most_blocks p names
   unfolding most_blocks

@@ -16,7 +16,7 @@ use Rattle.words.specs.Keys.{is_ones}
 use Rattle.drum.specs.declared.Description.{Description}
 use Rattle.drum.specs.Params.{D}
 use Rattle.layout.specs.Inspect.{layout_marks}
-use Rattle.rules.specs.State.{State, Outcome, Effect, desc, texts, key_in, at_rest, outcome, settle, unchanged}
+use Rattle.rules.specs.State.{State, Outcome, Effect, desc, texts, key_in, at_rest, settle, unchanged}
 use Rattle.rules.specs.Checks.{sizes_ok, work_ok, is_open, key_ok}
 use Rattle.rules.specs.Close.{close, close_checks, close_done}
 use Rattle.rules.specs.Open.{open_checks, open_layout, open_done, open_file}

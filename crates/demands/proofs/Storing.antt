@@ -1,13 +1,10 @@
 -- What NSERT and XTEND answer: one number, of the key and the tree.
-use Prim.Native.Nat.{◌-◌}
 use mathlib.Core.Path.{◌≡◌, subst}
 use mathlib.Core.List.{List}
 use Rattle.layout.specs.Tree.{Section, Tree}
 use Rattle.layout.specs.Holds as laid
 use Rattle.layout.proofs.Unique.{one-tree}
 use Rattle.rules.specs.State.{State, desc}
-use Rattle.rules.specs.NsertDone.{nsert}
-use Rattle.rules.specs.XtendDone.{xtend}
 use Rattle.rules.specs.Requests.{lending, answer}
 use Rattle.demands.specs.Promises.{put_back}
 use Rattle.demands.specs.Storing.{Stored, CallNumbers}

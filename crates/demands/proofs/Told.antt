@@ -1,5 +1,5 @@
 -- A file that holds a tree's cells is one in which the tree stands (layout's Holds): the way back.
-use Prim.Native.Nat.{ℕ, zero, suc, ◌+◌, ◌-◌, ◌≤◌, ◌<◌}
+use Prim.Native.Nat.{ℕ, zero, suc, ◌+◌, ◌≤◌, ◌<◌}
 use mathlib.Core.Bool.{Bool, true, false, cond, ◌&&◌}
 use mathlib.Core.Path.{◌≡◌, refl, sym, ap, ap₂, ◌∙◌}
 use mathlib.Core.List.{List, [], ◌∷◌, ◌++◌, map}
@@ -23,7 +23,7 @@ use Rattle.layout.proofs.Lists.{last-right}
 use Rattle.demands.proofs.Lists.{All, all_append, all_left, all_right}
 use Rattle.demands.proofs.Cells as cells
 use Rattle.demands.proofs.Rows.{length-cat}
-use Rattle.demands.proofs.Trees.{key, reach, leaf_cell, cells_of}
+use Rattle.demands.proofs.Trees.{reach, leaf_cell, cells_of}
 use Rattle.demands.proofs.Holds as held
 use Rattle.demands.proofs.Locate.{reach-last}
 use Rattle.demands.proofs.Blocks.{master_of}

@@ -1,5 +1,5 @@
 -- The tree that a file holds: sections of leaves of rows, and the free cells.
-use Prim.Native.Nat.{ℕ, suc, ◌+◌, ◌-◌}
+use Prim.Native.Nat.{ℕ, suc}
 use Rattle.drum.specs.declared.Description.{Description}
 use Rattle.drum.specs.Params.{detail_shape, index_shape}
 use mathlib.Core.Path.{◌≡◌, refl, sym}

@@ -1,5 +1,5 @@
 -- While no block is buffered, no call looks at the buffer's words: every call, mark, VIEW and run is the same over two buffers.
-use Prim.Native.Nat.{ℕ, ◌-◌}
+use Prim.Native.Nat.{ℕ}
 use mathlib.Core.Path.{◌≡◌, refl, sym, ◌∙◌, ap, subst}
 use mathlib.Core.Bool.{Bool, true, false, cond, not, ◌&&◌}
 use mathlib.Core.List.{List, [], ◌∷◌}
@@ -13,7 +13,7 @@ use Rattle.drum.specs.declared.Description.{Description}
 use Rattle.drum.specs.Params.{sized}
 use Rattle.drum.specs.Blocks.{text_of, seen}
 use Rattle.layout.specs.Inspect.{layout_marks}
-use Rattle.rules.specs.State.{Session, State, Outcome, Effect, desc, lent, settle, at_rest}
+use Rattle.rules.specs.State.{Session, State, Outcome, Effect, lent, settle, at_rest}
 use Rattle.rules.specs.Checks.{sizes_ok, work_ok, is_open, key_ok}
 use Rattle.rules.specs.Open.{open_checks, open_layout, open_done, open_file}
 use Rattle.rules.specs.Close.{close_checks, close_done, close, view}
@@ -24,7 +24,6 @@ use Rattle.rules.specs.Seek.{seek, updat}
 use Rattle.rules.specs.Adv.{adv}
 use Rattle.rules.specs.Dlete as d
 use Rattle.rules.specs.NsertDone as nd
-use Rattle.rules.specs.Xtend as x
 use Rattle.rules.specs.XtendDone as xd
 use Rattle.demands.proofs.SameChecks.{SameChecks, same_refl, same_then}
 use Rattle.demands.proofs.UnusedLooks.{seek-same, updat-same, adv-same, text_same}

@@ -19,7 +19,7 @@ use Rattle.rules.specs.declared.Way.{Way}
 use Rattle.rules.specs.declared.Way.TheVariants.{Here, By}
 use Rattle.rules.specs.declared.Look.{Look}
 use Rattle.rules.specs.declared.Look.TheVariants as look_is
-use Rattle.rules.specs.State.{desc, key_in}
+use Rattle.rules.specs.State.{key_in}
 use Rattle.rules.specs.Lookup.{on_buffer, bringing, reached}
 use Rattle.rules.specs.Paths.{path_to}
 use Rattle.rules.specs.declared.Taken.{Taken}
@@ -77,7 +77,6 @@ module _ (p : Description) (f a b : List ℕ) where
     delete-after : (key : List ℕ) (l : Look) → LookFits v false l
         → Passed Deleted (d.delete_after v key l) × SameChecks (d.delete_after v key l) (d.delete_after u key l)
     unfolding d.delete_after d.empty_at d.empty_deed
-    delete-after key look_is.Bad h = (search chain, same_refl _)
     delete-after key (look_is.Missing w) h = (by-passed _ (delete-stop w h), same_refl _)
     delete-after key (look_is.Found Here i) h = absurd (omega (arith, h.0.current-least))
     delete-after key (look_is.Found (By w) i) h =
@@ -160,7 +159,6 @@ module _ (p : Description) (f a b : List ℕ) where
     insert-after : (key : List ℕ) (l : Look) → LookFits v false l
         → Passed Inserted (n.insert_after v false key l) × SameChecks (n.insert_after v false key l) (n.insert_after u false key l)
     unfolding n.insert_after n.insert_at n.room_deed n.split_deed n.both_deed
-    insert-after key look_is.Bad h = (search chain, same_refl _)
     insert-after key (look_is.Found way i) h = (by-passed _ (insert-stop way _ h.0), same_refl _)
     insert-after key (look_is.Missing w) h =
         let q : PathFits v w = h.0 in

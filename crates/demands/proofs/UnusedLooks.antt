@@ -1,12 +1,12 @@
 -- While no block is buffered, no lookup looks at the buffer's words: SEEK, UPDAT and ADV come to the same over two buffers.
-use Prim.Native.Nat.{ℕ, ◌+◌, ◌-◌, ◌≤◌}
+use Prim.Native.Nat.{ℕ, ◌+◌, ◌≤◌}
 use mathlib.Core.Path.{◌≡◌, refl, ap}
 use mathlib.Core.Bool.{Bool, true, false, cond}
 use mathlib.Core.List.{List, []}
 use native.Mathlib.Omega.{arith}
 use lib.Dec.{ltb}
 use borrow.Author.Tests.{ne_eqb}
-use Rattle.numbers.specs.Checked.{Checked, passed, ◌>>=◌, ◌>>◌}
+use Rattle.numbers.specs.Checked.{Checked, passed, ◌>>=◌}
 use Rattle.numbers.proofs.Passed.{Passed, chain}
 use Rattle.table.specs.Tables.{count}
 use Rattle.drum.specs.declared.Description.{Description}
@@ -90,7 +90,6 @@ module _ (p : Description) (f a b : List ℕ) where
   module _ (work : List ℕ) where
     seek-done : (l : Look) → LookFits v false l → SameChecks (seek_done v false work l) (seek_done u false work l)
     unfolding seek_done giving
-    seek-done look_is.Bad h = same_refl _
     seek-done (look_is.Found way i) h = rw (reached-same way h.0) (same_refl _)
     seek-done (look_is.Missing w) h = rw (reached-same (By w) h) (same_refl _)
 
@@ -100,7 +99,6 @@ module _ (p : Description) (f a b : List ℕ) where
 
     updat-done : (l : Look) → LookFits v false l → SameChecks (updat_done v false work l) (updat_done u false work l)
     unfolding updat_done
-    updat-done look_is.Bad h = same_refl _
     updat-done (look_is.Found way i) h = rw (reached-same way h.0) (same_refl _)
     updat-done (look_is.Missing w) h = rw (reached-same (By w) h) (same_refl _)
 
@@ -147,7 +145,6 @@ module _ (p : Description) (f a b : List ℕ) where
 
   adv-done : (s : Step) → StepFits v false s → SameChecks (adv_done v false s) (adv_done u false s)
   unfolding adv_done adv_giving giving bringing flush_moves
-  adv-done step_is.Bad h = same_refl _
   adv-done (step_is.At way i) h = rw (reached-same way h.0) (same_refl _)
   adv-done (step_is.Beyond w x i) h = rw (unused-detail x h.0) (same_refl _)
 

@@ -1,5 +1,5 @@
 -- A sound state: what CREATE and OPEN leave with the parameters 8 3 1 0 2 4. So `Sound` can be met, and with it all that is proved of it.
-use Prim.Native.Nat.{ℕ, zero, suc, ◌+◌}
+use Prim.Native.Nat.{ℕ, zero, suc}
 use mathlib.Core.Bool.{and-false}
 use mathlib.Core.Path.{◌≡◌, refl}
 use mathlib.Core.List.{List, [], ◌∷◌, ◌++◌}

@@ -9,7 +9,7 @@ use lib.Dec.{ltb, eqb}
 use lib.ListN.{length, take, length-append, length-replicate}
 use borrow.Author.Tests.{lt-ltb, le-ltb, eq-eqb, ne_eqb}
 use Rattle.numbers.specs.Numbers.{out_of_sequence}
-use Rattle.numbers.specs.Checked.{Checked, passed, ◌>>=◌, ◌>>◌}
+use Rattle.numbers.specs.Checked.{Checked, passed, ◌>>=◌}
 use Rattle.words.specs.Words.{all_words, top_word}
 use Rattle.words.specs.Keys.{ones, key_lt, val}
 use Rattle.words.proofs.All.{all_words-replicate}

@@ -10,7 +10,7 @@ use lib.Dec.{ltb, leb, eqb}
 use lib.ListN.{length, length-append}
 use borrow.Author.Tests.{lt-ltb, le-ltb, eq-eqb, ne_eqb, le-leb, lt-leb}
 use Rattle.numbers.specs.Numbers.{out_of_sequence}
-use Rattle.numbers.specs.Checked.{Checked, passed, ◌>>=◌, ◌>>◌}
+use Rattle.numbers.specs.Checked.{Checked, passed, ◌>>=◌}
 use Rattle.words.specs.Words.{all_words}
 use Rattle.words.specs.Keys.{key_lt, val}
 use Rattle.words.proofs.Values.{key_lt-val}

@@ -1,12 +1,12 @@
 -- XTEND into a filled last block: what it will do, and that it will stop where no room is left.
-use Prim.Native.Nat.{ℕ, ◌+◌, ◌-◌, ◌≤◌, ◌<◌}
+use Prim.Native.Nat.{ℕ, ◌≤◌, ◌<◌}
 use mathlib.Core.Path.{◌≡◌, ap, ◌∙◌}
 use mathlib.Core.List.{List, [], ◌∷◌, ◌++◌}
 use native.Mathlib.Omega.{arith}
 use lib.ListN.{length}
 use borrow.Author.Tests.{lt-ltb, le-ltb}
 use Rattle.numbers.specs.Numbers.{no_room}
-use Rattle.numbers.specs.Checked.{Checked, passed, ◌>>=◌, ◌>>◌}
+use Rattle.numbers.specs.Checked.{Checked, passed, ◌>>=◌}
 use Rattle.words.specs.Keys.{val}
 use Rattle.table.specs.Tables.{count}
 use Rattle.drum.specs.Params.{FD, FI, detail_shape, index_shape}

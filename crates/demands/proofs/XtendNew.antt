@@ -38,7 +38,7 @@ use Rattle.demands.proofs.Cells.{Cell, weigh-cons, weigh-nil}
 use Rattle.demands.proofs.Rows.{cat}
 use Rattle.demands.proofs.Masters.{index-bounded, index-extended, master-extended}
 use Rattle.demands.proofs.Acts.{low_fits, high_fits, index-fits, news-ok, news-length, two-spot, two-gives, leaves-cut, half-spot, four-gives}
-use Rattle.demands.proofs.Xtend.{end_scene, the_end, kr, held, lk, size_is, bound-ones, text-is, counted, xtend-by, grown}
+use Rattle.demands.proofs.Xtend.{end_scene, the_end, kr, lk, size_is, bound-ones, text-is, counted, xtend-by, grown}
 use Rattle.demands.proofs.Xtend.{grown-contents, grown-ended, in-sequence}
 use Rattle.demands.proofs.XtendDeed.{new-deed, both-deed}
 use Rattle.demands.proofs.Growth.{a_start, both_start, grow-from}

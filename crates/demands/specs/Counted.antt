@@ -20,7 +20,6 @@ use Rattle.demands.specs.Promises.{AfterOpen}
 
 -- "detail and index splits by NSERT": "Full: of D+1 records the lower (D+2)/2 .. stay; the rest go to a new block"; "A full index splits likewise"
 unfoldable pub detail_splits : Insert → ℕ
-detail_splits insert-is.Bad = 0
 detail_splits (insert-is.Stop way n) = 0
 detail_splits (insert-is.Room w i n) = 0
 detail_splits (insert-is.Split w i d n) = 1
@@ -28,7 +27,6 @@ detail_splits (insert-is.Both w i b x n) = 1
 
 -- "A full index splits likewise" [C15, F2]
 unfoldable pub index_splits : Insert → ℕ
-index_splits insert-is.Bad = 0
 index_splits (insert-is.Stop way n) = 0
 index_splits (insert-is.Room w i n) = 0
 index_splits (insert-is.Split w i d n) = 0
@@ -36,7 +34,6 @@ index_splits (insert-is.Both w i b x n) = 1
 
 -- "detail and index blocks started by XTEND": "the end record starts a new block"; "the entry starts a new index block and section"
 unfoldable pub detail_starts : Extend → ℕ
-detail_starts extend-is.Bad = 0
 detail_starts (extend-is.Stop way x n) = 0
 detail_starts (extend-is.Room way x n) = 0
 detail_starts (extend-is.New way w d n) = 1
@@ -45,7 +42,6 @@ detail_starts (extend-is.Before way w d) = 0
 
 -- "the entry starts a new index block and section" [C29, F2]
 unfoldable pub index_starts : Extend → ℕ
-index_starts extend-is.Bad = 0
 index_starts (extend-is.Stop way x n) = 0
 index_starts (extend-is.Room way x n) = 0
 index_starts (extend-is.New way w d n) = 0
@@ -54,7 +50,6 @@ index_starts (extend-is.Before way w d) = 0
 
 -- "otherwise the record is stored as NSERT stores it", and "Such splits count in S and s": what XTEND splits, by NSERT's measure f [E5]
 unfoldable pub extend_splits : (Insert → ℕ) → Extend → ℕ
-extend_splits f extend-is.Bad = 0
 extend_splits f (extend-is.Stop way x n) = 0
 extend_splits f (extend-is.Room way x n) = 0
 extend_splits f (extend-is.New way w d n) = 0

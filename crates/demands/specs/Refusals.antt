@@ -8,9 +8,9 @@ use Rattle.drum.specs.Params.{detail_shape}
 use Rattle.drum.specs.Blocks.{Texts}
 use Rattle.rules.specs.declared.Path.{Path}
 use Rattle.rules.specs.declared.Way.{Way}
-use Rattle.rules.specs.declared.Way.TheVariants.{Here, By}
+use Rattle.rules.specs.declared.Way.TheVariants.{By}
 use Rattle.rules.specs.declared.Look.{Look}
-use Rattle.rules.specs.declared.Look.TheVariants.{Bad, Found, Missing}
+use Rattle.rules.specs.declared.Look.TheVariants.{Found, Missing}
 use Rattle.rules.specs.State.{State, Outcome, desc, texts, key_in}
 use Rattle.rules.specs.Lookup.{Reached, look, reached, text_at}
 use Rattle.rules.specs.Open.{Opened}
@@ -47,7 +47,6 @@ pub record JustReached (st : State) (r : Reached) (o : Outcome) : Type 0 where
 
 -- the way that a lookup has gone, the key found or not
 unfoldable pub way_of : Look → Way
-way_of Bad = Here
 way_of (Found way i) = way
 way_of (Missing w) = By w
 

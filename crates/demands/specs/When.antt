@@ -2,7 +2,7 @@
 -- applies is given, and none otherwise." Nothing is proved here.
 use Rattle.std.specs.Prelude.{ℕ, ◌≡◌, Bool, true, false, not, ◌&&◌, ◌||◌, eqb, length}
 use Rattle.numbers.specs.Numbers.{wrong_size, already_open, is_closed, wrong_key}
-use Rattle.numbers.specs.Checked.{Checked, passed, refused, ◌>>=◌, ◌>>◌, require}
+use Rattle.numbers.specs.Checked.{Checked, passed, refused, ◌>>◌, require}
 use Rattle.words.specs.Words.{part, all_words}
 use Rattle.words.specs.Keys.{is_ones}
 use Rattle.drum.specs.Params.{sized}

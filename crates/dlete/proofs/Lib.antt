@@ -2,5 +2,4 @@ pub mod Gone
 pub mod Reached
 pub mod Emptied
 pub mod Planned
-pub mod Decided
 pub mod Ended

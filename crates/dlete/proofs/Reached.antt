@@ -16,6 +16,7 @@ use Rattle.drum.specs.Blocks.{Fitting, Texts, seen}
 use Rattle.drum.proofs.Good.{caps}
 use Rattle.drum.proofs.Forms.{detail-tag}
 use Rattle.rules.specs.declared.Way.{Way}
+use Rattle.rules.specs.declared.Done.{Done}
 use Rattle.rules.specs.Lookup.{reached, text_at, storing}
 use Rattle.rules.specs.Told.{gave, told}
 use Rattle.acts.specs.declared.Arrived.{Arrived}
@@ -49,12 +50,23 @@ module _ (p : Description) (cur : ℕ) (f b : List ℕ) (flag : Bool) (way : Way
     pub reached-most : h ≡ detail_shape p → h.tag + count h t ≤ 262143
     reached-most eh = rw eh reached-row.most
 
-  pub removed-told : (u : List ℕ) → came a g t ≡ come (reached v flag way) → u ≡ removed h i t → h ≡ detail_shape p
-      → gave (record { number = done; transfers = a.transfers; current = a.current; flag = true; keyed = true }) g u []
-      ≡ told v flag []
+  pub removed-told : (r : Done) (u : List ℕ) → came a g t ≡ come (reached v flag way)
+      → r ≡ record { number = done; transfers = a.transfers; current = a.current; flag = true; keyed = true }
+      → u ≡ removed h i t → h ≡ detail_shape p
+      → gave r g u [] ≡ told v flag []
       (passed (storing done [] (reached v flag way) (removed (detail_shape p) i (reached v flag way).buffer)))
   unfolding storing
-  removed-told u e eu eh =
+  removed-told r u e er eu eh =
       let et : t ≡ (reached v flag way).buffer = ap (λ (z : Come). z.buffer) e in
       let x : u ≡ removed (detail_shape p) i (reached v flag way).buffer = removed-from h _ i t _ u eh et eu in
-      λ j. record { number = done; transfers = (e j).transfers; current = (e j).current; flag = true; keyed = true; file = (e j).file; buffer = x j; work = [] }
+      ap (λ (z : Done). gave z g u []) er
+      ∙ (λ j. record {
+        number = done;
+        transfers = (e j).transfers;
+        current = (e j).current;
+        flag = true;
+        keyed = true;
+        file = (e j).file;
+        buffer = x j;
+        work = [];
+      })

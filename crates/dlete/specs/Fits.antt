@@ -6,10 +6,11 @@ use Rattle.drum.specs.Params.{I, good_params, file_size, detail_shape, index_sha
 use Rattle.drum.specs.Blocks.{Block, block_at, Texts, text_of}
 use Rattle.rules.specs.declared.Path.{Path}
 use Rattle.rules.specs.declared.Way.{Way}
+use Rattle.rules.specs.declared.Way.TheVariants.{By}
 use Rattle.rules.specs.declared.Delete.{Delete}
-use Rattle.rules.specs.declared.Delete.TheVariants.{Bad, Stop, Remove, Empty, Both}
+use Rattle.rules.specs.declared.Delete.TheVariants.{Stop, Remove, Empty, Both}
 use Rattle.rules.specs.Lookup.{text_at}
-use Rattle.rules.specs.Fits.{PathFits, FlushFits, WayFits}
+use Rattle.rules.specs.Fits.{PathFits, WayFits}
 
 -- the text of an index block, with an entry that is not the only one
 pub record HasEntry (p : Description) (t : List ℕ) (j : ℕ) : Type 0 where
@@ -24,11 +25,6 @@ pub record EntryIn (p : Description) (f : List ℕ) (b j : ℕ) : Type 0 where
   pub file-is : length f ≡ file_size p
   pub block : Block p b
   pub entry : HasEntry p (block_at p f b) j
-
--- a call that stops: the path to where it stops is good, and a flagged buffer can be written
-pub record StopFits (v : Texts) (flag : Bool) (w : Path) : Type 0 where
-  pub path : PathFits v w
-  pub flushed : FlushFits v flag
 
 -- a record taken out of its block: the way that reaches the block is good, and the record is in it
 pub record RemoveFits (v : Texts) (flag : Bool) (way : Way) (i : ℕ) : Type 0 where
@@ -48,8 +44,7 @@ pub record OneFits (v : Texts) (flag : Bool) (way : Way) (w : Path) (head : ℕ)
 
 -- what a plan of DLETE tells the code that carries it out
 abbrev pub DeleteFits : Texts → Bool → Delete → Type 0
-DeleteFits v flag Bad = Unit {0}
-DeleteFits v flag (Stop w) = StopFits v flag w
+DeleteFits v flag (Stop w) = WayFits v flag (By w)
 DeleteFits v flag (Remove way i) = RemoveFits v flag way i
 DeleteFits v flag (Empty way w head) = OneFits v flag way w head
 DeleteFits v flag (Both way w head) = EmptyFits v flag way w head

@@ -14,7 +14,7 @@ ghost use Rattle.dlete.specs.Fits.{HasEntry, EntryIn, RemoveFits, EmptyFits, One
 ghost use Rattle.dlete.specs.Freed.{handed, freed};
 
 use drum::Description;
-use numbers::{BAD_FILE, DONE, NOT_FOUND};
+use numbers::{DONE, NOT_FOUND};
 use rules::{Delete, Done, Held, Path, Way};
 
 // If entry j is the last of an index block's text, the one before takes its bound.
@@ -22,12 +22,10 @@ fn hand_bound(p: Description, t: &mut [u32], j: usize)
     requires { HasEntry p t.old j }
     ensures { t.new ≡ handed p j t.old }
 {
-    let n = drum::kinds::entries_in(p, t);
-    if j + 1 != n {
-        return;
+    if j + 1 == drum::kinds::entries_in(p, t) {
+        let k = p.k;
+        words::move_words(t, 1 + j * (k + 1), 1 + (j - 1) * (k + 1), k);
     }
-    let k = p.k;
-    words::move_down(t, 1 + j * (k + 1), 1 + (j - 1) * (k + 1), k);
 }
 
 // Takes entry j out of an index block's text.
@@ -57,7 +55,7 @@ fn free_detail(at: Held, file: &mut [u32], buffer: &[u32], way: Way, w: Path, li
         × (file.new ≡ freed (seen_by at file.old buffer.now) at.flag way w link) }
 {
     let moved = acts::follow(at, file, buffer, way);
-    acts::stage(at.desc, at.current, file, buffer, w.index);
+    acts::stage(at, file, buffer, w.index);
     drum::inside::free_block(at.desc, file, w.detail, link);
     moved
 }
@@ -100,8 +98,7 @@ fn none_held(buffer: &mut [u32], transfers: usize) -> Done
     ensures { (result ≡ record { number = done; transfers = transfers; current = 0; flag = false; keyed = true })
         × (buffer.new ≡ zeros (length buffer.old)) }
 {
-    let size = buffer.len();
-    words::zero_words(buffer, 0, size);
+    buffer.fill(0);
     Done {
         number: DONE,
         transfers,
@@ -122,13 +119,7 @@ fn remove_record(at: Held, file: &mut [u32], buffer: &mut [u32], way: Way, i: us
     let p = at.desc;
     let here = acts::reach(at, file, buffer, way);
     table::remove_row(p.detail_shape(), buffer, i);
-    Done {
-        number: DONE,
-        transfers: here.transfers,
-        current: here.current,
-        flag: true,
-        keyed: true,
-    }
+    here.done(DONE, true, true)
 }
 
 // Does what was planned.
@@ -139,7 +130,6 @@ pub fn do_dlete(deed: Delete, at: Held, file: &mut [u32], buffer: &mut [u32]) ->
         (delete_done (seen_by at file.old buffer.old) at.flag [] deed) }
 {
     match deed {
-        Delete::Bad => Done::refused(BAD_FILE, at.current, at.flag),
         Delete::Stop(w) => acts::stop(at, file, buffer, Way::By(w), NOT_FOUND),
         Delete::Remove(way, i) => remove_record(at, file, buffer, way, i),
         Delete::Empty(way, w, head) => {

@@ -7,28 +7,24 @@ mod plan;
 ghost use Rattle.std.specs.Prelude.{◌≡◌, length};
 ghost use Rattle.drum.specs.Blocks.{Fitting};
 ghost use Rattle.rules.specs.Dlete.{dlete_steps};
-ghost use Rattle.rules.specs.Told.{Follows};
+ghost use Rattle.rules.specs.Told.{FollowsAt};
 
-use drum::Description;
+use drum::Seen;
 use rules::{Done, Held};
 
 // Takes the record with the workspace's key out: planned from current texts, then done.
-pub fn dlete(
-    p: Description,
-    current: usize,
-    flag: bool,
-    file: &mut [u32],
-    buffer: &mut [u32],
-    work: &[u32],
-) -> Done
-    requires { Fitting p file.old buffer.old × (length work.now ≡ p.wpr) }
-    ensures { Follows result dlete_steps p current flag (file.old, file.new) (buffer.old, buffer.new) (work.now, work.now) }
+pub fn dlete(at: Held, file: &mut [u32], buffer: &mut [u32], work: &[u32]) -> Done
+    requires { Fitting at.desc file.old buffer.old × (length work.now ≡ at.desc.wpr) }
+    ensures { FollowsAt result dlete_steps at (file.old, file.new) (buffer.old, buffer.new) (work.now, work.now) }
 {
-    let deed = plan::plan_dlete(p, current, flag, file, buffer, work);
-    let at = Held {
-        desc: p,
-        current,
-        flag,
+    let v = Seen {
+        desc: at.desc,
+        current: at.current,
+        file,
+        buffer,
     };
-    deeds::do_dlete(deed, at, file, buffer)
+    match plan::plan_dlete(v, at.flag, work) {
+        Ok(deed) => deeds::do_dlete(deed, at, file, buffer),
+        Err(refusal) => at.refused(refusal),
+    }
 }

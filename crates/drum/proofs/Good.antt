@@ -6,6 +6,7 @@ use Prim.Native.Nat.{ℕ, ◌+◌, ◌*◌, ◌-◌, ◌/◌, ◌%◌, ◌≤◌
 use native.Mathlib.Nat.{mul-le-mul, mul-le-mul_right, div-mul-le_self, div-le_self}
 use native.Mathlib.Omega.{arith}
 use borrow.Author.Tests.{le-leb, leb-true, eq-eqb, eqb-true, not-true, not-false}
+use Rattle.std.specs.List.{list_all}
 use Rattle.words.proofs.All.{and_both}
 use Rattle.drum.specs.declared.Description.{Description}
 use Rattle.drum.specs.Params.{D, I, FD, FI, master_size, file_size, every, most_sections, good_params, size_if, sized}
@@ -14,6 +15,12 @@ use Rattle.drum.specs.Params.{D, I, FD, FI, master_size, file_size, every, most_
 abbrev pub Hold : List Bool → Type 0
 Hold [] = Unit {0}
 Hold (t ∷ ts) = (t ≡ true) × Hold ts
+
+-- the library's `all`, of the tests themselves
+pub all-every : (ts : List Bool) → list_all (λ (t : Bool). t) ts ≡ every ts
+unfolding every
+all-every [] = refl
+all-every (t ∷ ts) = rw (all-every ts) refl
 
 pub every-hold : (ts : List Bool) → every ts ≡ true → Hold ts
 unfolding every

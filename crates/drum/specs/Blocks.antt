@@ -69,10 +69,6 @@ pub record Texts : Type 0 where
 abbrev pub seen : Description → ℕ → List ℕ → List ℕ → Texts
 seen p cur f b = record { desc = p; current = cur; file = f; buffer = b }
 
--- the same of the words that lent slices hold when a function is called, as its promise names them
-abbrev pub at_entry : Description → ℕ → List ℕ → List ℕ → Texts
-at_entry p current file buffer = seen p current file buffer
-
 -- "Current text of a block: the buffer if it is the current block, else the file." [S4, T5]
 unfoldable pub text_of : Texts → ℕ → List ℕ
 text_of v b = cond (eqb b v.current) v.buffer (block_at v.desc v.file b)

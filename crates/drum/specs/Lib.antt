@@ -1,3 +1,4 @@
+pub mod Sight
 pub mod Params
 pub mod Blocks
 pub mod Inside

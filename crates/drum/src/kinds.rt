@@ -11,10 +11,7 @@ use super::Description;
 pub fn less(n: usize, tag: usize) -> usize
     ensures { result ≡ n - tag }
 {
-    if n < tag {
-        return 0;
-    }
-    n - tag
+    n.saturating_sub(tag)
 }
 
 // How many entries the text of an index block says that it has.
@@ -38,10 +35,7 @@ pub fn is_free(p: Description, t: &[u32]) -> bool
     requires { 0 < length t.now }
     ensures { result ≡ is_free p t.now }
 {
-    if p.form != Description::SECOND {
-        return true;
-    }
-    words::word_at(t, 0) == Description::FREE
+    p.form != Description::SECOND || words::word_at(t, 0) == Description::FREE
 }
 
 // The link in the text of a free block.

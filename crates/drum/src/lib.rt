@@ -4,13 +4,15 @@
 
 pub mod inside;
 pub mod kinds;
+mod seen;
 
 ghost use Rattle.std.specs.Prelude.{◌≡◌, true, [], ◌∷◌, ◌+◌, ◌*◌, ◌-◌, ◌≤◌, ◌<◌, leb};
 ghost use Rattle.drum.specs.Params.{D, I, FD, FI, master_size, file_size, size_if, start as start_of};
 ghost use Rattle.drum.specs.Params.{every, good_params, most_sections, sized, tag_of, master_shape, index_shape, detail_shape};
-ghost use Rattle.drum.specs.Blocks.{link_place, block_at, put_block, Fitting, Block, text_of, at_entry};
+ghost use Rattle.drum.specs.Blocks.{link_place, block_at, put_block, Fitting, Block};
 ghost use Rattle.drum.specs.Parts.{part_of, text_part};
 
+pub use seen::Seen;
 use table::Shape;
 
 // The parameters of a search file. Set up field by field, each step handing the description on.
@@ -37,7 +39,8 @@ impl Description {
 
     pub const MOST_N: usize = 262142;
 
-    // The two block forms, and what the second has in word 0 of each kind of block.
+    // The two block forms, and what the second has in word 0 of each kind of block. They stay numbers: a caller may hand in any word as a form,
+    // which 020007 refuses, and a kind is added to a count in a word of the file.
     pub const FIRST: usize = 1;
 
     pub const SECOND: usize = 2;
@@ -139,15 +142,10 @@ impl Description {
     pub fn d(self) -> usize
         ensures { result ≡ D self }
     {
-        let wpb = self.wpb;
-        let wpr = self.wpr;
-        if wpr == 0 {
-            return 0;
-        }
-        if wpb == 0 {
-            return 0;
-        }
-        (wpb - 1) / wpr
+        self.wpb
+            .saturating_sub(1)
+            .checked_div(self.wpr)
+            .unwrap_or(0)
     }
 
     // I: entries that an index block holds.
@@ -166,24 +164,14 @@ impl Description {
     pub fn fd(self) -> usize
         ensures { result ≡ FD self }
     {
-        let d = self.d();
-        let space = self.space;
-        if d < space {
-            return 0;
-        }
-        d - space
+        self.d().saturating_sub(self.space)
     }
 
     // FI: entries up to which XTEND fills an index block.
     pub fn fi(self) -> usize
         ensures { result ≡ FI self }
     {
-        let i = self.i();
-        let space = self.space;
-        if i < space {
-            return 0;
-        }
-        i - space
+        self.i().saturating_sub(self.space)
     }
 
     // Where a free block has its link.
@@ -200,27 +188,26 @@ impl Description {
     pub fn is_good(self) -> bool
         ensures { result ≡ good_params self }
     {
-        let wpb = self.wpb;
-        let k = self.k;
-        if wpb % 2 != 0 {
-            return false;
-        }
-        if wpb < Self::LEAST_WPB {
-            return false;
-        }
-        if Self::MOST_WPB < wpb {
-            return false;
-        }
-        if k < 1 {
-            return false;
-        }
-        if Self::MOST_K < k {
-            return false;
-        }
-        if self.wpr < k {
-            return false;
-        }
-        has_room(self)
+        let d = self.d();
+        let i = self.i();
+        every(&[
+            self.wpb % 2 == 0,
+            Self::LEAST_WPB <= self.wpb,
+            self.wpb <= Self::MOST_WPB,
+            1 <= self.k,
+            self.k <= Self::MOST_K,
+            self.k <= self.wpr,
+            2 <= d,
+            2 <= i,
+            self.space <= d.saturating_sub(2),
+            self.space <= i.saturating_sub(2),
+            1 <= self.control,
+            self.control <= Self::MOST_CONTROL,
+            2 <= self.n,
+            self.n <= Self::MOST_N,
+            Self::FIRST <= self.form,
+            self.form <= Self::SECOND,
+        ])
     }
 
     // The words of the master, and of the file, of parameters that are good.
@@ -239,7 +226,7 @@ impl Description {
         self.master_words() + self.n * self.wpb
     }
 
-    // The words of the master; 0 where the parameters are not good.
+    // The words of the master; 0 where the parameters are not good. It and the file's stay two functions, each of its own definition.
     pub fn master_size(self) -> usize
         ensures { result ≡ size_if self (master_size self) }
     {
@@ -310,51 +297,15 @@ impl Description {
         if !self.is_good() {
             return false;
         }
-        if file != self.file_words() {
-            return false;
-        }
-        buffer == self.wpb
+        file == self.file_words() && buffer == self.wpb
     }
 }
 
-// The rest of the table: room for two records and two entries, and the ranges of SPACE, CONTROL, N and FORM.
-fn has_room(p: Description) -> bool
-    ensures { result
-        ≡ every
-        (leb 2 (D p) ∷ leb 2 (I p) ∷ leb p.space (D p - 2) ∷ leb p.space (I p - 2)
-        ∷ leb 1 p.control ∷ leb p.control most_sections ∷ leb 2 p.n ∷ leb p.n 262142 ∷ leb 1 p.form ∷ leb p.form 2 ∷ []) }
+// Whether each of the tests holds.
+fn every(tests: &[bool]) -> bool
+    ensures { result ≡ every tests.now }
 {
-    let d = p.d();
-    let i = p.i();
-    let space = p.space;
-    if d < 2 {
-        return false;
-    }
-    if i < 2 {
-        return false;
-    }
-    if d - 2 < space {
-        return false;
-    }
-    if i - 2 < space {
-        return false;
-    }
-    if p.control < 1 {
-        return false;
-    }
-    if Description::MOST_CONTROL < p.control {
-        return false;
-    }
-    if p.n < 2 {
-        return false;
-    }
-    if Description::MOST_N < p.n {
-        return false;
-    }
-    if p.form < Description::FIRST {
-        return false;
-    }
-    p.form <= Description::SECOND
+    tests.iter().all(|holds| *holds)
 }
 
 // Brings block b of the file into the buffer.
@@ -377,7 +328,8 @@ pub fn write_block(p: Description, file: &mut [u32], buffer: &[u32], b: usize)
     words::copy_words(file, start, buffer, 0, wpb);
 }
 
-// Lends the current text of block b, and tells where it lies: it is the buffer itself, or begins at the block's first word in the file.
+// Lends the current text of block b, and tells where it lies: it is the buffer itself, or begins at the block's first word in the file. The four are
+// not a `Seen` here: the promise names where the slices lie, which its texts leave out.
 pub fn text_part<'a>(
     p: Description,
     current: usize,
@@ -395,18 +347,4 @@ pub fn text_part<'a>(
     let start = p.start(b);
     let end = start + wpb;
     &file[start..end]
-}
-
-// The same for a plan, which needs its words alone.
-pub fn text_of<'a>(
-    p: Description,
-    current: usize,
-    file: &'a [u32],
-    buffer: &'a [u32],
-    b: usize,
-) -> &'a [u32]
-    requires { Fitting p file.now buffer.now × Block p b }
-    ensures { result.now ≡ text_of (at_entry p current file.now buffer.now) b }
-{
-    text_part(p, current, file, buffer, b)
 }

@@ -3,7 +3,7 @@ use mathlib.Core.Path.{◌≡◌, refl, ap}
 use mathlib.Core.Bool.{Bool, cond}
 use Prim.Native.Nat.{ℕ}
 use Rattle.numbers.specs.Checked.{Checked, passed, refused, ◌>>◌}
-use Rattle.rules.specs.State.{Session, State, Effect, Outcome, desc, lent, texts, key_in, position_key, holding, positioned, outcome, unchanged, settle}
+use Rattle.rules.specs.State.{Session, State, Effect, Outcome, lent, texts, key_in, position_key, holding, positioned, outcome, unchanged, settle}
 use Rattle.rules.specs.Told.{Told, told}
 use Rattle.rules.specs.Seek.{seek, seek_steps, updat, updat_steps}
 use Rattle.rules.specs.Adv.{adv, adv_steps}

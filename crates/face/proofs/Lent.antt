@@ -10,7 +10,8 @@ use Rattle.drum.specs.declared.Description.{Description}
 use Rattle.drum.specs.Params.{good_params}
 use Rattle.drum.specs.Blocks.{Fitting}
 use Rattle.drum.proofs.Good.{caps}
-use Rattle.face.specs.Checks.{refusing, plain_checks, keyed_checks}
+use Rattle.numbers.specs.Checked.{passed}
+use Rattle.face.specs.Checks.{plain_checks, keyed_checks}
 use Rattle.face.proofs.Refusing.{Lent, keyed-lent, plain-lent}
 
 lent-fitting : (p : Description) (f b : List ℕ) (work : ℕ) → Lent p (length f) (length b) work → Fitting p f b
@@ -22,10 +23,9 @@ lent-most p file buffer work h = (caps p h.good).facts.k-most
 lent-room : (p : Description) (file buffer work : ℕ) → Lent p file buffer work → p.k ≤ work
 lent-room p file buffer work h = let g = caps p h.good in let l = h.work-is in omega arith
 
-module _ (p : Description) (opened : Bool) (f b w : List ℕ) (reads n : ℕ) (e : refusing n ≡ keyed_checks p opened (length f) (length b) w reads)
-    (z : n ≡ 0) where
+module _ (p : Description) (opened : Bool) (f b w : List ℕ) (reads : ℕ) (e : passed true ≡ keyed_checks p opened (length f) (length b) w reads) where
   keyed-passed : Lent p (length f) (length b) (length w)
-  keyed-passed = keyed-lent p opened (length f) (length b) w reads n e z
+  keyed-passed = keyed-lent p opened (length f) (length b) w reads e
 
   pub keyed-fitting : Fitting p f b
   keyed-fitting = lent-fitting p f b (length w) keyed-passed
@@ -39,9 +39,9 @@ module _ (p : Description) (opened : Bool) (f b w : List ℕ) (reads n : ℕ) (e
   pub keyed-room : (m : ℕ) → m ≡ length w → p.k ≤ m
   keyed-room m i = rw i (lent-room p (length f) (length b) (length w) keyed-passed)
 
-module _ (p : Description) (opened : Bool) (f b w : List ℕ) (n : ℕ) (e : refusing n ≡ plain_checks p opened (length f) (length b) (length w)) (z : n ≡ 0) where
+module _ (p : Description) (opened : Bool) (f b w : List ℕ) (e : passed true ≡ plain_checks p opened (length f) (length b) (length w)) where
   plain-passed : Lent p (length f) (length b) (length w)
-  plain-passed = plain-lent p opened (length f) (length b) (length w) n e z
+  plain-passed = plain-lent p opened (length f) (length b) (length w) e
 
   pub plain-fitting : Fitting p f b
   plain-fitting = lent-fitting p f b (length w) plain-passed

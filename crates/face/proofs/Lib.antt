@@ -1,4 +1,3 @@
 pub mod Refusing
 pub mod Lent
 pub mod Chains
-pub mod Closing

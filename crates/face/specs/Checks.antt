@@ -1,16 +1,11 @@
 -- The refusals that come before a call's own steps, in document 01's order, over what the code tests.
-use Rattle.std.specs.Prelude.{ℕ, zero, suc, Bool, true, not, ◌&&◌, List, eqb, length}
+use Rattle.std.specs.Prelude.{ℕ, Bool, not, ◌&&◌, List, eqb, length}
 use Rattle.numbers.specs.Numbers.{wrong_size, is_closed, wrong_key}
-use Rattle.numbers.specs.Checked.{Checked, passed, refused, ◌>>=◌, ◌>>◌, require}
+use Rattle.numbers.specs.Checked.{Checked, ◌>>◌, require}
 use Rattle.words.specs.Words.{part, all_words}
 use Rattle.words.specs.Keys.{is_ones}
 use Rattle.drum.specs.declared.Description.{Description}
 use Rattle.drum.specs.Params.{sized}
-
--- a number as the answer of a step: 0 refuses nothing
-abbrev pub refusing : ℕ → Checked Bool
-refusing zero = passed true
-refusing (suc n) = refused (suc n)
 
 -- 020007, 020005: of a call on an open session that is lent a workspace
 unfoldable pub plain_checks : Description → Bool → ℕ → ℕ → ℕ → Checked Bool

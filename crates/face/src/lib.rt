@@ -1,30 +1,39 @@
 // What every face of the routine shares: what is refused before the steps of a call that is lent a workspace.
 #![tactic(auto)]
 
-ghost use Rattle.std.specs.Prelude.{◌≡◌, true, ◌≤◌};
+ghost use Rattle.std.specs.Prelude.{◌≡◌, true, ◌≤◌, length};
+ghost use Rattle.words.specs.Words.{part, put};
+ghost use Rattle.numbers.specs.Refused.{tested};
 ghost use Rattle.drum.specs.Params.{good_params};
-ghost use Rattle.face.specs.Checks.{refusing, plain_checks, keyed_checks};
+ghost use Rattle.face.specs.Checks.{plain_checks, keyed_checks};
 
 use drum::Description;
-use numbers::{IS_CLOSED, WRONG_KEY, WRONG_SIZE};
+use numbers::{Refusal, require};
 
-// The first refusal of a call that is lent a workspace, or 0.
-pub fn refused_plain(p: Description, opened: bool, file: usize, buffer: usize, work: usize) -> u32
-    ensures { refusing result ≡ plain_checks p opened file buffer work }
-{
-    if !p.is_sized(file, buffer) {
-        return WRONG_SIZE;
-    }
-    if work != p.wpr {
-        return WRONG_SIZE;
-    }
-    if !opened {
-        return IS_CLOSED;
-    }
-    0
+// What a call answers: its number (crate `numbers`), the transfers it made, and the session to go on with.
+#[derive(Clone, Copy)]
+pub struct Answer<S> {
+    pub number: u32,
+    pub transfers: usize,
+    pub session: S,
 }
 
-// The first refusal of a keyed call that reads so many words of its workspace, or 0.
+// What refuses a call that is lent a workspace.
+pub fn refused_plain(
+    p: Description,
+    opened: bool,
+    file: usize,
+    buffer: usize,
+    work: usize,
+) -> Result<(), Refusal>
+    ensures { tested result ≡ plain_checks p opened file buffer work }
+{
+    require(p.is_sized(file, buffer), Refusal::WrongSize)?;
+    require(work == p.wpr, Refusal::WrongSize)?;
+    require(opened, Refusal::IsClosed)
+}
+
+// What refuses a keyed call that reads so many words of its workspace.
 pub fn refused_key(
     p: Description,
     opened: bool,
@@ -32,19 +41,19 @@ pub fn refused_key(
     buffer: usize,
     work: &[u32],
     reads: usize,
-) -> u32
+) -> Result<(), Refusal>
     requires { good_params p ≡ true → reads ≤ p.wpr }
-    ensures { refusing result ≡ keyed_checks p opened file buffer work.now reads }
+    ensures { tested result ≡ keyed_checks p opened file buffer work.now reads }
 {
-    let number = refused_plain(p, opened, file, buffer, work.len());
-    if number != 0 {
-        return number;
-    }
-    if !words::all_words(work, 0, reads) {
-        return WRONG_KEY;
-    }
-    if words::all_are(work, 0, p.k, 262143) {
-        return WRONG_KEY;
-    }
-    0
+    refused_plain(p, opened, file, buffer, work.len())?;
+    let is_key = words::all_words(work, 0, reads) && !words::all_are(work, 0, p.k, 262143);
+    require(is_key, Refusal::WrongKey)
+}
+
+// Writes the key of k words that stands first in the workspace over the first words of a position.
+pub fn put_key(position: &mut [u32; 63], work: &[u32], k: usize)
+    requires { (k ≤ 63) × (k ≤ length work.now) }
+    ensures { position.new ≡ put position.old 0 (part 0 k work.now) }
+{
+    words::copy_words(position, 0, work, 0, k);
 }

@@ -1,9 +1,12 @@
 -- Each branch of the code is a case of its definition: bytes that are looked at, and faults of a line of calls.
 use Prim.Native.Nat.{ℕ, ◌+◌, ◌-◌, ◌≤◌, ◌<◌}
-use mathlib.Core.Bool.{Bool, true, false, not}
+use mathlib.Core.Bool.{Bool, true, false, cond, not}
+use native.Mathlib.Omega.{arith}
+use lib.Dec.{eqb}
+use Rattle.std.specs.Int.{from_bool}
 use mathlib.Core.Path.{◌≡◌, refl, sym, ap, ◌∙◌}
 use mathlib.Core.List.{List, [], ◌∷◌}
-use mathlib.Core.Option.{none, some}
+use Rattle.std.proofs.Common.{Option, None, Some}
 use lib.ListN.{length, drop}
 use Rattle.words.specs.Words.{part}
 use Rattle.words.specs.Keys.{same_key}
@@ -11,9 +14,8 @@ use Rattle.words.proofs.Parts.{part-all}
 use Rattle.texts.specs.Texts.{bytes}
 use Rattle.drum.specs.declared.Description.{Description}
 use native.Mathlib.Numerals.{add-one}
-use borrow.Author.Tests.{lt-ltb, le-ltb, le-leb, lt-leb, eq-eqb, ne_eqb, not-true, not-false}
-use Rattle.lines.specs.Lines.{is_blank, is_digit, named, carries}
-use Rattle.lines.specs.declared.Named.{Named}
+use borrow.Author.Tests.{lt-ltb, le-ltb, le-leb, lt-leb, eq-eqb, ne_eqb}
+use Rattle.lines.specs.Lines.{is_blank, named, carries}
 use Rattle.rules.specs.declared.Call.{Call}
 use Rattle.faults.specs.declared.Fault.{Fault}
 use Rattle.faults.specs.declared.Fault.TheVariants.{Empty, NotPlayed, NoCall, Count, NoNumber, AboveTop, NotSix}
@@ -21,44 +23,17 @@ use Rattle.faults.specs.declared.nearest.Near.{Near}
 use Rattle.faults.specs.declared.watch.Watch.{Watch}
 use Rattle.faults.specs.Watching.{words_with, odd_with, seen}
 use Rattle.faults.specs.Nearest.{upper, same, agreeing, alike, nearer, nearest}
-use Rattle.faults.specs.Faults.{name_fault, numbers_fault, named_fault, call_fault}
+use Rattle.faults.specs.Faults.{name_fault, numbers_fault, named_fault, call_fault, odd_fault}
 use Rattle.faults.specs.First.{words_fault}
-use Rattle.faults.specs.Sentences.{visible}
 
--- a byte that is shown
-module _ (b : ℕ) where
-  pub visible-low : b < 33 → 63 ≡ visible b
-  unfolding visible
-  visible-low h = rw (lt-leb _ _ h)
-
-  pub visible-high : 33 ≤ b → 126 < b → 63 ≡ visible b
-  unfolding visible
-  visible-high h k = rw (le-leb _ _ h, lt-leb _ _ k)
-
-  pub visible-self : 33 ≤ b → b ≤ 126 → b ≡ visible b
-  unfolding visible
-  visible-self h k = rw (le-leb _ _ h, le-leb _ _ k)
-
-  pub upper-low : b < 97 → b ≡ upper b
-  unfolding upper
-  upper-low h = rw (lt-leb _ _ h)
-
-  pub upper-high : 97 ≤ b → 122 < b → b ≡ upper b
-  unfolding upper
-  upper-high h k = rw (le-leb _ _ h, lt-leb _ _ k)
-
-  pub upper-small : 97 ≤ b → b ≤ 122 → b - 32 ≡ upper b
-  unfolding upper
-  upper-small h k = rw (le-leb _ _ h, le-leb _ _ k)
-
-module _ (a b u : ℕ) (e : u ≡ upper a) where
-  pub same-yes : u ≡ b → 1 ≡ same a b
-  unfolding same
-  same-yes h = rw (eq-eqb _ _ (sym e ∙ h))
-
-  pub same-no : (u ≡ b → ⊥) → 0 ≡ same a b
-  unfolding same
-  same-no h = rw (ne_eqb _ _ (λ q. h (e ∙ q)))
+-- whether a letter, as a capital, is another one
+pub same-from : (a b u r : ℕ) → u ≡ upper a → r ≡ from_bool (eqb u b) → (r ≡ same a b) × (r ≤ 1)
+unfolding same
+same-from a b u r e g = rw (← e) (go (eqb u b) g)
+  where
+    go : (t : Bool) → r ≡ from_bool t → (r ≡ cond t 1 0) × (r ≤ 1)
+    go true h = (h, omega arith)
+    go false h = (h, omega arith)
 
 -- how many words have begun
 module _ (w : Watch) where
@@ -74,36 +49,13 @@ module _ (w : Watch) where
   unfolding words_with
   words-full h k = simp (h, le-ltb _ _ k)
 
--- the first word that is not all digits
-module _ (w : Watch) (n b : ℕ) where
-  pub odd-kept : (w.odd ≡ 0 → ⊥) → w.odd ≡ odd_with w n b
-  unfolding odd_with
-  odd-kept h = simp (ne_eqb _ _ h)
-
-  module _ (z : w.odd ≡ 0) (r : Bool) (e : r ≡ is_digit b) where
-    pub odd-digit : r ≡ true → 0 ≡ odd_with w n b
-    unfolding odd_with
-    odd-digit h = simp (eq-eqb _ _ z, sym e ∙ h)
-
-    pub odd-here : r ≡ false → not w.named ≡ true → n ≡ odd_with w n b
-    unfolding odd_with
-    odd-here h k = simp (eq-eqb _ _ z, sym e ∙ h, not-true w.named k)
-
-    pub odd-name : r ≡ false → not w.named ≡ false → n ≡ 1 → 0 ≡ odd_with w n b
-    unfolding odd_with
-    odd-name h k m = simp (eq-eqb _ _ z, sym e ∙ h, not-false w.named k, eq-eqb _ _ m)
-
-    pub odd-behind : r ≡ false → not w.named ≡ false → (n ≡ 1 → ⊥) → n ≡ odd_with w n b
-    unfolding odd_with
-    odd-behind h k m = simp (eq-eqb _ _ z, sym e ∙ h, not-false w.named k, ne_eqb _ _ m)
-
 -- a byte of the line
 module _ (w : Watch) (b : ℕ) (r : Bool) (e : r ≡ is_blank b) where
   pub seen-blank : r ≡ true → record { named = w.named; inside = false; words = w.words; odd = w.odd } ≡ seen w b
   unfolding seen
   seen-blank h = simp (sym e ∙ h)
 
-  pub seen-letter : (n o : ℕ) → r ≡ false → n ≡ words_with w → o ≡ odd_with w n b
+  pub seen-letter : (n : ℕ) (o : Option ℕ) → r ≡ false → n ≡ words_with w → o ≡ odd_with w n b
       → record { named = w.named; inside = true; words = n; odd = o } ≡ seen w b
   unfolding seen
   seen-letter n o h p q =
@@ -112,32 +64,32 @@ module _ (w : Watch) (b : ℕ) (r : Bool) (e : r ≡ is_blank b) where
 
 -- a line that names a call
 module _ (w : Watch) (c : Call) (takes : ℕ) where
-  pub numbers-odd : (w.odd ≡ 0 → ⊥) → NoNumber w.odd ≡ numbers_fault w c takes
-  unfolding numbers_fault
-  numbers-odd h = simp (ne_eqb _ _ h)
+  pub numbers-odd : (n : ℕ) → w.odd ≡ Some n → NoNumber n ≡ numbers_fault w c takes
+  unfolding numbers_fault odd_fault
+  numbers-odd n e = simp e
 
-  pub numbers-count : (n m : ℕ) → w.odd ≡ 0 → n ≡ w.words - 1 → m ≡ w.words - 1 → (n ≡ takes → ⊥)
+  pub numbers-count : (n m : ℕ) → w.odd ≡ None → n ≡ w.words - 1 → m ≡ w.words - 1 → (n ≡ takes → ⊥)
       → Count c takes m ≡ numbers_fault w c takes
-  unfolding numbers_fault
-  numbers-count n m z e d h = ap (Count c takes) d ∙ simp (eq-eqb _ _ z, ne_eqb _ _ (λ (q : w.words - 1 ≡ takes). h (e ∙ q)))
+  unfolding numbers_fault odd_fault
+  numbers-count n m z e d h = ap (Count c takes) d ∙ simp (z, ne_eqb _ _ (λ (q : w.words - 1 ≡ takes). h (e ∙ q)))
 
-  pub numbers-above : (n : ℕ) → w.odd ≡ 0 → n ≡ w.words - 1 → n ≡ takes → AboveTop ≡ numbers_fault w c takes
-  unfolding numbers_fault
-  numbers-above n z e h = simp (eq-eqb _ _ z, eq-eqb _ _ (sym e ∙ h))
+  pub numbers-above : (n : ℕ) → w.odd ≡ None → n ≡ w.words - 1 → n ≡ takes → AboveTop ≡ numbers_fault w c takes
+  unfolding numbers_fault odd_fault
+  numbers-above n z e h = simp (z, eq-eqb _ _ (sym e ∙ h))
 
 -- a first line not of six numbers
 module _ (w : Watch) where
-  pub first-odd : (w.odd ≡ 0 → ⊥) → NoNumber w.odd ≡ words_fault w
-  unfolding words_fault
-  first-odd h = simp (ne_eqb _ _ h)
+  pub first-odd : (n : ℕ) → w.odd ≡ Some n → NoNumber n ≡ words_fault w
+  unfolding words_fault odd_fault
+  first-odd n e = simp e
 
-  pub first_count : w.odd ≡ 0 → (w.words ≡ 6 → ⊥) → NotSix w.words ≡ words_fault w
-  unfolding words_fault
-  first_count z h = simp (eq-eqb _ _ z, ne_eqb _ _ h)
+  pub first_count : w.odd ≡ None → (w.words ≡ 6 → ⊥) → NotSix w.words ≡ words_fault w
+  unfolding words_fault odd_fault
+  first_count z h = simp (z, ne_eqb _ _ h)
 
-  pub first_above : w.odd ≡ 0 → w.words ≡ 6 → AboveTop ≡ words_fault w
-  unfolding words_fault
-  first_above z h = simp (eq-eqb _ _ z, eq-eqb _ _ h)
+  pub first_above : w.odd ≡ None → w.words ≡ 6 → AboveTop ≡ words_fault w
+  unfolding words_fault odd_fault
+  first_above z h = simp (z, eq-eqb _ _ h)
 
 -- how much a word is like a text, and which call is nearer
 pub alike-sum : (w t : List ℕ) (x y z : ℕ) → x ≡ agreeing w t → y ≡ agreeing (drop 1 w) t → z ≡ agreeing w (drop 1 t)
@@ -168,17 +120,17 @@ module _ (w : Watch) (word : List ℕ) where
     unfolding name_fault bytes
     name-view h = simp (ne_eqb _ _ z, is_view ∙ h)
 
-    pub name-other : (near : Named) → r ≡ false → near ≡ nearest word → NoCall near ≡ name_fault w word
+    pub name-other : (near : Option Call) → r ≡ false → near ≡ nearest word → NoCall near ≡ name_fault w word
     unfolding name_fault bytes
     name-other near h n = ap NoCall n ∙ simp (ne_eqb _ _ z, is_view ∙ h)
 
 -- a line of calls, by the call that its first word names
 module _ (p : Description) (w : Watch) (word : List ℕ) (f : Fault) where
-  pub call_none : f ≡ name_fault w word → none ≡ named (part 0 (length word) word) → f ≡ call_fault p w word
+  pub call_none : f ≡ name_fault w word → None ≡ named (part 0 (length word) word) → f ≡ call_fault p w word
   unfolding call_fault named_fault
   call_none g e = g ∙ ap (named_fault p w word) (e ∙ ap named (part-all (length word) word refl))
 
-  pub call-some : (c : Call) (n : ℕ) → f ≡ numbers_fault w c n → n ≡ carries p c → some c ≡ named (part 0 (length word) word)
+  pub call-some : (c : Call) (n : ℕ) → f ≡ numbers_fault w c n → n ≡ carries p c → Some c ≡ named (part 0 (length word) word)
       → f ≡ call_fault p w word
   unfolding call_fault named_fault
   call-some c n g m e = g ∙ ap (numbers_fault w c) m ∙ ap (named_fault p w word) (e ∙ ap named (part-all (length word) word refl))

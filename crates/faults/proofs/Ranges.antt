@@ -1,8 +1,11 @@
 -- The ranges of the parameters: each branch of the code is a case of its definition.
-use Prim.Native.Nat.{ℕ, ◌-◌, ◌≤◌, ◌<◌, ◌%◌}
-use mathlib.Core.Bool.{Bool, true, false, not}
+use Prim.Native.Nat.{ℕ, ◌-◌, ◌≤◌, ◌<◌, min}
+use native.Mathlib.Decide.{dec_lt}
+use native.Mathlib.Omega.{arith}
+use lib.Dec.{leb}
+use mathlib.Core.Bool.{Bool, true, false, cond, not}
 use mathlib.Core.Path.{◌≡◌}
-use borrow.Author.Tests.{le-leb, lt-leb, eq-eqb, ne_eqb, not-true, not-false}
+use borrow.Author.Tests.{le-leb, lt-leb, not-true, not-false}
 use Rattle.drum.specs.declared.Description.{Description}
 use Rattle.drum.specs.Params.{D, I}
 use Rattle.drum.specs.Params.{most_sections}
@@ -11,31 +14,27 @@ use Rattle.faults.specs.declared.Parameter.{Parameter}
 use Rattle.faults.specs.declared.Parameter.TheVariants.{Wpb, Wpr, K, Space, Control, N}
 use Rattle.faults.specs.First.{within, wpb_good, half, most_key, most_space, out_fault, ranged, range_fault}
 
-pub wpb-odd : (x : ℕ) → (x % 2 ≡ 0 → ⊥) → false ≡ wpb_good x
-unfolding wpb_good
-wpb-odd x h = rw (ne_eqb _ _ h)
+-- the most words of a key
+pub key-least : (p : Description) (h r : ℕ) → h ≡ half p → r ≡ min (h - 1) 63 → r ≡ most_key p
+unfolding most_key
+key-least p h r e g = rw (← e) (go (dec_lt h 64))
+  where
+    go : Dec (h < 64) → r ≡ cond (leb 64 h) 63 (h - 1)
+    go (yes k) = rw (lt-leb _ _ k) (omega arith)
+    go (no k) =
+        let l : 64 ≤ h = omega arith in
+        rw (le-leb _ _ l) (omega arith)
 
-pub wpb-even : (x : ℕ) (r : Bool) → r ≡ within 6 x 4096 → x % 2 ≡ 0 → r ≡ wpb_good x
-unfolding wpb_good
-wpb-even x r e h = rw (eq-eqb _ _ h) e
-
-module _ (p : Description) (m : ℕ) (e : m ≡ half p) where
-  pub key-most : 64 ≤ m → 63 ≡ most_key p
-  unfolding most_key
-  key-most h = rw (← e, le-leb _ _ h)
-
-  pub key-less : m < 64 → m - 1 ≡ most_key p
-  unfolding most_key
-  key-less h = rw (← e, lt-leb _ _ h)
-
-module _ (p : Description) (d i r : ℕ) (e : d ≡ D p) (f : i ≡ I p) where
-  pub space-details : d ≤ i → r ≡ d - 2 → r ≡ most_space p
-  unfolding most_space
-  space-details h g = rw (← e, ← f, le-leb _ _ h) g
-
-  pub space-entries : i < d → r ≡ i - 2 → r ≡ most_space p
-  unfolding most_space
-  space-entries h g = rw (← e, ← f, lt-leb _ _ h) g
+-- the most that SPACE may be
+pub space-least : (p : Description) (d i r : ℕ) → d ≡ D p → i ≡ I p → r ≡ min d i - 2 → r ≡ most_space p
+unfolding most_space
+space-least p d i r e f g = rw (← e, ← f) (go (dec_lt i d))
+  where
+    go : Dec (i < d) → r ≡ cond (leb d i) (d - 2) (i - 2)
+    go (yes k) = rw (lt-leb _ _ k) (omega arith)
+    go (no k) =
+        let l : d ≤ i = omega arith in
+        rw (le-leb _ _ l) (omega arith)
 
 -- a value within its range, and one out of it
 module _ (what : Parameter) (value least most : ℕ) (more : Fault) (t : Bool) (e : t ≡ within least value most) where

@@ -1,9 +1,10 @@
 -- The loops' turns: bytes looked at up to a line feed, places that agree, and bytes shown.
-use Prim.Native.Nat.{ℕ, suc, ◌+◌, ◌≤◌, ◌<◌}
+use Prim.Native.Nat.{ℕ, suc, ◌+◌, ◌≤◌, ◌<◌, min}
 use mathlib.Core.Path.{◌≡◌, refl, sym, ap, ◌∙◌}
 use mathlib.Core.List.{List, [], ◌∷◌, ◌++◌}
 use native.Mathlib.Numerals.{add-one}
 use native.Mathlib.Omega.{arith}
+use native.Mathlib.Decide.{dec_lt}
 use lib.ListN.{length, drop, get_or, set, drop_of_length-le}
 use lib.Seq.{drop-cons}
 use borrow.Author.Tests.{eq-eqb, ne_eqb}
@@ -12,7 +13,10 @@ use Rattle.words.proofs.Parts.{put-snoc, part-snoc, length_part}
 use Rattle.lines.specs.Lines.{is_line_feed}
 use Rattle.faults.specs.declared.watch.Watch.{Watch}
 use Rattle.faults.specs.Watching.{seen, watched}
-use Rattle.faults.specs.Nearest.{same, agreeing}
+use Rattle.rules.specs.declared.Call.{Call}
+use Rattle.texts.specs.Results.{spelling}
+use Rattle.faults.specs.declared.nearest.Near.{Near}
+use Rattle.faults.specs.Nearest.{same, agreeing, nearer, nearest_in}
 use Rattle.faults.specs.Sentences.{visible, visibles}
 
 -- what is to be looked at from here on comes to what the whole comes to
@@ -31,22 +35,37 @@ module _ (w₀ w : Watch) (from at : ℕ) (bytes : List ℕ) (e : watched w₀ (
   look-more v h q g = e ∙ (rw (add-one at, drop-cons bytes at 0 h, ne_eqb _ _ q)) ∙ ap (λ (x : Watch). watched x (drop (at + 1) bytes)) (sym g)
 
 -- what agrees from here on and what was counted come to the whole
-pub agree-word : (w t : List ℕ) (i j : ℕ) → length w ≤ i → agreeing (drop i w) (drop j t) ≡ 0
-unfolding agreeing
-agree-word w t i j h = rw (drop_of_length-le w h)
-
 agree-none : (w : List ℕ) → agreeing w [] ≡ 0
 unfolding agreeing
 agree-none [] = refl
 agree-none (a ∷ w) = refl
 
-pub agree-text : (w t : List ℕ) (i j : ℕ) → length t ≤ j → agreeing (drop i w) (drop j t) ≡ 0
-agree-text w t i j h = rw (drop_of_length-le t h) (agree-none (drop i w))
+pub agree-over : (w t : List ℕ) (i : ℕ) → min (length w) (length t) ≤ i → agreeing (drop i w) (drop i t) ≡ 0
+unfolding agreeing
+agree-over w t i h = go (dec_lt i (length w))
+  where
+    go : Dec (i < length w) → agreeing (drop i w) (drop i t) ≡ 0
+    go (yes k) =
+        let l : length t ≤ i = omega arith in
+        rw (drop_of_length-le t l) (agree-none (drop i w))
+    go (no k) =
+        let l : length w ≤ i = omega arith in
+        rw (drop_of_length-le w l) refl
 
 pub agree-turn : (w t : List ℕ) (i j : ℕ) → i < length w → j < length t
     → agreeing (drop i w) (drop j t) ≡ same (get_or w i 0) (get_or t j 0) + agreeing (drop (i + 1) w) (drop (j + 1) t)
 unfolding agreeing
 agree-turn w t i j h k = rw (add-one i, add-one j, drop-cons w i 0 h, drop-cons t j 0 k)
+
+-- the nearest of the calls from the i-th on
+module _ (cs : List Call) (w : List ℕ) (near : Near) (i : ℕ) where
+  pub near-turn : (d : Call) (n : Near) → i < length cs → n ≡ nearer w near (get_or cs i d) (spelling (get_or cs i d)) → nearest_in w near (drop i cs) ≡ nearest_in w n (drop (i + 1) cs)
+  unfolding nearest_in
+  near-turn d n h e = rw (add-one i, drop-cons cs i d h) (ap (λ (x : Near). nearest_in w x (drop (suc i) cs)) (sym e))
+
+  pub near-over : length cs ≤ i → nearest_in w near (drop i cs) ≡ near
+  unfolding nearest_in
+  near-over h = rw (drop_of_length-le cs h)
 
 -- a word shown byte by byte
 pub length-visibles : (w : List ℕ) → length (visibles w) ≡ length w

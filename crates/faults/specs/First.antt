@@ -1,6 +1,5 @@
 -- What is wrong with a first line: document 01, "Parameters" and "One session, printed".
-use Rattle.std.specs.Prelude.{ℕ, ◌-◌, ◌/◌, ◌%◌, Bool, false, cond, ◌&&◌, ◌≡◌, leb, eqb}
-use Rattle.std.proofs.Math.Option.{Option, none, some}
+use Rattle.std.specs.Prelude.{ℕ, ◌-◌, ◌/◌, ◌%◌, Bool, false, cond, ◌&&◌, ◌≡◌, leb, eqb, Option, None, Some}
 use Rattle.drum.specs.declared.Description.{Description}
 use Rattle.drum.specs.Params.{D, I, good_params, file_size, most_sections}
 use Rattle.faults.specs.declared.Fault.{Fault}
@@ -8,6 +7,7 @@ use Rattle.faults.specs.declared.Fault.TheVariants.{Empty, NotPlayed, NoCall, Co
 use Rattle.faults.specs.declared.Parameter.{Parameter}
 use Rattle.faults.specs.declared.Parameter.TheVariants.{Wpb, Wpr, K, Space, Control, N}
 use Rattle.faults.specs.declared.watch.Watch.{Watch}
+use Rattle.faults.specs.Faults.{odd_fault}
 
 -- a range of document 01's "Parameters", both ends in it
 unfoldable pub within : ℕ → ℕ → ℕ → Bool
@@ -50,12 +50,12 @@ range_fault p =
 
 -- "a first line not of six numbers, prints `BAD LINE`": what is wrong with it
 unfoldable pub words_fault : Watch → Fault
-words_fault w = cond (eqb w.odd 0) (cond (eqb w.words 6) AboveTop (NotSix w.words)) (NoNumber w.odd)
+words_fault w = odd_fault w.odd (cond (eqb w.words 6) AboveTop (NotSix w.words))
 
 -- the same; "parameters out of range"; "A file above 8,192 words"
 unfoldable pub first_fault : Watch → Option Description → Fault
-first_fault w none = words_fault w
-first_fault w (some p) = cond (good_params p) (TooLarge (file_size p)) (range_fault p)
+first_fault w None = words_fault w
+first_fault w (Some p) = cond (good_params p) (TooLarge (file_size p)) (range_fault p)
 
 -- a parameter is told, and it is out of the range that is told
 abbrev pub Outside : Fault → Type 0

@@ -1,11 +1,9 @@
 -- The call that a word may mean which names none: the one whose name agrees with it at most places.
-use Rattle.std.specs.Prelude.{ℕ, ◌+◌, ◌-◌, cond, ◌&&◌, List, [], ◌∷◌, leb, ltb, eqb, length, drop}
+use Rattle.std.specs.Prelude.{ℕ, ◌+◌, ◌-◌, cond, ◌&&◌, List, [], ◌∷◌, leb, ltb, eqb, length, drop, Option, None, Some}
 use Rattle.rules.specs.declared.Call.{Call}
 use Rattle.rules.specs.declared.Call.TheVariants.{Create}
 use Rattle.texts.specs.Results.{spelling}
 use Rattle.lines.specs.Lines.{kinds}
-use Rattle.lines.specs.declared.Named.{Named}
-use Rattle.lines.specs.declared.Named.TheVariants.{Nothing, Kind}
 use Rattle.faults.specs.declared.nearest.Near.{Near}
 
 -- a small letter as a capital
@@ -40,9 +38,9 @@ nearest_in w near [] = near
 nearest_in w near (c ∷ cs) = nearest_in w (nearer w near c (spelling c)) cs
 
 -- that call, if no more than one letter of its name is lacking
-unfoldable pub meant : Near → Named
-meant near = cond (ltb 1 (near.size - near.score)) Nothing (Kind near.call)
+unfoldable pub meant : Near → Option Call
+meant near = cond (ltb 1 (near.size - near.score)) None (Some near.call)
 
 -- the call that a word may mean
-unfoldable pub nearest : List ℕ → Named
+unfoldable pub nearest : List ℕ → Option Call
 nearest w = meant (nearest_in w nothing_near kinds)

@@ -1,10 +1,8 @@
 -- The sentences that say what is wrong with a line, as bytes.
-use Rattle.std.specs.Prelude.{ℕ, cond, ◌&&◌, List, [], ◌∷◌, ◌++◌, leb, eqb}
+use Rattle.std.specs.Prelude.{ℕ, cond, ◌&&◌, List, [], ◌∷◌, ◌++◌, leb, eqb, Option, None, Some}
 use Rattle.rules.specs.declared.Call.{Call}
 use Rattle.texts.specs.Texts.{bytes, decimal}
 use Rattle.texts.specs.Results.{spelling}
-use Rattle.lines.specs.declared.Named.{Named}
-use Rattle.lines.specs.declared.Named.TheVariants.{Nothing, Kind}
 use Rattle.faults.specs.declared.Fault.{Fault}
 use Rattle.faults.specs.declared.Fault.TheVariants as faults
 use Rattle.faults.specs.declared.Parameter.{Parameter}
@@ -24,12 +22,12 @@ unfoldable pub figure : List ℕ → ℕ → List ℕ → List ℕ
 figure before n after = before ++ ((32 ∷ decimal n) ++ after)
 
 -- the call that may be meant, behind a semicolon
-unfoldable pub suggestion : Named → List ℕ
-suggestion Nothing = []
-suggestion (Kind c) = bytes "; " ++ (spelling c ++ bytes "?")
+unfoldable pub suggestion : Option Call → List ℕ
+suggestion None = []
+suggestion (Some c) = bytes "; " ++ (spelling c ++ bytes "?")
 
 -- of a first word that names no call [O6]
-unfoldable pub no_call_text : List ℕ → Named → List ℕ
+unfoldable pub no_call_text : List ℕ → Option Call → List ℕ
 no_call_text word near = visibles word ++ (bytes " is no call" ++ suggestion near)
 
 -- how many numbers a call takes [O4]

@@ -4,19 +4,17 @@ ghost use Rattle.faults.specs.Sentences.{visible as visible_of, visibles, figure
 ghost use Rattle.faults.specs.Promise.{Wrote, room};
 
 use super::Parameter;
-use lines::Named;
+use rules::Call;
 
 // A byte that can be shown, and ? for any other.
+#[tactic(auto, unfolding(crate::specs::Sentences::visible))]
 fn visible(b: u8) -> u8
     ensures { result ≡ visible_of b }
 {
-    if b < 33 {
-        return b'?';
+    match b {
+        33..=126 => b,
+        _ => b'?',
     }
-    if 126 < b {
-        return b'?';
-    }
-    b
 }
 
 // A word that was read.
@@ -24,10 +22,8 @@ pub fn put_visible(out: &mut [u8], at: usize, word: &[u8]) -> usize
     requires { at + length word.now ≤ length out.old }
     ensures { Wrote result out at (visibles word.now) (length word.now) }
 {
-    let mut i = 0;
-    while i < word.len() {
+    for i in 0..word.len() {
         out[at + i] = visible(word[i]);
-        i += 1;
     }
     at + word.len()
 }
@@ -69,13 +65,13 @@ pub fn put_is(out: &mut [u8], at: usize, what: Parameter, value: usize) -> usize
 }
 
 // The call that may be meant.
-pub fn put_suggestion(out: &mut [u8], at: usize, near: Named) -> usize
+pub fn put_suggestion(out: &mut [u8], at: usize, near: Option<Call>) -> usize
     requires { at + 9 ≤ length out.old }
     ensures { Wrote result out at (suggestion near) 9 }
 {
     match near {
-        Named::Nothing => at,
-        Named::Kind { call } => {
+        None => at,
+        Some(call) => {
             let mark = texts::put_bytes(out, at, b"; ");
             let named = texts::put_name(out, mark, call);
             texts::put_bytes(out, named, b"?")

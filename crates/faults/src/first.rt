@@ -1,75 +1,49 @@
 // What is wrong with a first line: its words, a parameter out of range, or the size of the file that it asks for.
 ghost use Rattle.std.specs.Prelude.{◌≡◌, ◌-◌};
-ghost use Rattle.lines.specs.Promise.{given_as};
 ghost use Rattle.faults.specs.First.{within as within_of, wpb_good, half as half_of, most_key};
 ghost use Rattle.faults.specs.First.{most_space, out_fault, ranged as ranged_of, range_fault, words_fault, first_fault};
 
 use super::watch::Watch;
 use super::{Fault, Parameter};
 use drum::Description;
-use lines::Parameters;
 
+#[tactic(auto, unfolding(crate::specs::First::within))]
 fn is_within(least: usize, value: usize, most: usize) -> bool
     ensures { result ≡ within_of least value most }
 {
-    least <= value && value <= most
+    (least..=most).contains(&value)
 }
 
+#[tactic(auto, unfolding(crate::specs::First::wpb_good))]
 fn is_wpb(wpb: usize) -> bool
     ensures { result ≡ wpb_good wpb }
 {
-    if wpb % 2 != 0 {
-        return false;
-    }
-    is_within(6, wpb, 4096)
+    wpb % 2 == 0 && is_within(6, wpb, 4096)
 }
 
 // The most words of a record, with two to a block.
+#[tactic(auto, unfolding(crate::specs::First::half))]
 fn half(p: Description) -> usize
     ensures { result ≡ half_of p }
 {
-    let wpb = p.wpb;
-    if wpb == 0 {
-        return 0;
-    }
-    (wpb - 1) / 2
+    p.wpb.saturating_sub(1) / 2
 }
 
 // The most words of a key, with two entries to a block.
 fn most_key(p: Description) -> usize
     ensures { result ≡ most_key p }
 {
-    let most = half(p);
-    if 64 <= most {
-        return 63;
-    }
-    if most == 0 {
-        return 0;
-    }
-    most - 1
-}
-
-fn less_two(x: usize) -> usize
-    ensures { result ≡ x - 2 }
-{
-    if x < 2 {
-        return 0;
-    }
-    x - 2
+    half(p).saturating_sub(1).min(63)
 }
 
 // The most that SPACE may be.
 fn most_space(p: Description) -> usize
     ensures { result ≡ most_space p }
 {
-    let d = p.d();
-    let i = p.i();
-    if d <= i {
-        return less_two(d);
-    }
-    less_two(i)
+    p.d().min(p.i()).saturating_sub(2)
 }
 
+#[tactic(auto, unfolding(crate::specs::First::out_fault))]
 fn out_fault(what: Parameter, value: usize, least: usize, most: usize) -> Fault
     ensures { result ≡ out_fault what value least most }
 {
@@ -109,8 +83,8 @@ fn range_fault(p: Description) -> Fault
 fn words_fault(w: Watch) -> Fault
     ensures { result ≡ words_fault w }
 {
-    if w.odd != 0 {
-        return Fault::NoNumber { word: w.odd };
+    if let Some(word) = w.odd {
+        return Fault::NoNumber { word };
     }
     if w.words != 6 {
         return Fault::NotSix { given: w.words };
@@ -119,18 +93,18 @@ fn words_fault(w: Watch) -> Fault
 }
 
 // A first line with which no call is played.
-pub fn first_fault(w: Watch, given: Parameters) -> Fault
-    ensures { result ≡ first_fault w (given_as given) }
+pub fn first_fault(w: Watch, given: Option<Description>) -> Fault
+    ensures { result ≡ first_fault w given }
 {
     match given {
-        Parameters::Nothing => words_fault(w),
-        Parameters::Given { p } => {
-            if !p.is_good() {
-                return range_fault(p);
+        None => words_fault(w),
+        Some(p) => {
+            if p.is_good() {
+                return Fault::TooLarge {
+                    size: p.file_size(),
+                };
             }
-            Fault::TooLarge {
-                size: p.file_size(),
-            }
+            range_fault(p)
         }
     }
 }

@@ -13,7 +13,6 @@ ghost use Rattle.faults.specs.Faults.{name_fault, numbers_fault, call_fault};
 
 use drum::Description;
 pub use first::first_fault;
-use lines::Named;
 use nearest::nearest;
 use rules::Call;
 pub use sentence::put_sentence;
@@ -36,7 +35,7 @@ pub enum Fault {
     Empty,
     NotPlayed,
     NoCall {
-        nearest: Named,
+        nearest: Option<Call>,
     },
     Count {
         call: Call,
@@ -80,8 +79,8 @@ pub fn name_fault(w: Watch, word: &[u8]) -> Fault
 fn numbers_fault(w: Watch, call: Call, takes: usize) -> Fault
     ensures { result ≡ numbers_fault w call takes }
 {
-    if w.odd != 0 {
-        return Fault::NoNumber { word: w.odd };
+    if let Some(word) = w.odd {
+        return Fault::NoNumber { word };
     }
     if w.behind() != takes {
         return Fault::Count {
@@ -97,9 +96,8 @@ fn numbers_fault(w: Watch, call: Call, takes: usize) -> Fault
 pub fn call_fault(p: Description, w: Watch, word: &[u8]) -> Fault
     ensures { result ≡ call_fault p w word.now }
 {
-    let kind = lines::call_named(word, word.len());
-    match kind {
-        Named::Nothing => name_fault(w, word),
-        Named::Kind { call } => numbers_fault(w, call, lines::carries(p, call)),
+    match lines::call_named(word, word.len()) {
+        None => name_fault(w, word),
+        Some(call) => numbers_fault(w, call, lines::carries(p, call)),
     }
 }

@@ -1,10 +1,11 @@
 // The call whose name is most like a word that names none.
 ghost use Rattle.std.specs.Prelude.{◌≡◌, ◌≤◌, ◌-◌, length, drop};
+ghost use Rattle.texts.specs.Results.{spelling};
 ghost use Rattle.faults.specs.Nearest.{upper as upper_of, same as same_letter, agreeing as agreeing_in, alike as alike_in};
 ghost use Rattle.faults.specs.Nearest.{nothing_near, nearer as nearer_of, nearest_in, nearest as nearest_to};
 ghost use Rattle.lines.specs.Lines.{kinds};
 
-use lines::Named;
+use lines::KINDS;
 use rules::Call;
 
 // A call, the length of its name, and how much the word is like it.
@@ -16,44 +17,42 @@ pub struct Near {
 }
 
 // A small letter as a capital.
+#[tactic(auto, unfolding(crate::specs::Nearest::upper))]
 fn upper(b: u8) -> u8
     ensures { result ≡ upper_of b }
 {
-    if b < b'a' {
-        return b;
+    match b {
+        b'a'..=b'z' => b - 32,
+        _ => b,
     }
-    if b'z' < b {
-        return b;
-    }
-    b - 32
 }
 
 // 1 where `a`, as a capital, is b.
 fn same(a: u8, b: u8) -> usize
     ensures { (result ≡ same_letter a b) × (result ≤ 1) }
 {
-    if upper(a) == b {
-        return 1;
-    }
-    0
+    usize::from(upper(a) == b)
 }
 
-// At how many places the bytes of `word` from a on agree with those of `text` from b on.
-fn agreeing(word: &[u8], a: usize, text: &[u8], b: usize) -> usize
-    ensures { (result ≡ agreeing_in (drop a word.now) (drop b text.now)) × (result ≤ length text.now) }
+// At how many places the bytes of `word` agree with those of `text`.
+fn agreeing(word: &[u8], text: &[u8]) -> usize
+    ensures { (result ≡ agreeing_in word.now text.now) × (result ≤ length text.now) }
 {
-    let mut i = a;
-    let mut j = b;
     let mut count = 0;
-    while i < word.len() {
-        if text.len() <= j {
-            return count;
-        }
-        count += same(word[i], text[j]);
-        i += 1;
-        j += 1;
+    for i in 0..word.len().min(text.len()) {
+        count += same(word[i], text[i]);
     }
     count
+}
+
+// The bytes behind the first.
+fn behind(text: &[u8]) -> &[u8]
+    ensures { result.now ≡ drop 1 text.now }
+{
+    match text {
+        [] => text,
+        [_, rest @ ..] => rest,
+    }
 }
 
 // How much the word is like a text: as it stands, and with a letter left out or added in front.
@@ -61,17 +60,17 @@ fn alike(word: &[u8], text: &[u8]) -> usize
     requires { length text.now ≤ 8 }
     ensures { result ≡ alike_in word.now text.now }
 {
-    let whole = agreeing(word, 0, text, 0);
-    let added = agreeing(word, 1, text, 0);
-    let left = agreeing(word, 0, text, 1);
+    let whole = agreeing(word, text);
+    let added = agreeing(behind(word), text);
+    let left = agreeing(word, behind(text));
     whole + added + left
 }
 
-// The call whose name is `text`, where the word is more like it than like the one before.
-fn nearer(near: Near, word: &[u8], call: Call, text: &[u8]) -> Near
-    requires { length text.now ≤ 8 }
-    ensures { result ≡ nearer_of word.now near call text.now }
+// The call, where the word is more like its name than like the one before.
+fn nearer(near: Near, word: &[u8], call: Call) -> Near
+    ensures { result ≡ nearer_of word.now near call (spelling call) }
 {
+    let text = texts::spelling(call);
     let score = alike(word, text);
     if score <= near.score {
         return near;
@@ -87,40 +86,24 @@ fn nearer(near: Near, word: &[u8], call: Call, text: &[u8]) -> Near
 fn nearest_near(word: &[u8]) -> Near
     ensures { result ≡ nearest_in word.now nothing_near kinds }
 {
-    let nothing = Near {
+    let mut near = Near {
         call: Call::Create,
         size: 2,
         score: 0,
     };
-    let create = nearer(nothing, word, Call::Create, b"CREATE");
-    let open = nearer(create, word, Call::Open, b"OPEN");
-    let close = nearer(open, word, Call::Close, b"CLOSE");
-    let seek = nearer(close, word, Call::Seek { at: 0 }, b"SEEK");
-    let adv = nearer(seek, word, Call::Adv, b"ADV");
-    let nsert = nearer(adv, word, Call::Nsert { at: 0 }, b"NSERT");
-    let dlete = nearer(nsert, word, Call::Dlete { at: 0 }, b"DLETE");
-    let updat = nearer(dlete, word, Call::Updat { at: 0 }, b"UPDAT");
-    nearer(updat, word, Call::Xtend { at: 0 }, b"XTEND")
-}
-
-// How many letters of the name are not agreed with.
-fn lacking(near: Near) -> usize
-    ensures { result ≡ near.size - near.score }
-{
-    if near.size <= near.score {
-        return 0;
+    for call in KINDS {
+        near = nearer(near, word, call);
     }
-    near.size - near.score
+    near
 }
 
 // That call, if no more than one letter of its name is lacking.
-pub fn nearest(word: &[u8]) -> Named
+pub fn nearest(word: &[u8]) -> Option<Call>
     ensures { result ≡ nearest_to word.now }
 {
     let near = nearest_near(word);
-    if 1 < lacking(near) {
-        return Named::Nothing;
+    if 1 < near.size.saturating_sub(near.score) {
+        return None;
     }
-    let call = near.call;
-    Named::Kind { call }
+    Some(near.call)
 }

@@ -5,10 +5,9 @@ ghost use Rattle.faults.specs.Promise.{Wrote};
 
 use super::figures::{put_figure, put_is, put_suggestion, put_takes, put_visible};
 use super::{Fault, Parameter};
-use lines::Named;
 use rules::Call;
 
-fn put_no_call(out: &mut [u8], at: usize, word: &[u8], near: Named) -> usize
+fn put_no_call(out: &mut [u8], at: usize, word: &[u8], near: Option<Call>) -> usize
     requires { (at + 40 ≤ length out.old) × (length word.now ≤ 8) }
     ensures { Wrote result out at (no_call_text word.now near) 40 }
 {

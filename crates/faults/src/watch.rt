@@ -5,13 +5,13 @@ ghost use Rattle.faults.specs.Watching.{unwatched, words_with, odd_with, seen, w
 use lines::{is_blank, is_digit};
 
 // Whether the first word is a name; whether a word is being read; how many words have begun; which was the first with a byte that is no digit, a
-// name left out (0: none).
+// name left out.
 #[derive(Clone, Copy)]
 pub struct Watch {
     pub named: bool,
     pub inside: bool,
     pub words: usize,
-    pub odd: usize,
+    pub odd: Option<usize>,
 }
 
 impl Watch {
@@ -23,7 +23,7 @@ impl Watch {
             named,
             inside: false,
             words: 0,
-            odd: 0,
+            odd: None,
         }
     }
 
@@ -31,10 +31,7 @@ impl Watch {
     pub fn behind(self) -> usize
         ensures { result ≡ self.words - 1 }
     {
-        if self.words == 0 {
-            return 0;
-        }
-        self.words - 1
+        self.words.saturating_sub(1)
     }
 
     // How many words have begun with a byte more of one.
@@ -51,22 +48,14 @@ impl Watch {
     }
 
     // The first word that is not all digits, where b is a byte of word n.
-    fn odd_with(self, n: usize, b: u8) -> usize
+    #[tactic(auto, unfolding(crate::specs::Watching::odd_with))]
+    fn odd_with(self, n: usize, b: u8) -> Option<usize>
         ensures { result ≡ odd_with self n b }
     {
-        if self.odd != 0 {
+        if self.odd.is_some() || is_digit(b) || self.named && n == 1 {
             return self.odd;
         }
-        if is_digit(b) {
-            return 0;
-        }
-        if !self.named {
-            return n;
-        }
-        if n == 1 {
-            return 0;
-        }
-        n
+        Some(n)
     }
 
     // A byte of the line.
@@ -75,18 +64,16 @@ impl Watch {
     {
         if is_blank(b) {
             return Self {
-                named: self.named,
                 inside: false,
-                words: self.words,
-                odd: self.odd,
+                ..self
             };
         }
         let n = self.words_with();
         Self {
-            named: self.named,
             inside: true,
             words: n,
             odd: self.odd_with(n, b),
+            ..self
         }
     }
 }
@@ -97,14 +84,11 @@ pub fn look(w: Watch, bytes: &[u8], from: usize) -> Watch
     ensures { result ≡ watched w (drop from bytes.now) }
 {
     let mut seen = w;
-    let mut at = from;
-    while at < bytes.len() {
-        let b = bytes[at];
-        at += 1;
-        if b == b'\n' {
+    for i in from..bytes.len() {
+        if bytes[i] == b'\n' {
             return seen;
         }
-        seen = seen.push(b);
+        seen = seen.push(bytes[i]);
     }
     seen
 }

@@ -1,25 +1,20 @@
--- A new block by what the code found: word 2 where the chain is empty, else the chain's head. And the number of a record stored.
+-- What the code asks of the parameters, of the master and of the chain's head, before it looks at them.
 use Prim.Native.Nat.{ℕ, ◌+◌, ◌≤◌, ◌<◌}
-use mathlib.Core.Path.{◌≡◌, refl, ap, ◌∙◌}
-use mathlib.Core.Bool.{Bool, true, false, cond, not, and-false}
+use mathlib.Core.Path.{◌≡◌, refl, sym, ap, ◌∙◌}
+use mathlib.Core.Bool.{Bool, true, false, cond}
 use mathlib.Core.List.{List}
 use native.Mathlib.Omega.{arith}
-use borrow.Author.Tests.{eq-eqb, ne_eqb, le-leb, lt-leb, lt-ltb, le-ltb, not-true, not-false}
+use borrow.Author.Tests.{eq-eqb, ltb-false}
 use lib.Dec.{ltb, eqb}
 use lib.ListN.{length}
-use Rattle.numbers.specs.Numbers.{bad_file, done, none_free}
-use Rattle.numbers.specs.Checked.{Checked, passed, refused, ◌>>=◌, ◌>>◌, within}
+use Rattle.numbers.specs.Checked.{Checked, passed, refused, ◌>>◌, within, up_to}
+use Rattle.numbers.proofs.Passed.{clash, limited}
 use Rattle.drum.specs.declared.Description.{Description}
-use Rattle.drum.specs.Params.{D, good_params}
-use Rattle.drum.specs.Blocks.{Fitting, Texts, seen, text_of, link_in, is_free}
+use Rattle.drum.specs.Params.{good_params}
+use Rattle.drum.specs.Blocks.{Fitting, Block, Texts, text_of}
 use Rattle.drum.proofs.Good.{good-facts, caps}
 use Rattle.drum.proofs.Blocks.{length-text_of}
-use Rattle.rules.specs.declared.Path.{Path}
-use Rattle.rules.specs.declared.Taken.{Taken}
-use Rattle.rules.specs.Free.{none_left, granted, is_new, stored_number}
-use Rattle.free.specs.declared.Grant.{Grant}
-use Rattle.free.specs.Answers.{as_grant}
-use Rattle.free.specs.Lowest.{lowest_granted}
+use Rattle.rules.specs.Free.{none_left}
 
 -- the parameters are small, and the master has words 0, 1 and 2
 pub number_small : (p : Description) → good_params p ≡ true → p.n ≤ 262142
@@ -31,118 +26,32 @@ master-some p f b fit =
     let l = fit.file-is in
     omega arith
 
--- word 2, tested: too low, too high, N + 1, or a block never used
-module _ (n lowest low : ℕ) (is : low ≡ lowest) where
-  pub lowest-zero : low < 1 → refused bad_file ≡ lowest_granted n lowest
-  unfolding lowest_granted
-  lowest-zero h = simp (← is, lt-leb _ _ h)
+-- a chain that passes: its first step, and the rest
+parted : {A B : Type 0} (m : Checked A) (rest : Checked B) (b : B) → m >> rest ≡ passed b → (a : A) × (m ≡ passed a) × (rest ≡ passed b)
+parted (refused n) rest b e = clash n b e
+parted (passed a) rest b e = (a, refl, e)
 
-  pub lowest-over : n + 1 < low → refused bad_file ≡ lowest_granted n lowest
-  unfolding lowest_granted
-  lowest-over h = simp (← is, lt-leb _ _ h, and-false)
+-- what the test whether a block is left tells: the head is a block or 0, and of an empty chain word 2 is a block
+module _ (p : Description) (head lowest : ℕ) (none : Bool) (e : passed none ≡ none_left p head lowest) where
+  pub head-most : head ≤ p.n
+  unfolding none_left
+  head-most =
+      let q = parted (up_to p.n head) (cond (eqb head 0) (within 1 (p.n + 1) lowest >> passed (ltb p.n lowest)) (passed false)) none (sym e) in
+      (limited p.n head q.0 q.1).0
 
-  module _ (least : 1 ≤ low) (most : low ≤ n + 1) where
-    pub lowest-none : n < low → passed (record { block = 0; head = 0; lowest = lowest }) ≡ lowest_granted n lowest
-    unfolding lowest_granted
-    lowest-none h = simp (← is, le-leb _ _ least, le-leb _ _ most, lt-ltb _ _ h)
+  pub lowest-most : head ≡ 0 → none ≡ false → lowest ≤ p.n
+  unfolding none_left
+  lowest-most z some =
+      let q = parted (up_to p.n head) (cond (eqb head 0) (within 1 (p.n + 1) lowest >> passed (ltb p.n lowest)) (passed false)) none (sym e) in
+      let r : within 1 (p.n + 1) lowest >> passed (ltb p.n lowest) ≡ passed none =
+      ap (λ (t : Bool). cond t (within 1 (p.n + 1) lowest >> passed (ltb p.n lowest)) (passed false)) (sym (eq-eqb _ _ z)) ∙ q.2 in
+      let s = (parted (within 1 (p.n + 1) lowest) (passed (ltb p.n lowest)) none r).2 in
+      let t : ltb p.n lowest ≡ none = cc in
+      ltb-false p.n lowest (t ∙ some)
 
-    pub lowest-some : low ≤ n → passed (record { block = low; head = 0; lowest = lowest + 1 }) ≡ lowest_granted n lowest
-    unfolding lowest_granted
-    lowest-some h = simp (← is, le-leb _ _ least, le-leb _ _ most, le-ltb _ _ h)
-
--- with an empty chain the grant is word 2's
-empty-chain : (v : Texts) (lowest : ℕ) → granted v 0 lowest ≡ lowest_granted v.desc.n lowest
-unfolding granted none_left lowest_granted
-empty-chain v lowest = rw (le-leb 0 v.desc.n (omega arith)) (go (within 1 (v.desc.n + 1) lowest) (ltb v.desc.n lowest) _ _)
-  where
-    go : (m : Checked ℕ) (t : Bool) (a b : Taken) → ((m >> passed t) >>= (λ none. cond none (passed a) (passed b))) ≡ (m >> passed (cond t a b))
-    go (refused x) t a b = refl
-    go (passed x) true a b = refl
-    go (passed x) false a b = refl
-
--- the chain's head, tested: too high, none, of a wrong kind, with a bad link, or a new block
-module _ (p : Description) (cur : ℕ) (f b : List ℕ) (head lowest : ℕ) where
-  abbrev v : Texts
-  v = seen p cur f b
-
-  pub head-bad : p.n < head → refused bad_file ≡ granted v head lowest
-  unfolding granted none_left
-  head-bad h = simp (lt-leb _ _ h)
-
-  pub chain-empty : (g : Grant) → as_grant g ≡ lowest_granted p.n lowest → head ≡ 0 → as_grant g ≡ granted v head lowest
-  chain-empty g e z = rw z (e ∙ (let q = empty-chain v lowest in rw q))
-
-  -- the head's text has a link, in one of its first two words
-  pub head-text : (t : List ℕ) → t ≡ text_of v head → head ≤ p.n → (head ≡ 0 → ⊥) → Fitting p f b → 1 < length t
-  head-text t e most some fit =
-      let g = caps p fit.good in
-      let l = ap length e ∙ length-text_of v head fit (omega arith, most) in
-      omega arith
-
-  pub head-some : (t : List ℕ) → t ≡ text_of v head → head ≤ p.n → (head ≡ 0 → ⊥) → Fitting p f b → 0 < length t
-  head-some t e most some fit = let l = head-text t e most some fit in omega arith
-
-  module _ (t : List ℕ) (et : t ≡ text_of v head) (free : Bool) (ef : free ≡ is_free p t) (most : head ≤ p.n) (some : head ≡ 0 → ⊥) where
-    pub kind-bad : not free ≡ true → refused bad_file ≡ granted v head lowest
-    unfolding granted none_left
-    kind-bad k = simp (le-leb _ _ most, ne_eqb _ _ some, ← et, ← ef, not-true free k)
-
-    module _ (link : ℕ) (el : link ≡ link_in p t) (kind : not free ≡ false) where
-      pub link-bad : p.n < link → refused bad_file ≡ granted v head lowest
-      unfolding granted none_left
-      link-bad h = simp (le-leb _ _ most, ne_eqb _ _ some, ← et, ← ef, not-false free kind, ← el, lt-leb _ _ h)
-
-      pub chain_head_lem : link ≤ p.n → passed (record { block = head; head = link; lowest = lowest }) ≡ granted v head lowest
-      unfolding granted none_left
-      chain_head_lem h = simp (le-leb _ _ most, ne_eqb _ _ some, ← et, ← ef, not-false free kind, ← el, le-leb _ _ h)
-
--- a block is another than each that the call may read or write, or it is one of them
-module _ (cur : ℕ) (flag : Bool) (w : Path) (b : ℕ) where
-  pub is-index : b ≡ w.index → false ≡ is_new cur flag w b
-  is-index e = simp (eq-eqb _ _ e)
-
-  pub is-detail : b ≡ w.detail → false ≡ is_new cur flag w b
-  is-detail e = simp (eq-eqb _ _ e, and-false)
-
-  module _ (i : b ≡ w.index → ⊥) (d : b ≡ w.detail → ⊥) where
-    pub not_written : not flag ≡ true → true ≡ is_new cur flag w b
-    not_written e = simp (ne_eqb _ _ i, ne_eqb _ _ d, not-true flag e)
-
-    pub not-current : not flag ≡ false → not (eqb b cur) ≡ is_new cur flag w b
-    not-current e = simp (ne_eqb _ _ i, ne_eqb _ _ d, not-false flag e)
-
--- the number of a record stored: 0, unless the block then holds D and no block is free
-module _ (p : Description) (n head lowest d : ℕ) (is : d ≡ D p) where
-  pub stored-less : (n ≡ d → ⊥) → passed done ≡ stored_number p n head lowest
-  unfolding stored_number none_left
-  stored-less h = simp (← is, ne_eqb _ _ h)
-
-  module _ (full : n ≡ d) where
-    pub stored-head-bad : p.n < head → refused bad_file ≡ stored_number p n head lowest
-    unfolding stored_number none_left
-    stored-head-bad h = simp (← is, eq-eqb _ _ full, lt-leb _ _ h)
-
-    module _ (most : head ≤ p.n) where
-      pub stored-chain : (head ≡ 0 → ⊥) → passed done ≡ stored_number p n head lowest
-      unfolding stored_number none_left
-      stored-chain h = simp (← is, eq-eqb _ _ full, le-leb _ _ most, ne_eqb _ _ h)
-
-      module _ (none : head ≡ 0) (low : ℕ) (el : low ≡ lowest) where
-        pub stored-zero : low < 1 → refused bad_file ≡ stored_number p n head lowest
-        unfolding stored_number none_left
-        stored-zero h = simp (← is, eq-eqb _ _ full, le-leb _ _ most, eq-eqb _ _ none, ← el, lt-leb _ _ h)
-
-        pub stored-over : p.n + 1 < low → refused bad_file ≡ stored_number p n head lowest
-        unfolding stored_number none_left
-        stored-over h = simp (← is, eq-eqb _ _ full, le-leb _ _ most, eq-eqb _ _ none, ← el, lt-leb _ _ h, and-false)
-
-        module _ (least : 1 ≤ low) (over : low ≤ p.n + 1) where
-          pub stored-none : p.n < low → passed none_free ≡ stored_number p n head lowest
-          unfolding stored_number none_left
-          stored-none h =
-              simp (← is, eq-eqb _ _ full, le-leb _ _ most, eq-eqb _ _ none, ← el, le-leb _ _ least, le-leb _ _ over, lt-ltb _ _ h)
-
-          pub stored_some : low ≤ p.n → passed done ≡ stored_number p n head lowest
-          unfolding stored_number none_left
-          stored_some h =
-              simp (← is, eq-eqb _ _ full, le-leb _ _ most, eq-eqb _ _ none, ← el, le-leb _ _ least, le-leb _ _ over, le-ltb _ _ h)
+-- a block's text has a link, in one of its first two words
+pub link-there : (v : Texts) (b : ℕ) (t : List ℕ) → Fitting v.desc v.file v.buffer → t ≡ text_of v b → Block v.desc b → 1 < length t
+link-there v b t fit e block =
+    let g = caps v.desc fit.good in
+    let l = ap length e ∙ length-text_of v b fit block in
+    omega arith

@@ -1,3 +1,2 @@
 pub mod Granting
-pub mod Taking
 pub mod Readying

@@ -1,3 +1,1 @@
-pub mod Answers
-pub mod Lowest
 pub mod Readied

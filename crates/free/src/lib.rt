@@ -4,96 +4,53 @@
 
 mod ready;
 
-ghost use Rattle.std.specs.Prelude.{◌≡◌, true, not, ◌&&◌, ◌+◌, ◌≤◌, eqb, length};
+ghost use Rattle.std.specs.Prelude.{◌≡◌, true};
+ghost use Rattle.numbers.specs.Refused.{checked};
 ghost use Rattle.drum.specs.Params.{good_params};
-ghost use Rattle.drum.specs.Blocks.{Fitting, at_entry};
-ghost use Rattle.rules.specs.Free.{granted, take_one, take_two, stored_number, is_new, is_short};
-ghost use Rattle.free.specs.Lowest.{lowest_granted};
-ghost use Rattle.free.specs.Answers.{as_grant, as_grants, as_number};
+ghost use Rattle.drum.specs.Sight.{texts};
+ghost use Rattle.rules.specs.Free.{none_left, granted, take_one, take_two, stored_number, is_new, is_short};
 
-use drum::Description;
-use numbers::NONE_FREE;
+use drum::{Description, Seen, kinds};
+use numbers::{DONE, NONE_FREE, Refusal, require, up_to, within};
 pub use ready::prepare;
-use rules::{Held, Pair, Path, Taken};
+use rules::{Pair, Path, Taken};
 
-#[derive(Clone, Copy)]
-pub enum Grant {
-    Bad,
-    Got(Taken),
-}
-
-#[derive(Clone, Copy)]
-pub enum Grants {
-    Bad,
-    Got(Pair),
-}
-
-#[derive(Clone, Copy)]
-pub enum Number {
-    Bad,
-    Is(u32),
-}
-
-fn wide(x: u32) -> usize
-    ensures { result ≡ x }
+// Whether no block is free, with these words 1 and 2 of the master.
+fn none_left(p: Description, head: usize, lowest: u32) -> Result<bool, Refusal>
+    requires { good_params p ≡ true }
+    ensures { checked result ≡ none_left p head lowest }
 {
-    x as usize
+    up_to(p.n, head)?;
+    if head != 0 {
+        return Ok(false);
+    }
+    let low = within(1, p.n + 1, lowest as usize)?;
+    Ok(p.n < low)
 }
 
-// The lowest block never used is a new block, if there is one.
-fn take_lowest(n: usize, lowest: u32) -> Grant
-    requires { n ≤ 262142 }
-    ensures { as_grant result ≡ lowest_granted n lowest }
+// A new block, with these words 1 and 2 of the master: the chain's head, else the lowest never used.
+fn take_block(v: Seen, head: usize, lowest: u32) -> Result<Taken, Refusal>
+    ensures { checked result ≡ granted (texts v.entry) head lowest }
 {
-    let low = wide(lowest);
-    if low < 1 {
-        return Grant::Bad;
-    }
-    if n + 1 < low {
-        return Grant::Bad;
-    }
-    if n < low {
-        return Grant::Got(Taken {
+    if none_left(v.desc, head, lowest)? {
+        // block 0 for none and no Option: the definitions' type says it so, and they may not change
+        return Ok(Taken {
             block: 0,
-            head: 0,
+            head,
             lowest,
         });
     }
-    Grant::Got(Taken {
-        block: low,
-        head: 0,
-        lowest: lowest + 1,
-    })
-}
-
-// A new block, with these words 1 and 2 of the master.
-fn take_block<'a>(
-    p: Description,
-    current: usize,
-    file: &'a [u32],
-    buffer: &'a [u32],
-    head: usize,
-    lowest: u32,
-) -> Grant
-    requires { Fitting p file.now buffer.now }
-    ensures { as_grant result ≡ granted (at_entry p current file.now buffer.now) head lowest }
-{
-    let n = p.n;
-    if n < head {
-        return Grant::Bad;
-    }
     if head == 0 {
-        return take_lowest(n, lowest);
+        return Ok(Taken {
+            block: lowest as usize,
+            head: 0,
+            lowest: lowest + 1,
+        });
     }
-    let t = drum::text_of(p, current, file, buffer, head);
-    if !drum::kinds::is_free(p, t) {
-        return Grant::Bad;
-    }
-    let link = drum::kinds::link_in(p, t);
-    if n < link {
-        return Grant::Bad;
-    }
-    Grant::Got(Taken {
+    let t = v.text_of(head);
+    require(kinds::is_free(v.desc, t), Refusal::BadFile)?;
+    let link = up_to(v.desc.n, kinds::link_in(v.desc, t))?;
+    Ok(Taken {
         block: head,
         head: link,
         lowest,
@@ -104,114 +61,60 @@ fn take_block<'a>(
 fn is_new(current: usize, flag: bool, w: Path, b: usize) -> bool
     ensures { result ≡ is_new current flag w b }
 {
-    if b == w.index {
-        return false;
-    }
-    if b == w.detail {
-        return false;
-    }
-    if !flag {
-        return true;
-    }
-    b != current
+    b != w.index && b != w.detail && !(flag && b == current)
 }
 
 // One new block for a call with the path w, tested.
-pub fn take_one<'a>(at: Held, file: &'a [u32], buffer: &'a [u32], w: Path) -> Grant
-    requires { Fitting at.desc file.now buffer.now }
-    ensures { as_grant result ≡ take_one (at_entry at.desc at.current file.now buffer.now) at.flag w }
+pub fn take_one(v: Seen, flag: bool, w: Path) -> Result<Taken, Refusal>
+    ensures { checked result ≡ take_one (texts v.entry) flag w }
 {
-    let head = words::word_at(file, 1);
-    let Grant::Got(d) = take_block(at.desc, at.current, file, buffer, head, file[2]) else {
-        return Grant::Bad;
-    };
-    if d.block == 0 {
-        return Grant::Got(d);
+    let head = words::word_at(v.file, 1);
+    let d = take_block(v, head, v.file[2])?;
+    if d.block != 0 {
+        require(is_new(v.current, flag, w, d.block), Refusal::BadFile)?;
     }
-    if !is_new(at.current, at.flag, w, d.block) {
-        return Grant::Bad;
-    }
-    Grant::Got(d)
+    Ok(d)
 }
 
 // Whether one of two new blocks is lacking, or a section.
-fn is_short<'a>(at: Held, file: &'a [u32], buffer: &'a [u32], d: usize, x: usize) -> bool
-    requires { 1 ≤ length file.now }
-    ensures { result ≡ is_short (at_entry at.desc at.current file.now buffer.now) d x }
+fn is_short(v: Seen, d: usize, x: usize) -> bool
+    ensures { result ≡ is_short (texts v.entry) d x }
 {
-    if d == 0 {
-        return true;
-    }
-    if x == 0 {
-        return true;
-    }
-    at.desc.control <= words::word_at(file, 0)
-}
-
-// Whether both are new blocks of the call, and not the same.
-fn are_new(at: Held, w: Path, d: usize, x: usize) -> bool
-    ensures { result ≡ (is_new at.current at.flag w d && (is_new at.current at.flag w x && not (eqb x d))) }
-{
-    if x == d {
-        return false;
-    }
-    if !is_new(at.current, at.flag, w, d) {
-        return false;
-    }
-    is_new(at.current, at.flag, w, x)
+    d == 0 || x == 0 || v.desc.control <= words::word_at(v.file, 0)
 }
 
 // Two new blocks for a call with the path w, the detail block first, and a section: tested, and not the same.
-pub fn take_two<'a>(at: Held, file: &'a [u32], buffer: &'a [u32], w: Path) -> Grants
-    requires { Fitting at.desc file.now buffer.now }
-    ensures { as_grants result ≡ take_two (at_entry at.desc at.current file.now buffer.now) at.flag w }
+pub fn take_two(v: Seen, flag: bool, w: Path) -> Result<Pair, Refusal>
+    ensures { checked result ≡ take_two (texts v.entry) flag w }
 {
-    let head = words::word_at(file, 1);
-    let Grant::Got(d) = take_block(at.desc, at.current, file, buffer, head, file[2]) else {
-        return Grants::Bad;
-    };
-    let Grant::Got(x) = take_block(at.desc, at.current, file, buffer, d.head, d.lowest) else {
-        return Grants::Bad;
-    };
-    if is_short(at, file, buffer, d.block, x.block) {
-        return Grants::Got(Pair {
+    let head = words::word_at(v.file, 1);
+    let d = take_block(v, head, v.file[2])?;
+    let x = take_block(v, d.head, d.lowest)?;
+    if is_short(v, d.block, x.block) {
+        return Ok(Pair {
             detail: 0,
             index: x,
         });
     }
-    if !are_new(at, w, d.block, x.block) {
-        return Grants::Bad;
-    }
-    Grants::Got(Pair {
+    require(is_new(v.current, flag, w, d.block), Refusal::BadFile)?;
+    require(is_new(v.current, flag, w, x.block), Refusal::BadFile)?;
+    require(x.block != d.block, Refusal::BadFile)?;
+    Ok(Pair {
         detail: d.block,
         index: x,
     })
 }
 
 // The number once a record is stored in a block that then holds n, with these words 1 and 2 of the master.
-pub fn stored(p: Description, n: usize, head: usize, lowest: u32) -> Number
+pub fn stored(p: Description, n: usize, head: usize, lowest: u32) -> Result<u32, Refusal>
     requires { good_params p ≡ true }
-    ensures { as_number result ≡ stored_number p n head lowest }
+    ensures { checked result ≡ stored_number p n head lowest }
 {
-    let blocks = p.n;
     if n != p.d() {
-        return Number::Is(0);
+        return Ok(DONE);
     }
-    if blocks < head {
-        return Number::Bad;
+    if none_left(p, head, lowest)? {
+        return Ok(NONE_FREE);
     }
-    if head != 0 {
-        return Number::Is(0);
-    }
-    let low = wide(lowest);
-    if low < 1 {
-        return Number::Bad;
-    }
-    if blocks + 1 < low {
-        return Number::Bad;
-    }
-    if blocks < low {
-        return Number::Is(NONE_FREE);
-    }
-    Number::Is(0)
+    Ok(DONE)
 }

@@ -1,6 +1,7 @@
 // The file and the buffer made ready for new blocks.
 ghost use Rattle.std.specs.Prelude.{◌≡◌, length};
-ghost use Rattle.drum.specs.Blocks.{Fitting, seen, at_entry};
+ghost use Rattle.drum.specs.Blocks.{Fitting};
+ghost use Rattle.acts.specs.Reach.{seen_by};
 ghost use Rattle.rules.specs.Lookup.{reached, text_at};
 ghost use Rattle.free.specs.Readied.{ReadyFits, ready_file};
 
@@ -10,16 +11,14 @@ use rules::{Held, Path, Taken, Way};
 // 1 and 2 of the master set. Counts the transfers of the way.
 pub fn prepare(at: Held, file: &mut [u32], buffer: &mut [u32], way: Way, w: Path, d: Taken) -> usize
     requires { Fitting at.desc file.old buffer.old
-        × ReadyFits (seen at.desc at.current file.old buffer.old) at.flag way w d }
-    ensures { (result ≡ length (reached (at_entry at.desc at.current file.old buffer.old) at.flag way).moves)
-        × (file.new ≡ ready_file (at_entry at.desc at.current file.old buffer.old) at.flag way w d)
-        × (buffer.new ≡ text_at (at_entry at.desc at.current file.old buffer.old) way) }
+        × ReadyFits (seen_by at file.old buffer.old) at.flag way w d }
+    ensures { (result ≡ length (reached (seen_by at file.old buffer.old) at.flag way).moves)
+        × (file.new ≡ ready_file (seen_by at file.old buffer.old) at.flag way w d)
+        × (buffer.new ≡ text_at (seen_by at file.old buffer.old) way) }
 {
-    let p = at.desc;
-    let current = at.current;
     let moved = acts::follow(at, file, buffer, way);
-    acts::stage(p, current, file, buffer, w.index);
-    acts::load(p, current, file, buffer, w.detail);
+    acts::stage(at, file, buffer, w.index);
+    acts::load(at, file, buffer, w.detail);
     acts::set_free(file, d.head, d.lowest);
     moved
 }

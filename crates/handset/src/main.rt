@@ -1,12 +1,13 @@
 // A finished list read on a handset: the list is made by XTEND, read by the reading set's calls, and other files are offered to it.
 #![tactic(auto)]
 
-mod said;
+mod shown;
 
 use drum::Description;
 use reading::ReadingSession;
-use said::{made, opened, print_line, told};
+use said::{Row, told as made};
 use searchfile::Session;
+use shown::{opened, told};
 use std::io;
 
 fn description() -> Description {
@@ -21,13 +22,8 @@ fn description() -> Description {
 // A new file, open.
 fn begun(out: &impl Print, file: &mut [u32; 54], buffer: &[u32; 8]) -> io::Result<Session> {
     let mut marks = [0u8; 6];
-    let s = made(
-        out,
-        b"CREATE",
-        &[],
-        Session::new(description()).create(file),
-    )?;
-    made(out, b"OPEN", &[], s.open_file(file, buffer, &mut marks))
+    let s = made(out, "CREATE", &[], Session::new(description()).create(file))?;
+    made(out, "OPEN", &[], s.open_file(file, buffer, &mut marks))
 }
 
 fn xtend(
@@ -39,7 +35,7 @@ fn xtend(
     data: u32,
 ) -> io::Result<Session> {
     let work = [key, data, data];
-    made(out, b"XTEND", &[key], s.xtend(file, buffer, &work))
+    made(out, "XTEND", &[key], s.xtend(file, buffer, &work))
 }
 
 fn nsert(
@@ -50,7 +46,7 @@ fn nsert(
     key: u32,
 ) -> io::Result<Session> {
     let work = [key, 0, 0];
-    made(out, b"NSERT", &[key], s.nsert(file, buffer, &work))
+    made(out, "NSERT", &[key], s.nsert(file, buffer, &work))
 }
 
 fn dlete(
@@ -61,11 +57,11 @@ fn dlete(
     key: u32,
 ) -> io::Result<Session> {
     let work = [key, 0, 0];
-    made(out, b"DLETE", &[key], s.dlete(file, buffer, &work))
+    made(out, "DLETE", &[key], s.dlete(file, buffer, &work))
 }
 
 fn closed(out: &impl Print, s: Session, file: &mut [u32; 54], buffer: &[u32; 8]) -> io::Result<()> {
-    made(out, b"CLOSE", &[], s.close(file, buffer))?;
+    made(out, "CLOSE", &[], s.close(file, buffer))?;
     Ok(())
 }
 
@@ -80,7 +76,7 @@ fn extended(out: &impl Print, file: &mut [u32; 54]) -> io::Result<()> {
     s = xtend(out, s, file, &mut buffer, 50, 5)?;
     s = xtend(out, s, file, &mut buffer, 60, 6)?;
     closed(out, s, file, &buffer)?;
-    print_line(out, b"  file", file)
+    println!(out; "  file{}", Row(file))
 }
 
 fn seek(
@@ -93,7 +89,7 @@ fn seek(
 ) -> io::Result<ReadingSession> {
     work[0] = key;
     let answer = s.seek(file, buffer, work);
-    told(out, b"SEEK", &[key], answer, work)
+    told(out, "SEEK", &[key], answer, work)
 }
 
 fn adv(
@@ -104,7 +100,7 @@ fn adv(
     work: &mut [u32; 3],
 ) -> io::Result<ReadingSession> {
     let answer = s.adv(file, buffer, work);
-    told(out, b"ADV", &[], answer, work)
+    told(out, "ADV", &[], answer, work)
 }
 
 fn open(
@@ -146,22 +142,22 @@ fn refused(
 ) -> io::Result<()> {
     let mut s = told(
         out,
-        b"NSERT",
+        "NSERT",
         &[25],
         start.nsert(file, buffer, &[25, 0, 0]),
         work,
     )?;
     s = told(
         out,
-        b"DLETE",
+        "DLETE",
         &[262143],
         s.dlete(file, buffer, &[262143, 0, 0]),
         work,
     )?;
-    s = told(out, b"CLOSE", &[], s.close(file, buffer), work)?;
+    s = told(out, "CLOSE", &[], s.close(file, buffer), work)?;
     told(
         out,
-        b"XTEND",
+        "XTEND",
         &[70],
         s.xtend(file, buffer, &[70, 0, 0]),
         work,
@@ -194,7 +190,7 @@ fn offered(
     buffer: &[u32; 8],
 ) -> io::Result<()> {
     let mut marks = [9u8; 6];
-    made(out, b"CLOSE", &[], s.close(file, buffer))?;
+    made(out, "CLOSE", &[], s.close(file, buffer))?;
     opened(
         out,
         ReadingSession::new(description()).open(file, buffer, &mut marks),

@@ -6,9 +6,10 @@ use Prim.Native.Nat.{ℕ, ◌+◌, ◌*◌, ◌-◌, ◌≤◌, ◌<◌}
 use native.Mathlib.Omega.{arith}
 use lib.ListN.{length, take, drop, set, replicate, length-set, length-append, length-replicate, replicate-append-replicate}
 use lib.Seq.{take_at, drop-append-add}
-use Rattle.words.specs.Words.{put, top_word, zeros}
+use borrow.Rule.Slice.PartMut.{put_mid, mid_of}
+use Rattle.words.specs.Words.{part, put, top_word, zeros}
 use Rattle.words.specs.Keys.{ones}
-use Rattle.words.proofs.Parts.{put-snoc, put_all, put-after, set-put, drop-zeros}
+use Rattle.words.proofs.Parts.{length_part, mid-put, put-snoc, put_all, put-after, set-put, drop-zeros}
 use Rattle.table.specs.Tables.{laid}
 use Rattle.table.proofs.Places.{row_lt}
 use Rattle.drum.specs.declared.Description.{Description}
@@ -17,17 +18,14 @@ use Rattle.drum.proofs.Good.{caps}
 use Rattle.drum.proofs.Forms.{tag-most}
 use Rattle.layout.specs.Create.{end_record, created, master_on, index_on, detail_on}
 
--- a turn of the loop that writes ONES, and the block behind them
-pub ones-turn : (t t₀ : List ℕ) (at i k : ℕ) → t ≡ put t₀ at (ones i) → at + k ≤ length t₀ → i < k → set t (at + i) top_word ≡ put t₀ at (ones (i + 1))
-ones-turn t t₀ at i k e h l =
-    let n : length (ones i) ≡ i = length-replicate i top_word in
-    let p : at + length (ones i) < length t₀ = omega arith in
-    rw (e, ← replicate-append-replicate {A = ℕ} i 1 top_word) (rw n at (put-snoc t₀ at (ones i) top_word p))
-
-pub ones-done : (t t₀ : List ℕ) (at k i : ℕ) → t ≡ put t₀ at (ones i) → i ≤ k → k ≤ i → t ≡ put t₀ at (ones k)
-ones-done t t₀ at k i e h l =
-    let n : i ≡ k = omega arith in
-    rw n at e
+-- k words filled with ONES, and the block behind them
+pub ones-laid : (t r : List ℕ) (at k : ℕ) → r ≡ replicate (length (mid_of at (at + k - at) t)) top_word → at + k ≤ length t → put_mid at (at + k - at) t r ≡ put t at (ones k)
+unfolding part
+ones-laid t r at k e h =
+    let m : at + k - at ≡ k = omega arith in
+    let l : length (part at k t) ≡ k = length_part at k t h in
+    let p : r ≡ ones k = rw (m, l) at e in
+    rw (m, p) (mid-put at k t (ones k) (length-replicate k top_word))
 
 pub entry-turn : (t t₀ : List ℕ) (at k b : ℕ) → t ≡ put t₀ at (ones k) → at + k + 1 ≤ length t₀ → set t (at + k) b ≡ put t₀ at (ones k ++ (b ∷ []))
 entry-turn t t₀ at k b e h =

@@ -1,6 +1,5 @@
 -- Where rows, the master and the blocks of a file that fits lie.
 use mathlib.Core.Path.{◌≡◌, ap, ◌∙◌}
-use mathlib.Core.Bool.{Bool, false, not}
 use mathlib.Core.List.{List}
 use Prim.Native.Nat.{ℕ, ◌+◌, ◌*◌, ◌-◌, ◌^◌, ◌≤◌, ◌<◌}
 use native.Mathlib.Omega.{arith}
@@ -14,8 +13,9 @@ use Rattle.words.specs.Words.{part}
 use Rattle.drum.specs.Blocks.{block_at}
 use Rattle.drum.proofs.Good.{caps, size-good}
 use Rattle.drum.proofs.Blocks.{block_within, length-block}
+use Rattle.numbers.specs.Checked.{passed}
 use Rattle.layout.specs.Inspect.{marked}
-use Rattle.layout.specs.Inspected.{flagged, Fit}
+use Rattle.layout.specs.Inspected.{Fit}
 use Rattle.layout.proofs.CodeMarks.{marked-in}
 
 -- one row of n
@@ -24,55 +24,23 @@ row-less n s h =
     let e : n ≡ n - 1 + 1 = omega arith in
     ap (λ (i : ℕ). i * s) e ∙ row_next (n - 1) s
 
--- n rows from place a on, before place z: the first with its key, those after it, and the last
+-- row i of n is one of them
+pub nth-row : (i n s : ℕ) → i < n → i * s + s ≤ n * s
+nth-row i n s h =
+    let l = row-le (i + 1) n s (omega arith) in
+    omega (arith, row_next i s)
+
+-- n rows from place a on, before place z: the last of them
 module _ (a n stride z : ℕ) (inside : a + n * stride ≤ z) (some : 0 < n) where
-  pub row_inside : a + stride ≤ z
-  row_inside = omega (arith, row-less n stride some)
-
-  pub row-key : (k : ℕ) → k ≤ stride → a + k ≤ z
-  row-key k h = omega (arith, row-less n stride some)
-
-  pub row-rest : a + stride + (n - 1) * stride ≤ z
-  row-rest = omega (arith, row-less n stride some)
-
   pub row_last : a + (n - 1) * stride + stride ≤ z
   row_last = omega (arith, row-less n stride some)
 
   module _ (short : z * 4 < 2 ^ 63) where
-    pub row_fits : Fits w64 (a + stride)
-    row_fits = let h = row_inside in omega arith
-
     pub last-span : Fits w64 ((n - 1) * stride)
     last-span = let h = row_last in omega arith
 
     pub last-place : Fits w64 (a + (n - 1) * stride)
     last-place = let h = row_last in omega arith
-
--- the key that an entry begins with
-pub entry_key : (a n k z : ℕ) → a + n * (k + 1) ≤ z → 0 < n → a + k ≤ z
-entry_key a n k z inside some = row-key a n (k + 1) z inside some k (omega arith)
-
--- n rows of a block that has room for `most`, and the words behind them: the block of w words at place s, before place z
-module _ (n most stride w s z : ℕ) (room : 1 + most * stride ≤ w) (few : n ≤ most) where
-  pub used-most : 1 + n * stride ≤ w
-  used-most = omega (arith, row-le n most stride few)
-
-  module _ (inside : s + w ≤ z) where
-    pub used-inside : s + (1 + n * stride) ≤ z
-    used-inside = let h = used-most in omega arith
-
-    pub used-rest : s + (1 + n * stride) + (w - (1 + n * stride)) ≤ z
-    used-rest = let h = used-most in omega arith
-
-    module _ (short : z * 4 < 2 ^ 63) where
-      pub used-span : Fits w64 (n * stride)
-      used-span = let h = used-inside in omega arith
-
-      pub used-words : Fits w64 (1 + n * stride)
-      used-words = let h = used-inside in omega arith
-
-      pub used-end : Fits w64 (s + (1 + n * stride))
-      used-end = let h = used-inside in omega arith
 
 -- what good parameters say of the file, of a block's words, of a key and of counts
 module _ (p : Description) (f : List ℕ) (w : Fit p f) where
@@ -158,9 +126,9 @@ module _ (p : Description) (f : List ℕ) (n : ℕ) (w : Fit p f) (some : 1 ≤ 
     behind-inside = omega (arith, entries-in, size-good p (master_size p) m e w.good)
 
 -- a block that was marked is one of the file's
-module _ (p : Description) (b m : ℕ) (ms ms' : List ℕ) (t : Bool) (q : marked m b ms ≡ flagged t ms') (y : not t ≡ false) (l : length ms ≡ p.n) where
+module _ (p : Description) (b m : ℕ) (ms ms' : List ℕ) (q : marked m b ms ≡ passed ms') (l : length ms ≡ p.n) where
   pub block-least : 1 ≤ b
-  block-least = (marked-in m b ms t ms' p.n q y l).0
+  block-least = (marked-in m b ms ms' p.n q l).0
 
   pub block-most : b ≤ p.n
-  block-most = (marked-in m b ms t ms' p.n q y l).1
+  block-most = (marked-in m b ms ms' p.n q l).1

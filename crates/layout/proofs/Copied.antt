@@ -11,7 +11,7 @@ use Rattle.words.proofs.Parts.{length_part, part-all, part-append-low, part-appe
 use Rattle.words.proofs.All.{append-all_words, all_words-part, all_words-drop, all_words-replicate}
 use Rattle.drum.specs.declared.Description.{Description}
 use Rattle.drum.specs.Params.{D, I, master_size, file_size, start, good_params, tag_of, index_shape, detail_shape}
-use Rattle.drum.specs.Blocks.{sections, block_at, link_place, free_text}
+use Rattle.drum.specs.Blocks.{block_at, link_place, free_text}
 use Rattle.layout.specs.Create.{end_record}
 use Rattle.layout.specs.Tree.{Leaf, Section, Tree, head_of, leaves_of}
 use Rattle.layout.specs.Holds.{All, LeavesOk, IndexIn, DetailIn, ChainIn, Holds, master_entries, master_text}

@@ -11,7 +11,7 @@ use lib.ListN.{length, get_or, set, length-set}
 use lib.Seq.{get_or-set_same, get_or-set_other}
 use borrow.Author.Tests.{leb-true, le-leb, eqb-true, eqb-false, eq-eqb, ne_eqb}
 use Rattle.words.specs.Words.{zeros}
-use Rattle.numbers.specs.Checked.{Checked, passed, refused, ◌>>=◌, ◌>>◌}
+use Rattle.numbers.specs.Checked.{Checked, passed, refused, ◌>>=◌}
 use Rattle.layout.specs.Inspect.{marked}
 use Rattle.layout.specs.Tree.{times}
 use Rattle.layout.specs.Holds.{All, OneTo}

@@ -1,6 +1,6 @@
--- How the inspector's functions answer: a flag with the marks it leaves, or a number that is not 0, for what a step of the definition gives.
-use Rattle.std.specs.Prelude.{ℕ, zero, suc, ◌+◌, ◌≤◌, ◌≡◌, Bool, true, false, List, length}
-use Rattle.table.specs.declared.Shape.{Shape}
+-- How the inspector's functions answer, for what a step of the definition gives.
+use Rattle.std.specs.Prelude.{ℕ, ◌+◌, ◌*◌, ◌≤◌, ◌≡◌, Bool, true, false, Result, Ok, Err, List, length}
+use Rattle.numbers.specs.declared.Refusal.{Refusal}
 use Rattle.drum.specs.declared.Description.{Description}
 use Rattle.words.specs.Words.{zeros}
 use Rattle.numbers.specs.Numbers.{bad_file}
@@ -13,14 +13,15 @@ abbrev pub flagged : Bool → List ℕ → Checked (List ℕ)
 flagged true ms = passed ms
 flagged false ms = refused bad_file
 
--- a count, or 0
-abbrev pub counted : ℕ → Checked ℕ
-counted zero = refused bad_file
-counted (suc n) = passed (suc n)
+-- what a function of the walk finds; whatever it refuses, the file is bad
+abbrev pub found : {A : Type 0} → Result A Refusal → Checked A
+found (Ok a) = passed a
+found (Err r) = refused bad_file
 
--- the table behind word 0 of a block: rows of `stride` words, each with a key, counted with this tag
-abbrev pub rows_of : Description → ℕ → ℕ → Shape
-rows_of p stride tag = record { base = 1; stride = stride; width = p.k; tag = tag }
+-- and of one that marks: Ok, and the marks left are those of the step; else they mean nothing
+abbrev pub stepped : Result (Unit {0}) Refusal → List ℕ → Checked (List ℕ)
+stepped (Ok _) ms = passed ms
+stepped (Err r) ms = refused bad_file
 
 -- good parameters, and the file's length
 pub record Fit (p : Description) (f : List ℕ) : Type 0 where
@@ -38,3 +39,7 @@ pub record Ranged (p : Description) (f : List ℕ) : Type 0 where
 unfoldable pub left_marks : ℕ → Checked (List ℕ) → List ℕ
 left_marks n (refused m) = zeros n
 left_marks n (passed ms) = ms
+
+-- a key at this place lies wherever the one at `low` and the n rows from place e on do
+abbrev pub Lies : ℕ → ℕ → ℕ → ℕ → ℕ → Type 0
+Lies low e stride n place = (k z : ℕ) → k ≤ stride → low + k ≤ z → e + n * stride ≤ z → place + k ≤ z

@@ -11,13 +11,14 @@ ghost use Rattle.words.specs.Keys.{ones};
 ghost use Rattle.drum.specs.Params.{good_params, file_size, tag_of, index_kind, detail_kind};
 ghost use Rattle.layout.specs.Create.{created, master_on, index_on, detail_on};
 ghost use Rattle.layout.specs.Inspect.{rest_ok, master_ok, walked, layout_marks};
-ghost use Rattle.layout.specs.Inspected.{flagged, Fit, Ranged, left_marks};
+ghost use Rattle.layout.specs.Inspected.{flagged, stepped, Fit, Ranged, left_marks};
 
 pub use blocks::block_of;
 use blocks::{chain_held, sections_held};
 use drum::Description;
 pub use marking::clear;
 use marking::{all_set, none_set};
+use numbers::{Refusal, require, within};
 use rows::last_row;
 
 // Whether the file is as under Layout; the marks if so, and all 0 if not.
@@ -27,58 +28,40 @@ pub fn inspect(p: Description, f: &[u32], marks: &mut [u8]) -> bool
     ensures { (layout_marks p f.now ≡ flagged result marks.new) × (marks.new ≡ left_marks p.n (layout_marks p f.now)) }
 {
     clear(marks);
-    if walk(p, f, marks) {
-        return true;
+    match walk(p, f, marks) {
+        Ok(()) => true,
+        Err(_) => {
+            clear(marks);
+            false
+        }
     }
-    clear(marks);
-    false
 }
 
 // The whole walk, on marks that are all 0: first that no word is too large, and the master's numbers.
-fn walk(p: Description, f: &[u32], marks: &mut [u8]) -> bool
+fn walk(p: Description, f: &[u32], marks: &mut [u8]) -> Result<(), Refusal>
     requires fit { Fit p f.now }
     requires marks_value { marks.old ≡ zeros p.n }
-    ensures { layout_marks p f.now ≡ flagged result marks.new }
+    ensures { layout_marks p f.now ≡ stepped result marks.new }
 {
-    if !words::all_words(f, 0, f.len()) {
-        return false;
-    }
-    let n = words::word_at(f, 0);
-    let lowest = words::word_at(f, 2);
-    if n < 1 {
-        return false;
-    }
-    if p.control < n {
-        return false;
-    }
-    if lowest < 1 {
-        return false;
-    }
-    if p.n + 1 < lowest {
-        return false;
-    }
+    require(words::all_words(f, 0, f.len()), Refusal::BadFile)?;
+    within(1, p.control, words::word_at(f, 0))?;
+    within(1, p.n + 1, words::word_at(f, 2))?;
     walk_on(p, f, marks)
 }
 
 // The walk itself: master, sections, chain and rest.
-fn walk_on(p: Description, f: &[u32], marks: &mut [u8]) -> bool
+fn walk_on(p: Description, f: &[u32], marks: &mut [u8]) -> Result<(), Refusal>
     requires fit { Fit p f.now × Ranged p f.now }
     requires marks_value { marks.old ≡ zeros p.n }
-    ensures { walked p f.now ≡ flagged result marks.new }
+    ensures { walked p f.now ≡ stepped result marks.new }
 {
     let n = words::word_at(f, 0);
     let head = words::word_at(f, 1);
     let lowest = words::word_at(f, 2);
-    if !master_ok(p, f, n) {
-        return false;
-    }
-    if !sections_held(p, f, n, marks) {
-        return false;
-    }
-    if !chain_held(p, f, head, marks) {
-        return false;
-    }
-    rest_ok(p, f, lowest, marks)
+    require(master_ok(p, f, n), Refusal::BadFile)?;
+    sections_held(p, f, n, marks)?;
+    chain_held(p, f, head, marks)?;
+    require(rest_ok(p, f, lowest, marks), Refusal::BadFile)
 }
 
 // Whether the master's words behind its n entries are 0, and the last bound is ONES.
@@ -90,10 +73,8 @@ fn master_ok(p: Description, f: &[u32], n: usize) -> bool
     let k = p.k;
     let m = p.master_size();
     let behind = 3 + n * (k + 1);
-    if !words::all_are(f, behind, m - behind, 0) {
-        return false;
-    }
-    words::all_are(f, last_row(f, 3, k + 1, n), k, 262143)
+    words::all_are(f, behind, m - behind, 0)
+        && words::all_are(f, last_row(f, 3, k + 1, n), k, 262143)
 }
 
 // Whether each block below `lowest` is marked, and the others are not and all 0.
@@ -102,14 +83,10 @@ fn rest_ok(p: Description, f: &[u32], lowest: usize, marks: &[u8]) -> bool
     requires marks_len { (length marks.now ≡ p.n) × (1 ≤ lowest) × (lowest ≤ p.n + 1) }
     ensures { result ≡ rest_ok p f.now lowest marks.now }
 {
-    if !all_set(marks, lowest - 1) {
-        return false;
-    }
-    if !none_set(marks, lowest - 1) {
-        return false;
-    }
     let s = p.start(lowest);
-    words::all_are(f, s, f.len() - s, 0)
+    all_set(&marks[..lowest - 1])
+        && none_set(&marks[lowest - 1..])
+        && words::all_are(f, s, f.len() - s, 0)
 }
 
 // Writes the words of a new file, every one of them.
@@ -177,9 +154,5 @@ fn lay_ones(t: &mut [u32], at: usize, k: usize)
     requires { at + k ≤ length t.old }
     ensures { t.new ≡ put t.old at (ones k) }
 {
-    let mut i = 0;
-    while i < k {
-        t[at + i] = 262143;
-        i += 1;
-    }
+    t[at..at + k].fill(262143);
 }

@@ -1,62 +1,38 @@
 // The marks: one for each block, 0 before the walk comes to it.
-ghost use Rattle.std.specs.Prelude.{◌≡◌, ◌≤◌, length, take, drop};
+ghost use Rattle.std.specs.Prelude.{◌≡◌, length};
 ghost use Rattle.words.specs.Words.{zeros, all_are, none_is};
 ghost use Rattle.layout.specs.Inspect.{marked};
-ghost use Rattle.layout.specs.Inspected.{flagged};
+ghost use Rattle.layout.specs.Inspected.{stepped};
 
-// Marks block b with m, if it had no mark.
-pub fn mark(m: u8, b: usize, marks: &mut [u8]) -> bool
-    ensures { marked m b marks.old ≡ flagged result marks.new }
+use numbers::{Refusal, require, within};
+
+// Marks block b with m, if it is one of the file's and had no mark.
+pub fn mark(m: u8, b: usize, marks: &mut [u8]) -> Result<(), Refusal>
+    ensures { marked m b marks.old ≡ stepped result marks.new }
 {
-    if b < 1 {
-        return false;
-    }
-    if marks.len() < b {
-        return false;
-    }
-    if marks[b - 1] != 0 {
-        return false;
-    }
+    within(1, marks.len(), b)?;
+    require(marks[b - 1] == 0, Refusal::BadFile)?;
     marks[b - 1] = m;
-    true
+    Ok(())
 }
 
-// Whether the first n marks are all set.
-pub fn all_set(marks: &[u8], n: usize) -> bool
-    requires { n ≤ length marks.now }
-    ensures { result ≡ none_is 0 (take n marks.now) }
+// Whether these marks are all set.
+pub fn all_set(marks: &[u8]) -> bool
+    ensures { result ≡ none_is 0 marks.now }
 {
-    let mut i = 0;
-    while i < n {
-        if marks[i] == 0 {
-            return false;
-        }
-        i += 1;
-    }
-    true
+    marks.iter().all(|m| *m != 0)
 }
 
-// Whether the marks from place a on are all 0.
-pub fn none_set(marks: &[u8], a: usize) -> bool
-    ensures { result ≡ all_are 0 (drop a marks.now) }
+// Whether these marks are all 0.
+pub fn none_set(marks: &[u8]) -> bool
+    ensures { result ≡ all_are 0 marks.now }
 {
-    let mut i = a;
-    while i < marks.len() {
-        if marks[i] != 0 {
-            return false;
-        }
-        i += 1;
-    }
-    true
+    marks.iter().all(|m| *m == 0)
 }
 
 // Puts 0 in every mark.
 pub fn clear(marks: &mut [u8])
     ensures { marks.new ≡ zeros (length marks.old) }
 {
-    let mut i = 0;
-    while i < marks.len() {
-        marks[i] = 0;
-        i += 1;
-    }
+    marks.fill(0);
 }

@@ -4,7 +4,7 @@ use native.Mathlib.Omega.{arith}
 use mathlib.Core.Path.{◌≡◌, refl, sym, ap, ◌∙◌}
 use mathlib.Core.Bool.{Bool, true, false, cond, ◌&&◌}
 use mathlib.Core.List.{List, [], ◌∷◌}
-use mathlib.Core.Option.{Option, none, some}
+use Rattle.std.proofs.Common.{Option, None, Some}
 use lib.Dec.{ltb, eqb}
 use lib.ListN.{length}
 use borrow.Author.Tests.{eqb-true, ne_eqb}
@@ -66,11 +66,11 @@ carries-room p n h g (Xtend at) = g
 
 -- the same test and, where it holds, the same numbers
 agree-call : (p : Description) (c : Call) (x y : Bool) (v numbers : List ℕ) → x ≡ y → (x ≡ true → v ≡ part 0 (carries p c) numbers)
-    → cond x (a_call c v) no_call ≡ parsed_as p (cond y (some c) none) numbers
+    → cond x (a_call c v) no_call ≡ parsed_as p (cond y (Some c) None) numbers
 unfolding parsed_as
-agree-call p c x y v numbers e h = go x h ∙ ap (λ (t : Bool). parsed_as p (cond t (some c) none) numbers) e
+agree-call p c x y v numbers e h = go x h ∙ ap (λ (t : Bool). parsed_as p (cond t (Some c) None) numbers) e
   where
-    go : (t : Bool) → (t ≡ true → v ≡ part 0 (carries p c) numbers) → cond t (a_call c v) no_call ≡ parsed_as p (cond t (some c) none) numbers
+    go : (t : Bool) → (t ≡ true → v ≡ part 0 (carries p c) numbers) → cond t (a_call c v) no_call ≡ parsed_as p (cond t (Some c) None) numbers
     go true k = ap (a_call c) (k refl)
     go false k = refl
 
@@ -78,7 +78,7 @@ module _ (p : Description) (c : Call) (s : Read) (ws : List (List ℕ)) (o : s.r
   abbrev S : Read
   S = words_read s ws
 
-  behind-name : Tally s ws → cond (all_numbers ws && eqb (length ws) (carries p c)) (a_call c (values ws)) no_call ≡ parsed_as p (call_in p S.reading (some c)) S.numbers
+  behind-name : Tally s ws → cond (all_numbers ws && eqb (length ws) (carries p c)) (a_call c (values ws)) no_call ≡ parsed_as p (call_in p S.reading (Some c)) S.numbers
   unfolding call_in
   behind-name (all a l q m v) = agree-call p c _ _ _ _ same stored
     where
@@ -103,9 +103,9 @@ module _ (p : Description) (c : Call) (s : Read) (ws : List (List ℕ)) (o : s.r
 
 module _ (p : Description) (name numbers : List ℕ) (room : 7 ≤ length name) (key : p.k ≤ length numbers) (record-room : p.wpr ≤ length numbers) where
   -- a first word that names the call c
-  words-kind : (c : Call) (b : ℕ) (w : List ℕ) (ws : List (List ℕ)) → Full ws → named (b ∷ w) ≡ some c
-      → with_numbers p (some c) ws
-      ≡ parsed_as p (call_in p (words_read (start name numbers) ((b ∷ w) ∷ ws)).reading (some c)) (words_read (start name numbers) ((b ∷ w) ∷ ws)).numbers
+  words-kind : (c : Call) (b : ℕ) (w : List ℕ) (ws : List (List ℕ)) → Full ws → named (b ∷ w) ≡ Some c
+      → with_numbers p (Some c) ws
+      ≡ parsed_as p (call_in p (words_read (start name numbers) ((b ∷ w) ∷ ws)).reading (Some c)) (words_read (start name numbers) ((b ∷ w) ∷ ws)).numbers
   unfolding with_numbers resting
   words-kind c b w ws f h = behind-name p c s ws o n fits (tally s ws (rested-quiet (letters (start name numbers) (b ∷ w))) f (omega (arith, o)) (omega (arith, n)))
     where
@@ -136,8 +136,8 @@ module _ (p : Description) (name numbers : List ℕ) (room : 7 ≤ length name) 
       S = words_read (start name numbers) ((b ∷ w) ∷ ws)
 
       go : (x : Option Call) → named (b ∷ w) ≡ x → with_numbers p x ws ≡ parsed_as p (call_in p S.reading x) S.numbers
-      go none h = refl
-      go (some c) h = words-kind c b w ws f h
+      go None h = refl
+      go (Some c) h = words-kind c b w ws f h
 
   pub line-call : (l : List ℕ)
       → parse p l
@@ -166,11 +166,11 @@ described-put l v e h =
     }
 
 agree-described : (x y : Bool) (v l : List ℕ) → x ≡ y → (x ≡ true → described v ≡ described l)
-    → cond x (some (described v)) none ≡ cond y (some (described l)) none
-agree-described x y v l e h = go x h ∙ ap (λ (t : Bool). cond t (some (described l)) none) e
+    → cond x (Some (described v)) None ≡ cond y (Some (described l)) None
+agree-described x y v l e h = go x h ∙ ap (λ (t : Bool). cond t (Some (described l)) None) e
   where
-    go : (t : Bool) → (t ≡ true → described v ≡ described l) → cond t (some (described v)) none ≡ cond t (some (described l)) none
-    go true k = ap some (k refl)
+    go : (t : Bool) → (t ≡ true → described v ≡ described l) → cond t (Some (described v)) None ≡ cond t (Some (described l)) None
+    go true k = ap Some (k refl)
     go false k = refl
 
 module _ (name numbers : List ℕ) (room : 6 ≤ length numbers) where

@@ -5,7 +5,7 @@ use native.Mathlib.Omega.{arith}
 use mathlib.Core.Path.{◌≡◌, refl, ap, ◌∙◌}
 use mathlib.Core.Bool.{Bool, true, false, cond, ◌&&◌}
 use mathlib.Core.List.{List, [], ◌∷◌}
-use mathlib.Core.Option.{Option, none, some}
+use Rattle.std.proofs.Common.{Option, None, Some}
 use lib.Dec.{eqb}
 use lib.ListN.{length, take}
 use Rattle.words.specs.Keys.{same_key}
@@ -14,20 +14,8 @@ use Rattle.rules.specs.declared.Call.{Call}
 use Rattle.rules.specs.declared.Call.TheVariants.{Create, Open, Close, Seek, Adv, Nsert, Dlete, Updat, Xtend}
 use Rattle.texts.specs.Texts.{bytes}
 use Rattle.texts.specs.Results.{spelling}
+use Rattle.texts.proofs.Names.{spelling-short}
 use Rattle.lines.specs.Lines.{is_digit, all_digits, is_number, kinds, named_in, named}
-
--- all names are shorter than seven bytes
-spelling-short : (c : Call) → length (spelling c) < 7
-unfolding spelling bytes
-spelling-short Create = omega arith
-spelling-short Open = omega arith
-spelling-short Close = omega arith
-spelling-short (Seek at) = omega arith
-spelling-short Adv = omega arith
-spelling-short (Nsert at) = omega arith
-spelling-short (Dlete at) = omega arith
-spelling-short (Updat at) = omega arith
-spelling-short (Xtend at) = omega arith
 
 -- none begins with a digit
 spelling-other : (c : Call) → is_number (spelling c) ≡ false
@@ -56,32 +44,32 @@ named-take-in n w h [] = refl
 named-take-in n w h (c ∷ cs) =
     let k = spelling-short c in
     let e : same_key (take n w) (spelling c) ≡ same_key w (spelling c) = same-take n w (spelling c) (omega arith) in
-    ap (λ (t : Bool). cond t (some c) (named_in cs (take n w))) e
-    ∙ ap (λ (r : Option Call). cond (same_key w (spelling c)) (some c) r) (named-take-in n w h cs)
+    ap (λ (t : Bool). cond t (Some c) (named_in cs (take n w))) e
+    ∙ ap (λ (r : Option Call). cond (same_key w (spelling c)) (Some c) r) (named-take-in n w h cs)
 
 pub named-take : (n : ℕ) (w : List ℕ) → 7 ≤ n → named (take n w) ≡ named w
 unfolding named
 named-take n w h = named-take-in n w h kinds
 
-pub named_none : named [] ≡ none
+pub named_none : named [] ≡ None
 unfolding named named_in kinds same_key spelling bytes
 named_none = refl
 
 -- a word that names a call is its name
-named-spelled : (cs : List Call) (w : List ℕ) (c : Call) → named_in cs w ≡ some c → w ≡ spelling c
+named-spelled : (cs : List Call) (w : List ℕ) (c : Call) → named_in cs w ≡ Some c → w ≡ spelling c
 unfolding named_in
 named-spelled [] w c h = absurd (none-some h)
   where
-    none-some : ◌≡◌ {A = Option Call} none (some c) → ⊥
+    none-some : ◌≡◌ {A = Option Call} None (Some c) → ⊥
     none-some e = let n : ◌≡◌ {A = ℕ} 0 1 = cc in omega arith
 named-spelled (d ∷ cs) w c h = go (same_key w (spelling d)) refl h (named-spelled cs w c)
   where
-    go : (t : Bool) → same_key w (spelling d) ≡ t → cond t (some d) (named_in cs w) ≡ some c → (named_in cs w ≡ some c → w ≡ spelling c) → w ≡ spelling c
+    go : (t : Bool) → same_key w (spelling d) ≡ t → cond t (Some d) (named_in cs w) ≡ Some c → (named_in cs w ≡ Some c → w ≡ spelling c) → w ≡ spelling c
     go true e k r =
         let f : d ≡ c = cc in
         same_key-true w (spelling d) e ∙ ap spelling f
     go false e k r = r k
 
-pub named_other : (w : List ℕ) (c : Call) → named w ≡ some c → is_number w ≡ false
+pub named_other : (w : List ℕ) (c : Call) → named w ≡ Some c → is_number w ≡ false
 unfolding named
 named_other w c h = ap is_number (named-spelled kinds w c h) ∙ spelling-other c

@@ -1,8 +1,10 @@
 -- What a byte and a word's end do to what is kept, case by case, in the form in which the code does it.
-use Prim.Native.Nat.{ℕ, suc, ◌+◌, ◌*◌, ◌-◌, ◌≤◌, ◌<◌}
+use Prim.Native.Nat.{ℕ, suc, ◌+◌, ◌*◌, ◌-◌, ◌^◌, ◌≤◌, ◌<◌}
 use mathlib.Core.Bool.{Bool, true, false, cond, ◌&&◌, and-false}
-use mathlib.Core.Path.{◌≡◌, sym, ap, ◌∙◌}
+use mathlib.Core.Path.{◌≡◌, refl, sym, ap, ◌∙◌}
 use mathlib.Core.List.{List}
+use native.Mathlib.Omega.{arith}
+use Rattle.std.proofs.Common.{Option, Some, None, SomeIff, is_some, unwrap_or}
 use native.Mathlib.Numerals.{add-one}
 use lib.Dec.{leb, ltb, eqb}
 use lib.ListN.{length, set}
@@ -35,35 +37,41 @@ module _ (number : Bool) (value b : ℕ) where
   unfolding stays_number
   stays-number n d h = rw (n, d, le-leb _ _ h)
 
--- the word goes on with b
-module _ (r : Reading) (b : ℕ) where
-  pub word-other : (n : Bool) → n ≡ false → stays_number r.number r.value b ≡ false → record { begun = true; inside = true; number = n; value = r.value; others = r.others; numbers = r.numbers; spelled = r.spelled } ≡ word_read r b
-  unfolding word_read
-  word-other n e h =
-      λ j.
-      record {
-        begun = true;
-        inside = true;
-        number = (e ∙ sym h) j;
-        value = cond (sym h j) (r.value * 10 + (b - 48)) r.value;
-        others = r.others;
-        numbers = r.numbers;
-        spelled = r.spelled;
-      }
+-- the value of a word that is a number so far with a digit behind it, where it fits
+pub value-added : (number : Bool) (value b m d : ℕ) (o : Option ℕ) → number ≡ true → is_digit b ≡ true → m ≡ value * 10 → d ≡ b - 48 → SomeIff o (m + d < 2 ^ 32) (m + d)
+    → o ≡ cond (stays_number number value b) (Some (value * 10 + (b - 48))) None
+value-added number value b m d None n h em ed none =
+    let over : top_number < value * 10 + (b - 48) = omega arith in
+    rw (stays-over number value b over) refl
+value-added number value b m d (Some x) n h em ed some =
+    let room : value * 10 + (b - 48) ≤ top_number = omega (arith, some.0) in
+    let is : x ≡ value * 10 + (b - 48) = omega (arith, some.1) in
+    rw (stays-number number value b n h room, is) refl
 
-  pub word-digit : (n : Bool) (v : ℕ) → n ≡ true → v ≡ r.value * 10 + (b - 48) → stays_number r.number r.value b ≡ true → record { begun = true; inside = true; number = n; value = v; others = r.others; numbers = r.numbers; spelled = r.spelled } ≡ word_read r b
+-- the word goes on with b: whether it has a value then, and which
+module _ (r : Reading) (b : ℕ) where
+  pub word-with : (o : Option ℕ) (n : Bool) (v : ℕ) → o ≡ cond (stays_number r.number r.value b) (Some (r.value * 10 + (b - 48))) None → n ≡ is_some o → v ≡ unwrap_or o r.value
+      → record { begun = true; inside = true; number = n; value = v; others = r.others; numbers = r.numbers; spelled = r.spelled } ≡ word_read r b
   unfolding word_read
-  word-digit n v e u h =
+  word-with o n v e en ev =
       λ j.
       record {
         begun = true;
         inside = true;
-        number = (e ∙ sym h) j;
-        value = cond (sym h j) (u j) r.value;
+        number = (en ∙ ap (λ (x : Option ℕ). is_some x) e ∙ known (stays_number r.number r.value b) (r.value * 10 + (b - 48))) j;
+        value = (ev ∙ ap (λ (x : Option ℕ). unwrap_or x r.value) e ∙ taken (stays_number r.number r.value b) (r.value * 10 + (b - 48)) r.value) j;
         others = r.others;
         numbers = r.numbers;
         spelled = r.spelled;
       }
+    where
+      known : (t : Bool) (x : ℕ) → is_some (cond t (Some x) None) ≡ t
+      known true x = refl
+      known false x = refl
+
+      taken : (t : Bool) (x y : ℕ) → unwrap_or (cond t (Some x) None) y ≡ cond t x y
+      taken true x y = refl
+      taken false x y = refl
 
 -- whether a byte of the name is kept
 module _ (r : Reading) (name : List ℕ) where

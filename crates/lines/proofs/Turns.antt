@@ -1,28 +1,26 @@
 -- The loops' turns: reading up to a line feed, and comparing a name; and the names one after the other.
-use Prim.Native.Nat.{ℕ, suc, ◌+◌, ◌-◌, ◌≤◌, ◌<◌}
-use mathlib.Core.Bool.{Bool, true, false, and-false}
-use mathlib.Core.Path.{◌≡◌, sym, ap, ◌∙◌}
-use mathlib.Core.List.{List, ◌∷◌}
-use mathlib.Core.Option.{Option, none, some}
+use Prim.Native.Nat.{ℕ, suc, ◌+◌, ◌≤◌, ◌<◌, min}
+use mathlib.Core.Bool.{Bool, true, false, ◌&&◌, and-false}
+use Rattle.std.specs.Cmp.Lexicographic.{pointwise}
+use mathlib.Core.Path.{◌≡◌, refl, sym, ap, ◌∙◌}
+use mathlib.Core.List.{List, [], ◌∷◌}
+use Rattle.std.proofs.Common.{Option, None, Some}
 use native.Mathlib.Numerals.{add-one}
 use native.Mathlib.Omega.{arith}
+use native.Mathlib.Decide.{dec_lt}
 use lib.Dec.{eqb}
 use lib.ListN.{length, drop, get_or, drop_of_length-le}
 use lib.Seq.{drop-cons, take_all, take-length}
 use borrow.Author.Tests.{eq-eqb, ne_eqb}
 use Rattle.words.specs.Words.{part}
 use Rattle.words.specs.Keys.{same_key}
-use Rattle.words.proofs.Parts.{length_part, part-cons, part_none, part-all}
-use Rattle.words.proofs.Keys.{same_key-ne}
 use Rattle.drum.specs.declared.Description.{Description}
 use Rattle.rules.specs.declared.Call.{Call}
 use Rattle.texts.specs.Results.{spelling}
 use Rattle.lines.specs.declared.Reading.{Reading}
 use Rattle.lines.specs.Lines.{is_line_feed, named_in, named, carries, described}
 use Rattle.lines.specs.Reading.{Read, rested, step, call_in, call_of, parameters_in}
-use Rattle.lines.specs.declared.Named as code
-use Rattle.lines.specs.declared.Named.TheVariants.{Nothing, Kind}
-use Rattle.lines.specs.Promise.{named_as, to_line_feed}
+use Rattle.lines.specs.Promise.{to_line_feed}
 
 -- reading up to a line feed, from byte `at` on
 module _ (s : Read) (at : ℕ) (bytes : List ℕ) where
@@ -38,41 +36,34 @@ module _ (s : Read) (at : ℕ) (bytes : List ℕ) where
   unfolding to_line_feed is_line_feed
   line-more h e = rw (add-one at, drop-cons bytes at 0 h, ne_eqb _ _ e)
 
--- comparing the first n bytes of a name with a text, byte by byte
-pub name-other : (name text : List ℕ) (n : ℕ) → n ≤ length name → (n ≡ length text → ⊥) → same_key (part 0 n name) text ≡ false
-name-other name text n h d = same_key-ne (part 0 n name) text (λ e. d (sym (length_part 0 n name (omega arith)) ∙ ap length e))
-
-pub name-start : (name text : List ℕ) (n : ℕ) → n ≡ length text → same_key (part 0 n name) text ≡ same_key (part 0 (n - 0) name) (part 0 (n - 0) text)
-name-start name text n e =
-    let z : n - 0 ≡ n = omega arith in
-    rw z (ap (same_key (part 0 n name)) (sym (part-all n text (sym e))))
-
-part-next : (n i : ℕ) (l : List ℕ) → i < n → n ≤ length l → part i (n - i) l ≡ get_or l i 0 ∷ part (i + 1) (n - (i + 1)) l
-part-next n i l h k =
-    let m : n - i ≡ suc (n - (i + 1)) = omega arith in
-    rw (m, add-one i) (part-cons i (n - suc i) l (omega arith))
-
-module _ (name text : List ℕ) (n i : ℕ) (h : i < n) (a : n ≤ length name) (b : n ≤ length text) where
-  pub name-stop : (get_or name i 0 ≡ get_or text i 0 → ⊥) → same_key (part i (n - i) name) (part i (n - i) text) ≡ false
-  unfolding same_key
-  name-stop d = rw (part-next n i name h a, part-next n i text h b) (simp (ne_eqb _ _ d))
-
-  pub name-next : get_or name i 0 ≡ get_or text i 0 → same_key (part i (n - i) name) (part i (n - i) text) ≡ same_key (part (i + 1) (n - (i + 1)) name) (part (i + 1) (n - (i + 1)) text)
-  unfolding same_key
-  name-next e = rw (part-next n i name h a, part-next n i text h b) (simp (eq-eqb _ _ e))
-
-pub name_done : (i : ℕ) (name text : List ℕ) → same_key (part i 0 name) (part i 0 text) ≡ true
+-- two names that are equal as lists are the same
+pub equal-same : (w text : List ℕ) → pointwise eqb w text ≡ same_key w text
 unfolding same_key
-name_done i name text = rw (part_none i name, part_none i text)
+equal-same [] [] = refl
+equal-same [] (y ∷ text) = refl
+equal-same (x ∷ w) [] = refl
+equal-same (x ∷ w) (y ∷ text) = ap (λ (t : Bool). eqb x y && t) (equal-same w text)
 
 -- of a name with no n bytes the first n are all
-pub part-over : (n : ℕ) (l : List ℕ) → length l < n → part 0 (length l) l ≡ part 0 n l
+part-over : (n : ℕ) (l : List ℕ) → length l < n → part 0 (length l) l ≡ part 0 n l
 unfolding part
 part-over n l h = take-length l ∙ sym (take_all n l (omega arith))
 
+-- the first n bytes of a name are its first k, where k is n, or all that there are
+pub part-kept : (n k : ℕ) (l : List ℕ) → k ≡ min n (length l) → part 0 k l ≡ part 0 n l
+part-kept n k l e = go (dec_lt (length l) n)
+  where
+    go : Dec (length l < n) → part 0 k l ≡ part 0 n l
+    go (yes h) =
+        let all : k ≡ length l = omega arith in
+        rw all (part-over n l h)
+    go (no h) =
+        let same : k ≡ n = omega arith in
+        rw same refl
+
 -- the first of some names, or the others
 module _ (c : Call) (cs : List Call) (w : List ℕ) where
-  pub named-first : same_key w (spelling c) ≡ true → named_in (c ∷ cs) w ≡ some c
+  pub named-first : same_key w (spelling c) ≡ true → named_in (c ∷ cs) w ≡ Some c
   unfolding named_in
   named-first h = rw h
 
@@ -80,54 +71,42 @@ module _ (c : Call) (cs : List Call) (w : List ℕ) where
   unfolding named_in
   named-later h = rw h
 
--- the first of three names, the second, the third, or one of the rest
-module _ (w : List ℕ) (c₁ c₂ c₃ : Call) (rest : List Call) (m : Option Call) (t₁ : Bool) (e₁ : t₁ ≡ same_key w (spelling c₁)) where
-  pub first_of : m ≡ some c₁ → t₁ ≡ true → m ≡ named_in (c₁ ∷ c₂ ∷ c₃ ∷ rest) w
-  first_of em h = em ∙ sym (named-first c₁ _ w (sym e₁ ∙ h))
+-- of the calls from the i-th on: the word is the name s of the i-th, or it is not, or there are no more
+module _ (cs : List Call) (w : List ℕ) (i : ℕ) where
+  module _ (d : Call) (s : List ℕ) (h : i < length cs) (e : s ≡ spelling (get_or cs i d)) where
+    pub named-hit : true ≡ pointwise eqb w s → named_in (drop i cs) w ≡ Some (get_or cs i d)
+    named-hit t = rw (drop-cons cs i d h) (named-first (get_or cs i d) (drop (suc i) cs) w (sym (t ∙ equal-same w s ∙ ap (same_key w) e)))
 
-  module _ (t₂ : Bool) (e₂ : t₂ ≡ same_key w (spelling c₂)) (f₁ : t₁ ≡ false) where
-    later₁ : named_in (c₁ ∷ c₂ ∷ c₃ ∷ rest) w ≡ named_in (c₂ ∷ c₃ ∷ rest) w
-    later₁ = named-later c₁ _ w (sym e₁ ∙ f₁)
+    pub named-miss : false ≡ pointwise eqb w s → named_in (drop i cs) w ≡ named_in (drop (i + 1) cs) w
+    named-miss t = rw (add-one i, drop-cons cs i d h) (named-later (get_or cs i d) (drop (suc i) cs) w (sym (t ∙ equal-same w s ∙ ap (same_key w) e)))
 
-    pub second-of : m ≡ some c₂ → t₂ ≡ true → m ≡ named_in (c₁ ∷ c₂ ∷ c₃ ∷ rest) w
-    second-of em h = em ∙ sym (later₁ ∙ named-first c₂ _ w (sym e₂ ∙ h))
+  pub named-over : length cs ≤ i → named_in (drop i cs) w ≡ None
+  unfolding named_in
+  named-over h = rw (drop_of_length-le cs h)
 
-    module _ (t₃ : Bool) (e₃ : t₃ ≡ same_key w (spelling c₃)) (f₂ : t₂ ≡ false) where
-      later₂ : named_in (c₁ ∷ c₂ ∷ c₃ ∷ rest) w ≡ named_in (c₃ ∷ rest) w
-      later₂ = later₁ ∙ named-later c₂ _ w (sym e₂ ∙ f₂)
-
-      pub third_of : m ≡ some c₃ → t₃ ≡ true → m ≡ named_in (c₁ ∷ c₂ ∷ c₃ ∷ rest) w
-      third_of em h = em ∙ sym (later₂ ∙ named-first c₃ _ w (sym e₃ ∙ h))
-
-      pub rest_of : m ≡ named_in rest w → t₃ ≡ false → m ≡ named_in (c₁ ∷ c₂ ∷ c₃ ∷ rest) w
-      rest_of em h = em ∙ sym (later₂ ∙ named-later c₃ _ w (sym e₃ ∙ h))
-
--- the call that a line is: k what its first word names
-module _ (p : Description) (r : Reading) (name : List ℕ) (k : code.Named) (e : named_as k ≡ named (part 0 r.spelled name)) where
-  call-in : call_in p r (named_as k) ≡ call_of p r name
+-- the call that a line is, of what its first word names
+module _ (p : Description) (r : Reading) (name : List ℕ) where
+  call-by : (o : Option Call) → o ≡ named (part 0 r.spelled name) → call_in p r o ≡ call_of p r name
   unfolding call_of
-  call-in = ap (call_in p r) e
+  call-by o e = ap (call_in p r) e
 
-  pub call-nothing : k ≡ Nothing → none ≡ call_of p r name
+  pub call-nothing : None ≡ named (part 0 r.spelled name) → None ≡ call_of p r name
   unfolding call_in
-  call-nothing ek = rw ek at call-in
+  call-nothing e = call-by None e
 
-  module _ (c : Call) (ek : k ≡ Kind c) where
-    call-as : call_in p r (some c) ≡ call_of p r name
-    call-as = rw ek at call-in
-
-    pub call-others : (r.others ≡ 1 → ⊥) → none ≡ call_of p r name
+  module _ (c : Call) (e : Some c ≡ named (part 0 r.spelled name)) where
+    pub call-others : (r.others ≡ 1 → ⊥) → None ≡ call_of p r name
     unfolding call_in
-    call-others h = (rw (ne_eqb _ _ h)) ∙ call-as
+    call-others h = (rw (ne_eqb _ _ h)) ∙ call-by (Some c) e
 
     module _ (n : ℕ) (en : n ≡ carries p c) where
-      pub call-numbers : (r.numbers ≡ n → ⊥) → none ≡ call_of p r name
+      pub call-numbers : (r.numbers ≡ n → ⊥) → None ≡ call_of p r name
       unfolding call_in
-      call-numbers h = (rw (ne_eqb _ _ (λ (q : r.numbers ≡ carries p c). h (q ∙ sym en)), and-false (eqb r.others 1))) ∙ call-as
+      call-numbers h = (rw (ne_eqb _ _ (λ (q : r.numbers ≡ carries p c). h (q ∙ sym en)), and-false (eqb r.others 1))) ∙ call-by (Some c) e
 
-      pub call-whole : r.others ≡ 1 → r.numbers ≡ n → some c ≡ call_of p r name
+      pub call-whole : r.others ≡ 1 → r.numbers ≡ n → Some c ≡ call_of p r name
       unfolding call_in
-      call-whole h q = (rw (eq-eqb _ _ h, eq-eqb _ _ (q ∙ en))) ∙ call-as
+      call-whole h q = (rw (eq-eqb _ _ h, eq-eqb _ _ (q ∙ en))) ∙ call-by (Some c) e
 
 -- six numbers read one by one, each step handing the description on
 pub described-by : (v : List ℕ) (p : Description) (a b c d e f g : ℕ)
@@ -139,14 +118,14 @@ described-by v p a b c d e f g h h₁ g₀ g₁ g₂ g₃ g₄ g₅ =
 
 -- the parameters that a line gives
 module _ (r : Reading) (numbers : List ℕ) where
-  pub parameters-others : (r.others ≡ 0 → ⊥) → none ≡ parameters_in r numbers
+  pub parameters-others : (r.others ≡ 0 → ⊥) → None ≡ parameters_in r numbers
   unfolding parameters_in
   parameters-others h = rw (ne_eqb _ _ h)
 
-  pub parameters-numbers : (r.numbers ≡ 6 → ⊥) → none ≡ parameters_in r numbers
+  pub parameters-numbers : (r.numbers ≡ 6 → ⊥) → None ≡ parameters_in r numbers
   unfolding parameters_in
   parameters-numbers h = rw (ne_eqb _ _ h, and-false (eqb r.others 0))
 
-  pub parameters-whole : (p : Description) → r.others ≡ 0 → r.numbers ≡ 6 → p ≡ described numbers → some p ≡ parameters_in r numbers
+  pub parameters-whole : (p : Description) → r.others ≡ 0 → r.numbers ≡ 6 → p ≡ described numbers → Some p ≡ parameters_in r numbers
   unfolding parameters_in
-  parameters-whole p h k e = ap some e ∙ (rw (eq-eqb _ _ h, eq-eqb _ _ k))
+  parameters-whole p h k e = ap Some e ∙ (rw (eq-eqb _ _ h, eq-eqb _ _ k))

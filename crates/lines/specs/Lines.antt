@@ -1,6 +1,5 @@
 -- Document 01, "One session, printed": what an input is. Its lines, their words, and the call that a line is. docs/DECISIONS.md, readings 7 to 11.
-use Rattle.std.specs.Prelude.{ℕ, ◌+◌, ◌*◌, ◌-◌, Bool, true, cond, ◌&&◌, ◌||◌, List, [], ◌∷◌, leb, eqb, length, get_or}
-use Rattle.std.proofs.Math.Option.{Option, none, some}
+use Rattle.std.specs.Prelude.{ℕ, ◌+◌, ◌*◌, ◌-◌, Bool, true, cond, ◌&&◌, ◌||◌, List, [], ◌∷◌, leb, eqb, length, get_or, Option, None, Some}
 use Rattle.words.specs.Keys.{same_key}
 use Rattle.drum.specs.declared.Description.{Description}
 use Rattle.rules.specs.declared.Call.{Call}
@@ -88,8 +87,8 @@ kinds = Create ∷ Open ∷ Close ∷ Seek 0 ∷ Adv ∷ Nsert 0 ∷ Dlete 0 ∷
 
 -- the first of some calls whose name the word is
 unfoldable pub named_in : List Call → List ℕ → Option Call
-named_in [] w = none
-named_in (c ∷ cs) w = cond (same_key w (spelling c)) (some c) (named_in cs w)
+named_in [] w = None
+named_in (c ∷ cs) w = cond (same_key w (spelling c)) (Some c) (named_in cs w)
 
 -- the call that a word names
 unfoldable pub named : List ℕ → Option Call
@@ -114,8 +113,8 @@ pub data Parsed : Type 0 where
 
 -- a call of that kind, where the words behind its name are so many numbers
 unfoldable pub with_numbers : Description → Option Call → List (List ℕ) → Parsed
-with_numbers p none ws = no_call
-with_numbers p (some c) ws = cond (all_numbers ws && eqb (length ws) (carries p c)) (a_call c (values ws)) no_call
+with_numbers p None ws = no_call
+with_numbers p (Some c) ws = cond (all_numbers ws && eqb (length ws) (carries p c)) (a_call c (values ws)) no_call
 
 -- the first word names the call, the others are its numbers; no word at all is no call
 unfoldable pub parsed_words : Description → List (List ℕ) → Parsed
@@ -128,7 +127,7 @@ parse p line = parsed_words p (words_of line)
 
 -- with parameters out of range "every line whose first word names a call": that call [O7]
 unfoldable pub first_named : List (List ℕ) → Option Call
-first_named [] = none
+first_named [] = None
 first_named (w ∷ ws) = named w
 
 -- "WPB WPR K SPACE CONTROL N": six numbers, which mean the first block form [O1, K1]
@@ -145,4 +144,4 @@ described v = record {
 
 -- "a first line not of six numbers, prints `BAD LINE`" [O6]
 unfoldable pub parameters : List (List ℕ) → Option Description
-parameters ws = cond (all_numbers ws && eqb (length ws) 6) (some (described (values ws))) none
+parameters ws = cond (all_numbers ws && eqb (length ws) 6) (Some (described (values ws))) None

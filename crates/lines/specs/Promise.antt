@@ -1,14 +1,7 @@
 -- The form of the promises: what a function gives back, with the bytes and numbers it leaves, beside what Reading.antt says.
 use Rattle.std.specs.Prelude.{ℕ, suc, Bool, true, false, cond, List, [], ◌∷◌}
-use Rattle.std.proofs.Math.Option.{Option, none, some}
-use Rattle.drum.specs.declared.Description.{Description}
-use Rattle.rules.specs.declared.Call.{Call}
 use Rattle.lines.specs.declared.Reading.{Reading}
 use Rattle.lines.specs.declared.Taken.{Taken}
-use Rattle.lines.specs.declared.Named as code
-use Rattle.lines.specs.declared.Named.TheVariants.{Nothing, Kind}
-use Rattle.lines.specs.declared.Parameters.{Parameters}
-use Rattle.lines.specs.declared.Parameters.TheVariants as parameters
 use Rattle.lines.specs.Lines.{is_line_feed}
 use Rattle.lines.specs.Reading.{Read, rested, step}
 
@@ -31,13 +24,3 @@ to_line_feed s at (b ∷ l) =
 -- what `take` gives back, with the bytes and numbers it leaves
 abbrev pub took : Taken → List ℕ → List ℕ → Took
 took r name numbers = record { kept = read r.reading name numbers; at = r.at; ended = r.ended }
-
--- the code's answer for a name
-abbrev pub named_as : code.Named → Option Call
-named_as Nothing = none
-named_as (Kind c) = some c
-
--- the code's answer for a first line
-abbrev pub given_as : Parameters → Option Description
-given_as parameters.Nothing = none
-given_as (parameters.Given p) = some p

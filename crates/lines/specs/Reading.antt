@@ -1,7 +1,6 @@
 -- A line read byte by byte, as the code reads it: what is kept of it is a few numbers, the first bytes of its first word, and its numbers. So a
 -- line may be of any length. proofs/Lines shows that what is kept says all of the line that Lines.antt asks.
-use Rattle.std.specs.Prelude.{ℕ, ◌+◌, ◌*◌, ◌-◌, suc, Bool, true, false, cond, ◌&&◌, List, [], ◌∷◌, leb, ltb, eqb, length, set}
-use Rattle.std.proofs.Math.Option.{Option, none, some}
+use Rattle.std.specs.Prelude.{ℕ, ◌+◌, ◌*◌, ◌-◌, suc, Bool, true, false, cond, ◌&&◌, List, [], ◌∷◌, leb, ltb, eqb, length, set, Option, None, Some}
 use Rattle.words.specs.Words.{part}
 use Rattle.drum.specs.declared.Description.{Description}
 use Rattle.rules.specs.declared.Call.{Call}
@@ -117,8 +116,8 @@ spelled_name s = part 0 s.reading.spelled s.name
 
 -- the call that a line of calls is, of what is kept of it: one word that is no number, which names it, and so many numbers
 unfoldable pub call_in : Description → Reading → Option Call → Option Call
-call_in p r none = none
-call_in p r (some c) = cond (eqb r.others 1 && eqb r.numbers (carries p c)) (some c) none
+call_in p r None = None
+call_in p r (Some c) = cond (eqb r.others 1 && eqb r.numbers (carries p c)) (Some c) None
 
 -- the same, of the bytes kept of the first word
 unfoldable pub call_of : Description → Reading → List ℕ → Option Call
@@ -126,9 +125,9 @@ call_of p r name = call_in p r (named (part 0 r.spelled name))
 
 -- what a line of calls is, of that call and the numbers that are kept: "the key or record that kind carries" stands first in them
 unfoldable pub parsed_as : Description → Option Call → List ℕ → Parsed
-parsed_as p none numbers = no_call
-parsed_as p (some c) numbers = a_call c (part 0 (carries p c) numbers)
+parsed_as p None numbers = no_call
+parsed_as p (Some c) numbers = a_call c (part 0 (carries p c) numbers)
 
 -- the parameters that a first line gives, of what is kept of it
 unfoldable pub parameters_in : Reading → List ℕ → Option Description
-parameters_in r numbers = cond (eqb r.others 0 && eqb r.numbers 6) (some (described numbers)) none
+parameters_in r numbers = cond (eqb r.others 0 && eqb r.numbers 6) (Some (described numbers)) None

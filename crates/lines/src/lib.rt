@@ -4,16 +4,13 @@
 mod bytes;
 mod names;
 
-ghost use Rattle.std.specs.Prelude.{◌≡◌, List, ℕ, ◌≤◌, length, drop};
-ghost use Rattle.lines.specs.Reading.{unread, word_read, letter as letter_read, resting as resting_at};
+ghost use Rattle.std.specs.Prelude.{◌≡◌, List, ℕ, ◌+◌, ◌*◌, ◌-◌, ◌≤◌, cond, Some, None, length, drop};
+ghost use Rattle.lines.specs.Reading.{unread, stays_number, word_read, letter as letter_read, resting as resting_at};
 ghost use Rattle.lines.specs.Reading.{counted as word_counted, another, rested, step};
 ghost use Rattle.lines.specs.Promise.{took, read, to_line_feed};
 
 pub use bytes::{is_blank, is_digit};
-use bytes::{long, wide};
-use drum::Description;
-pub use names::{call_named, call_of, carries, is_name, parameters_of};
-use rules::Call;
+pub use names::{KINDS, call_named, call_of, carries, is_name, parameters_of};
 
 // What is kept of the bytes of a line: whether there were any; whether a word is being read; whether it is a number so far, and its value;
 // how many words were no numbers (2 stands for more), how many were, and how many bytes of the first one are kept.
@@ -34,20 +31,6 @@ pub struct Taken {
     pub reading: Reading,
     pub at: usize,
     pub ended: bool,
-}
-
-// The call that a word names.
-#[derive(Clone, Copy)]
-pub enum Named {
-    Nothing,
-    Kind { call: Call },
-}
-
-// The parameters that a line gives.
-#[derive(Clone, Copy)]
-pub enum Parameters {
-    Nothing,
-    Given { p: Description },
 }
 
 impl Reading {
@@ -81,46 +64,42 @@ impl Reading {
         }
     }
 
+    // The value of the word with b behind it, if it is a number then.
+    fn value_with(self, b: u8) -> Option<u32>
+        ensures { result ≡ cond (stays_number self.number self.value b) (Some (self.value * 10 + (b - 48))) None }
+    {
+        if !self.number || !is_digit(b) {
+            return None;
+        }
+        self.value.checked_mul(10)?.checked_add(u32::from(b - b'0'))
+    }
+
     // The word goes on with b.
     fn with_byte(self, b: u8) -> Self
         ensures { result ≡ word_read self b }
     {
-        let mut next = self;
-        next.begun = true;
-        next.inside = true;
-        if !self.number {
-            return next;
+        let value = self.value_with(b);
+        Self {
+            begun: true,
+            inside: true,
+            number: value.is_some(),
+            value: value.unwrap_or(self.value),
+            ..self
         }
-        if !is_digit(b) {
-            next.number = false;
-            return next;
-        }
-        let value = long(self.value) * 10 + (wide(b) - 48);
-        if 4294967295 < value {
-            next.number = false;
-            return next;
-        }
-        next.value = value as u32;
-        next
     }
 
     // A byte of a word; those of the first word are kept, as far as there is room.
     fn letter(self, b: u8, name: &mut [u8]) -> Self
         ensures { (numbers : List ℕ) → read result name.new numbers ≡ letter_read (read self name.old numbers) b }
     {
-        let mut next = self.with_byte(b);
-        let spelled = self.spelled;
-        if self.others != 0 {
-            return next;
+        let next = self.with_byte(b);
+        if self.others == 0 && self.numbers == 0 && self.spelled < name.len() {
+            name[self.spelled] = b;
+            return Self {
+                spelled: self.spelled + 1,
+                ..next
+            };
         }
-        if self.numbers != 0 {
-            return next;
-        }
-        if name.len() <= spelled {
-            return next;
-        }
-        name[spelled] = b;
-        next.spelled = spelled + 1;
         next
     }
 
@@ -128,10 +107,11 @@ impl Reading {
     fn other(self) -> Self
         ensures { result ≡ resting_at self.spelled (another self.others) self.numbers }
     {
-        let others = self.others;
-        if others < 2 {
-            return Self::resting(self.spelled, others + 1, self.numbers);
-        }
+        let others = if self.others < 2 {
+            self.others + 1
+        } else {
+            self.others
+        };
         Self::resting(self.spelled, others, self.numbers)
     }
 
@@ -139,15 +119,11 @@ impl Reading {
     fn counted(self, numbers: &mut [u32]) -> Self
         ensures { (name : List ℕ) → read result name numbers.new ≡ word_counted (read self name numbers.old) }
     {
-        let at = self.numbers;
-        if !self.number {
-            return self.other();
+        if self.number && self.numbers < numbers.len() {
+            numbers[self.numbers] = self.value;
+            return Self::resting(self.spelled, self.others, self.numbers + 1);
         }
-        if numbers.len() <= at {
-            return self.other();
-        }
-        numbers[at] = self.value;
-        Self::resting(self.spelled, self.others, at + 1)
+        self.other()
     }
 
     // A blank, or the line's end.
@@ -178,23 +154,19 @@ pub fn take(r: Reading, bytes: &[u8], from: usize, name: &mut [u8], numbers: &mu
         ≡ to_line_feed (read r name.old numbers.old) from (drop from bytes.now) }
 {
     let mut reading = r;
-    let mut at = from;
-    while at < bytes.len() {
-        let b = bytes[at];
-        at += 1;
-        if b == b'\n' {
-            let over = reading.rest(numbers);
+    for i in from..bytes.len() {
+        if bytes[i] == b'\n' {
             return Taken {
-                reading: over,
-                at,
+                reading: reading.rest(numbers),
+                at: i + 1,
                 ended: true,
             };
         }
-        reading = reading.push(b, name, numbers);
+        reading = reading.push(bytes[i], name, numbers);
     }
     Taken {
         reading,
-        at,
+        at: bytes.len(),
         ended: false,
     }
 }

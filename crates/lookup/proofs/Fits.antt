@@ -2,7 +2,7 @@
 use Prim.Native.Nat.{ℕ}
 use mathlib.Core.Path.{◌≡◌, refl, sym, ap, ◌∙◌}
 use mathlib.Core.Bool.{Bool, true, false, cond, ◌&&◌}
-use mathlib.Core.List.{List, []}
+use mathlib.Core.List.{List}
 use native.Mathlib.Omega.{arith}
 use borrow.Author.Tests.{le-leb, ne_eqb}
 use lib.Dec.{eqb}
@@ -13,15 +13,13 @@ use Rattle.table.specs.declared.Want.{Want}
 use Rattle.table.specs.Tables.{count, first_where, fits}
 use Rattle.drum.specs.declared.Description.{Description}
 use Rattle.drum.specs.Params.{D, detail_shape}
-use Rattle.drum.specs.Blocks.{Texts, seen}
+use Rattle.drum.specs.Blocks.{Texts}
 use Rattle.rules.specs.declared.Which.TheVariants.{First, Last, Place}
 use Rattle.rules.specs.declared.Look.{Look}
-use Rattle.rules.specs.declared.Look.TheVariants.{Bad, Found, Missing}
 use Rattle.rules.specs.Paths.{entry_of, path_under, path_by}
 use Rattle.rules.specs.Lookup.{on_buffer, look}
 use Rattle.rules.specs.Fits.{BufferFits, LookFits}
 use Rattle.rules.proofs.Fits.{tested-fits, look-passed}
-use Rattle.lookup.specs.Answers.{as_look}
 pub use Rattle.rules.proofs.Fits.{EntryFits, entry-fits, path-passed, path-fits, flush-fits}
 
 -- a way by places alone does not ask the key
@@ -53,8 +51,8 @@ module _ (v : Texts) (test : Bool) where
       let n : v.current ≡ 0 → ⊥ = λ e. omega arith in
       simp (ne_eqb _ _ n, le-leb _ _ g.current-least, le-leb _ _ g.current-most, le-leb _ _ g.records-least, le-leb _ _ g.records-most)
 
-  -- the file is not asked; and a test is made where the test that always holds is
-  pub test-and : on_buffer v test ≡ (on_buffer (seen v.desc v.current [] v.buffer) true >>= (λ here. passed (here && test)))
+  -- a test is made where the test that always holds is
+  pub test-and : on_buffer v test ≡ (on_buffer v true >>= (λ here. passed (here && test)))
   unfolding on_buffer
   test-and = go (eqb v.current 0) (within 1 v.desc.n v.current) (within 1 (D v.desc) (count (detail_shape v.desc) v.buffer))
     where
@@ -68,12 +66,14 @@ module _ (v : Texts) (test : Bool) where
 pub buffer-fits : (v : Texts) → on_buffer v true ≡ passed true → BufferFits v
 buffer-fits v e = (test_fits v true e).0
 
+-- the buffered block is good where the code's test says that there is one
+pub held_fits : (v : Texts) (held : Bool) → passed held ≡ on_buffer v true → held ≡ true → BufferFits v
+held_fits v held e h = buffer-fits v (sym e ∙ ap (λ (x : Bool). passed x) h)
+
 -- what a lookup comes to
 module _ (v : Texts) (flag : Bool) (key : List ℕ) where
-  pub look-fits : (l : Look) → as_look l ≡ look v flag key → LookFits v flag l
-  look-fits Bad e = tt
-  look-fits (Found way i) e = (look-passed v flag key).holds (Found way i) (sym e)
-  look-fits (Missing w) e = (look-passed v flag key).holds (Missing w) (sym e)
+  pub look-fits : (l : Look) → passed l ≡ look v flag key → LookFits v flag l
+  look-fits l e = (look-passed v flag key).holds l (sym e)
 
 -- a search of a detail block's rows, in the words of the definitions
 pub detail-found : (p : Description) (h : Shape) (w : Want) (key t : List ℕ) (n i : ℕ) → h ≡ detail_shape p

@@ -1,5 +1,3 @@
 pub mod Fits
 pub mod Sizes
 pub mod Entries
-pub mod Ways
-pub mod Looks

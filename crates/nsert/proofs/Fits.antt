@@ -6,14 +6,13 @@ use mathlib.Core.List.{List}
 use native.Mathlib.Omega.{arith}
 use borrow.Author.Tests.{ltb-true}
 use lib.Dec.{ltb, eqb}
-use Rattle.numbers.specs.Numbers.{not_found, bad_file}
+use Rattle.numbers.specs.Numbers.{not_found}
 use Rattle.numbers.specs.Checked.{passed}
 use Rattle.table.specs.Tables.{count, row_above, fits}
 use Rattle.table.specs.declared.Want.TheVariants.{Over}
 use Rattle.table.proofs.Searches.{first-le}
-use Rattle.drum.specs.declared.Description.{Description}
 use Rattle.drum.specs.Params.{D, I, detail_shape, index_shape}
-use Rattle.drum.specs.Blocks.{Texts, seen, text_of}
+use Rattle.drum.specs.Blocks.{Texts, text_of}
 use Rattle.rules.specs.declared.Path.{Path}
 use Rattle.rules.specs.declared.Way.TheVariants.{By}
 use Rattle.rules.specs.declared.Look.{Look}
@@ -21,15 +20,14 @@ use Rattle.rules.specs.declared.Look.TheVariants as look_is
 use Rattle.rules.specs.declared.Taken.{Taken}
 use Rattle.rules.specs.declared.Pair.{Pair}
 use Rattle.rules.specs.declared.Insert.{Insert}
-use Rattle.rules.specs.declared.Insert.TheVariants.{Bad, Stop, Room, Split, Both}
+use Rattle.rules.specs.declared.Insert.TheVariants.{Stop}
 use Rattle.rules.specs.Lookup.{look}
 use Rattle.rules.specs.Free.{take_one, take_two}
 use Rattle.rules.specs.Fits.{PathFits, FlushFits, WayFits, LookFits}
 use Rattle.rules.specs.Nsert.{room_deed, split_deed, both_deed, insert_at, insert_after, insert_deed}
 use Rattle.rules.proofs.Fits.{look-passed}
 use Rattle.rules.proofs.Takes.{one-new, two-new}
-use Rattle.numbers.proofs.Passed.{Passed, chain, by-refused, by-bind, by-passed}
-use Rattle.nsert.specs.Answers.{as_insert}
+use Rattle.numbers.proofs.Passed.{Passed, chain, by-bind, by-passed}
 use Rattle.nsert.specs.Fits.{RoomFits, SplitFits, BothFits, InsertFits, one_split, first_split}
 
 module _ (v : Texts) (flag : Bool) (w : Path) (path : PathFits v w) (flush : FlushFits v flag) (i : ℕ) where
@@ -81,7 +79,6 @@ module _ (v : Texts) (flag : Bool) (key : List ℕ) where
 
   after-passed : (l : Look) → LookFits v flag l → Passed (InsertFits v flag) (insert_after v flag key l)
   unfolding insert_after
-  after-passed look_is.Bad h = by-refused bad_file
   after-passed (look_is.Found way i) h = by-passed (Stop way not_found) h.0
   after-passed (look_is.Missing w) h = place-passed w h.0 h.1
 
@@ -89,10 +86,6 @@ module _ (v : Texts) (flag : Bool) (key : List ℕ) where
   unfolding insert_deed
   deed-passed = by-bind (look v flag key) (λ l. insert_after v flag key l) (λ l e. after-passed l (looked l e))
 
-pub plan-fits : (p : Description) (cur : ℕ) (f b : List ℕ) (flag : Bool) (key : List ℕ) (d : Insert) → as_insert d ≡ insert_deed (seen p cur f b) flag key
-    → InsertFits (seen p cur f b) flag d
-plan-fits p cur f b flag key Bad e = tt
-plan-fits p cur f b flag key (Stop way n) e = (deed-passed (seen p cur f b) flag key).holds (Stop way n) (sym e)
-plan-fits p cur f b flag key (Room w i n) e = (deed-passed (seen p cur f b) flag key).holds (Room w i n) (sym e)
-plan-fits p cur f b flag key (Split w i d n) e = (deed-passed (seen p cur f b) flag key).holds (Split w i d n) (sym e)
-plan-fits p cur f b flag key (Both w i y x n) e = (deed-passed (seen p cur f b) flag key).holds (Both w i y x n) (sym e)
+-- what a plan that was passed tells the code that does it
+pub plan-fits : (v : Texts) (flag : Bool) (key : List ℕ) (d : Insert) → passed d ≡ insert_deed v flag key → InsertFits v flag d
+plan-fits v flag key d e = (deed-passed v flag key).holds d (sym e)

@@ -25,9 +25,10 @@ use Rattle.rules.proofs.Rooms.{master-row}
 use Rattle.free.specs.Readied.{ready_file}
 use Rattle.free.proofs.Readying.{length-ready}
 use Rattle.split.specs.Halves.{FullTable, halved, low_entry}
-use Rattle.split.specs.Cuts.{Enters, EntersIn, Divides, DividesIn}
+use Rattle.split.specs.Enters.{Enters, EntersIn}
+use Rattle.split.specs.Cuts.{Divides, DividesIn}
 use Rattle.nsert.specs.declared.splits.Overflow.{Overflow}
-use Rattle.nsert.specs.Fits.{CutFits, SplitFits, BothFits, Lends, AboveFits, second_of}
+use Rattle.nsert.specs.Fits.{CutFits, SplitFits, BothFits, AboveFits, second_of}
 use Rattle.nsert.specs.Steps.{cut_file, above_file}
 use Rattle.nsert.proofs.Cutting.{cut-ready, length_cut, index_at, sections-cut, entered-is, above-is}
 
@@ -68,13 +69,13 @@ full-index p i g h =
 
 -- the words lent for a record and for an entry are as long as those of the tables
 module _ (p : Description) (h : Shape) where
-  pub record-long : (work entry : List ℕ) → h ≡ detail_shape p → Lends p work entry → h.stride ≤ length work
+  pub record-long : (work : List ℕ) → h ≡ detail_shape p → length work ≡ p.wpr → h.stride ≤ length work
   unfolding detail_shape
-  record-long work entry e l = let n = l.whole in rw e (omega arith)
+  record-long work e n = rw e (omega arith)
 
-  pub entry-long : (work entry : List ℕ) → h ≡ detail_shape p → Lends p work entry → h.width + 1 ≤ length entry
+  pub entry-long : (entry : List ℕ) → h ≡ detail_shape p → p.k + 1 ≤ length entry → h.width + 1 ≤ length entry
   unfolding detail_shape
-  entry-long work entry e l = rw e l.roomy
+  entry-long entry e l = rw e l
 
   pub index-long : (entry : List ℕ) → h ≡ index_shape p → p.k + 1 ≤ length entry → h.stride ≤ length entry
   unfolding index_shape
@@ -94,11 +95,15 @@ whole-record p work e = length_part 0 p.wpr work (omega arith)
 
 -- `cut`: the detail block stands in the buffer, full
 module _ (p : Description) (cur : ℕ) (f b : List ℕ) (flag : Bool) (c : Overflow) (f₁ b₁ : List ℕ) (h : Shape) (n : ℕ) where
-  pub cut-divides : CutFits (seen p cur f b) flag c → Fitting p f b → h ≡ detail_shape p → n ≡ D p
+  pub cut-full : CutFits (seen p cur f b) flag c → Fitting p f b → h ≡ detail_shape p → n ≡ D p → FullTable p h n c.place
+  cut-full x fit eh en = rw (eh, en) (full-detail p c.place fit.good x.place)
+
+  pub cut-divides : (full : FullTable p h n c.place) → CutFits (seen p cur f b) flag c → Fitting p f b → h ≡ detail_shape p → n ≡ D p
       → f₁ ≡ ready_file (seen p cur f b) flag (By c.path) c.path c.new → b₁ ≡ text_of (seen p cur f b) c.path.detail
-      → Divides (record { desc = p; shape = h; rows = n; place = c.place; old = c.path.detail; new = c.new.block }) f₁ b₁
+      → (work entry : List ℕ) → h.stride ≤ length work → h.width + 1 ≤ length entry
+      → Divides (record { desc = p; shape = h; rows = n; place = c.place; old = c.path.detail; new = c.new.block; full = full }) f₁ b₁ work entry
   unfolding detail_shape
-  cut-divides x fit eh en e₁ eb =
+  cut-divides full x fit eh en e₁ eb work entry row-long roomy =
       let v = seen p cur f b in
       let q = caps p fit.good in
       record {
@@ -112,8 +117,9 @@ module _ (p : Description) (cur : ℕ) (f b : List ℕ) (flag : Bool) (c : Overf
         new-least = x.new.new.block.0;
         new-most = x.new.new.block.1;
         apart = x.new.new.not-detail;
-        full = rw (eh, en) (full-detail p c.place fit.good x.place);
         key-within = rw eh q.facts.key;
+        row-long = row-long;
+        entry-long = roomy;
       }
 
   module _ (e₁ : f₁ ≡ ready_file (seen p cur f b) flag (By c.path) c.path c.new) (eb : b₁ ≡ text_of (seen p cur f b) c.path.detail)
@@ -212,10 +218,14 @@ sections-halved p h n i r t old new f g hf ho hn x hr =
 
 -- `write_above`: the index block is split, and the split entered in the master
 module _ (p : Description) (c : Overflow) (x : ℕ) (f b : List ℕ) (h : Shape) (n : ℕ) (eh : h ≡ index_shape p) (en : n ≡ I p) where
-  pub above-divides : AboveFits p f c x → Fitting p f b
-      → DividesIn (record { desc = p; shape = h; rows = n; place = c.path.entry; old = c.path.index; new = x }) c.new.block f b
+  pub above-full : AboveFits p f c x → Fitting p f b → FullTable p h n c.path.entry
+  above-full a fit = let l = a.entry-below in rw (eh, en) (full-index p c.path.entry fit.good (omega arith))
+
+  pub above-divides : (full : FullTable p h n c.path.entry) → AboveFits p f c x → Fitting p f b
+      → (entry above : List ℕ) → h.stride ≤ length entry → h.width + 1 ≤ length above
+      → DividesIn (record { desc = p; shape = h; rows = n; place = c.path.entry; old = c.path.index; new = x; full = full }) c.new.block f b entry above
   unfolding index_shape
-  above-divides a fit =
+  above-divides full a fit entry above row-long roomy =
       let l = a.entry-below in
       let m = a.named in
       let s = number_small p f b fit in
@@ -227,8 +237,9 @@ module _ (p : Description) (c : Overflow) (x : ℕ) (f b : List ℕ) (h : Shape)
           new-least = a.new.0;
           new-most = a.new.1;
           apart = a.apart;
-          full = rw (eh, en) (full-index p c.path.entry fit.good (omega arith));
           key-within = rw eh (omega arith);
+          row-long = row-long;
+          entry-long = roomy;
         };
         below = rw en l;
         named = rw eh (omega arith);

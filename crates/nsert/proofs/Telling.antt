@@ -9,8 +9,7 @@ use lib.Dec.{ltb}
 use mir.Syntax.{w64}
 use mir.Val.{Fits}
 use lib.ListN.{length, length-append}
-use Rattle.numbers.specs.Numbers.{bad_file}
-use Rattle.numbers.specs.Checked.{passed, ◌>>=◌}
+use Rattle.numbers.specs.Checked.{passed, refused}
 use Rattle.words.specs.Words.{part}
 use Rattle.table.specs.declared.Shape.{Shape}
 use Rattle.table.specs.Tables.{count, place, inserted}
@@ -27,7 +26,7 @@ use Rattle.rules.specs.declared.Way.{Way}
 use Rattle.rules.specs.declared.Way.TheVariants.{By}
 use Rattle.rules.specs.declared.Taken.{Taken}
 use Rattle.rules.specs.declared.Insert.{Insert}
-use Rattle.rules.specs.declared.Insert.TheVariants.{Bad, Stop, Room, Split, Both}
+use Rattle.rules.specs.declared.Insert.TheVariants.{Stop, Room, Split, Both}
 use Rattle.rules.specs.State.{record_in, key_in}
 use Rattle.rules.specs.Lookup.{bringing, reached, storing, landing, stopping}
 use Rattle.rules.specs.Fits.{WayFits}
@@ -41,7 +40,6 @@ use Rattle.acts.specs.Reach.{Come, come, came}
 use Rattle.acts.proofs.Moves.{stopped}
 use Rattle.acts.proofs.Ways.{moves-most}
 use Rattle.nsert.specs.declared.splits.Overflow.{Overflow}
-use Rattle.nsert.specs.Answers.{as_insert}
 use Rattle.nsert.specs.Fits.{RoomFits, CutFits, HalfFits, SplitFits, BothFits, InsertFits, one_split, first_split}
 
 -- a key lies in a record
@@ -171,11 +169,6 @@ module _ (p : Description) (cur : ℕ) (f b : List ℕ) (flag : Bool) (d : Inser
   both_halves w i y x n e h = halves-fit (first_split w i y x) (both-fits w i y x n e h).cut
 
   module _ (r : Done) (work : List ℕ) where
-    pub told-bad : d ≡ Bad → r ≡ record { number = bad_file; transfers = 0; current = cur; flag = flag; keyed = false }
-        → gave r f b work ≡ told u flag work (insert_done u flag work d)
-    unfolding insert_done
-    told-bad e er = rw e (ap (λ (x : Done). gave x f b work) er)
-
     module _ (g t : List ℕ) where
       pub told-stop : (way : Way) (n : ℕ) → d ≡ Stop way n → gave r g t [] ≡ told u flag [] (passed (stopping n [] (reached u flag way)))
           → gave r g t work ≡ told u flag work (insert_done u flag work d)
@@ -226,21 +219,19 @@ module _ (p : Description) (cur : ℕ) (f b : List ℕ) (flag : Bool) (w : Path)
   pub five-more : Fits w64 (m + 5)
   five-more = let k = moves-most (seen p cur f b) flag (By w) in omega arith
 
--- a plan that passed is done
-planned : (v : Texts) (flag : Bool) (work : List ℕ) (d : Insert) → insert_done v flag work d ≡ (as_insert d >>= insert_done v flag work)
-unfolding insert_done
-planned v flag work Bad = refl
-planned v flag work (Stop way n) = refl
-planned v flag work (Room w i n) = refl
-planned v flag work (Split w i d n) = refl
-planned v flag work (Both w i b x n) = refl
-
 -- NSERT by its plan and by what was done
-pub nsert-told : (p : Description) (cur : ℕ) (f b : List ℕ) (flag : Bool) (work : List ℕ) (d : Insert) (r : Done) (g h : List ℕ)
-    → as_insert d ≡ insert_deed (seen p cur f b) flag (key_in p work)
-    → gave r g h work ≡ told (seen p cur f b) flag work (insert_done (seen p cur f b) flag work d)
-    → gave r g h work ≡ told (seen p cur f b) flag work (nsert_steps (seen p cur f b) flag work)
-unfolding nsert_steps
-nsert-told p cur f b flag work d r g h e t =
-    let v = seen p cur f b in
-    t ∙ ap (told v flag work) (planned v flag work d ∙ ap (λ x. x >>= insert_done v flag work) e)
+module _ (p : Description) (cur : ℕ) (f b : List ℕ) (flag : Bool) (work : List ℕ) (r : Done) where
+  abbrev y : Texts
+  y = seen p cur f b
+
+  pub nsert-told : (d : Insert) (g h : List ℕ) → passed d ≡ insert_deed y flag (key_in p work)
+      → gave r g h work ≡ told y flag work (insert_done y flag work d)
+      → gave r g h work ≡ told y flag work (nsert_steps y flag work)
+  unfolding nsert_steps
+  nsert-told d g h e t = rw (← e) t
+
+  pub nsert-refused : (n : ℕ) → refused n ≡ insert_deed y flag (key_in p work)
+      → r ≡ record { number = n; transfers = 0; current = cur; flag = flag; keyed = false }
+      → gave r f b work ≡ told y flag work (nsert_steps y flag work)
+  unfolding nsert_steps
+  nsert-refused n e er = rw (← e, er) refl

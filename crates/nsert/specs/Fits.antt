@@ -1,13 +1,14 @@
 -- What NSERT's deed, once it passed its checks, tells the code that does it.
-use Rattle.std.specs.Prelude.{ℕ, ◌+◌, ◌≤◌, ◌<◌, ◌≡◌, Bool, List, length}
+use Rattle.std.specs.Prelude.{ℕ, ◌≤◌, ◌<◌, ◌≡◌, Bool, List, length}
 use Rattle.table.specs.Tables.{count}
 use Rattle.drum.specs.declared.Description.{Description}
 use Rattle.drum.specs.Params.{D, I, detail_shape, index_shape}
-use Rattle.drum.specs.Blocks.{Texts, text_of, sections, Block}
+use Rattle.drum.specs.Blocks.{Fitting, Texts, text_of, sections, Block}
+use Rattle.rules.specs.declared.Held.{Held}
 use Rattle.rules.specs.declared.Path.{Path}
 use Rattle.rules.specs.declared.Taken.{Taken}
 use Rattle.rules.specs.declared.Insert.{Insert}
-use Rattle.rules.specs.declared.Insert.TheVariants.{Bad, Stop, Room, Split, Both}
+use Rattle.rules.specs.declared.Insert.TheVariants.{Stop, Room, Split, Both}
 use Rattle.rules.specs.Fits.{PathFits, FlushFits, WayFits, New, OneNew}
 use Rattle.nsert.specs.declared.splits.Overflow.{Overflow}
 
@@ -54,16 +55,15 @@ first_split w i b x = one_split w i (record { block = b; head = x.head; lowest =
 
 -- what any plan of NSERT tells it [C10]
 abbrev pub InsertFits : Texts → Bool → Insert → Type 0
-InsertFits v flag Bad = Unit {0}
 InsertFits v flag (Stop way n) = WayFits v flag way
 InsertFits v flag (Room w i n) = RoomFits v flag w i
 InsertFits v flag (Split w i d n) = SplitFits v flag (one_split w i d)
 InsertFits v flag (Both w i b x n) = BothFits v flag (first_split w i b x) x.block
 
--- the record put in is whole, and an entry has room for its words
-pub record Lends (p : Description) (work entry : List ℕ) : Type 0 where
-  pub whole : length work ≡ p.wpr
-  pub roomy : p.k + 1 ≤ length entry
+-- the words lent are the file's and the buffer's, and the record put in is whole
+pub record Lent (at : Held) (f b work : List ℕ) : Type 0 where
+  pub fitting : Fitting at.desc f b
+  pub whole : length work ≡ at.desc.wpr
 
 -- a full index block in the file f, and a section left in the master: x is its new block
 pub record AboveFits (p : Description) (f : List ℕ) (c : Overflow) (x : ℕ) : Type 0 where

@@ -2,17 +2,17 @@
 ghost use Rattle.std.specs.Prelude.{◌≡◌, true, false, ◌≤◌, length};
 ghost use Rattle.table.specs.Tables.{inserted};
 ghost use Rattle.drum.specs.Params.{D, detail_shape};
-ghost use Rattle.drum.specs.Blocks.{Fitting, seen, at_entry, block_at};
+ghost use Rattle.drum.specs.Blocks.{Fitting, block_at};
+ghost use Rattle.acts.specs.Reach.{seen_by};
 ghost use Rattle.rules.specs.declared.Way.TheVariants as way-is;
 ghost use Rattle.rules.specs.Lookup.{reached};
 ghost use Rattle.rules.specs.NsertDone.{half_of, insert_done};
 ghost use Rattle.rules.specs.State.{record_in};
 ghost use Rattle.rules.specs.Told.{FollowsAt};
-ghost use Rattle.nsert.specs.Fits.{HalfFits, RoomFits, InsertFits};
+ghost use Rattle.nsert.specs.Fits.{HalfFits, Lent, RoomFits, InsertFits};
 
 use super::splits::{Overflow, write_both, write_split};
 use drum::Description;
-use numbers::BAD_FILE;
 use rules::{Done, Held, Insert, Path, Taken, Way};
 
 // Of the two blocks of a split, the half with the record put in at place i of n.
@@ -20,10 +20,7 @@ fn half_of(n: usize, i: usize, old: usize, new: usize) -> usize
     requires { n ≤ 262143 }
     ensures { result ≡ half_of n i old new }
 {
-    if i < split::low_count(n) {
-        return old;
-    }
-    new
+    if i < split::low_count(n) { old } else { new }
 }
 
 // The buffer takes the half with the record, and the call ends there with its number.
@@ -54,14 +51,13 @@ fn land_half(
 
 // The record goes into its block, which has room. Counts the transfers of the lookup.
 fn put_in(at: Held, file: &mut [u32], buffer: &mut [u32], work: &[u32], w: Path, i: usize) -> usize
-    requires { Fitting at.desc file.old buffer.old
-        × (length work.now ≡ at.desc.wpr)
-        × RoomFits (seen at.desc at.current file.old buffer.old) at.flag w i }
-    ensures { (result ≡ length (reached (at_entry at.desc at.current file.old buffer.old) at.flag (way-is.By w)).moves)
-        × (file.new ≡ (reached (at_entry at.desc at.current file.old buffer.old) at.flag (way-is.By w)).file)
+    requires { Lent at file.old buffer.old work.now
+        × RoomFits (seen_by at file.old buffer.old) at.flag w i }
+    ensures { (result ≡ length (reached (seen_by at file.old buffer.old) at.flag (way-is.By w)).moves)
+        × (file.new ≡ (reached (seen_by at file.old buffer.old) at.flag (way-is.By w)).file)
         × (buffer.new
         ≡ inserted (detail_shape at.desc) i (record_in at.desc work.now)
-        (reached (at_entry at.desc at.current file.old buffer.old) at.flag (way-is.By w)).buffer) }
+        (reached (seen_by at file.old buffer.old) at.flag (way-is.By w)).buffer) }
 {
     let p = at.desc;
     let here = acts::reach(at, file, buffer, Way::By(w));
@@ -73,12 +69,11 @@ fn put_in(at: Held, file: &mut [u32], buffer: &mut [u32], work: &[u32], w: Path,
 pub fn do_nsert(deed: Insert, at: Held, file: &mut [u32], buffer: &mut [u32], work: &[u32]) -> Done
     requires { Fitting at.desc file.old buffer.old
         × (length work.now ≡ at.desc.wpr)
-        × InsertFits (seen at.desc at.current file.old buffer.old) at.flag deed }
+        × InsertFits (seen_by at file.old buffer.old) at.flag deed }
     ensures { FollowsAt result (λ v flag work. insert_done v flag work deed) at (file.old, file.new) (buffer.old, buffer.new) (work.now, work.now) }
 {
     let p = at.desc;
     match deed {
-        Insert::Bad => Done::refused(BAD_FILE, at.current, at.flag),
         Insert::Stop(way, number) => acts::stop(at, file, buffer, way, number),
         Insert::Room(path, place, number) => {
             let transfers = put_in(at, file, buffer, work, path, place);

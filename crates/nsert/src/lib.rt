@@ -8,28 +8,24 @@ mod splits;
 ghost use Rattle.std.specs.Prelude.{◌≡◌, length};
 ghost use Rattle.drum.specs.Blocks.{Fitting};
 ghost use Rattle.rules.specs.NsertDone.{nsert_steps};
-ghost use Rattle.rules.specs.Told.{Follows};
+ghost use Rattle.rules.specs.Told.{FollowsAt};
 
-use drum::Description;
+use drum::Seen;
 use rules::{Done, Held};
 
 // NSERT of the record in the workspace.
-pub fn nsert(
-    p: Description,
-    current: usize,
-    flag: bool,
-    file: &mut [u32],
-    buffer: &mut [u32],
-    work: &[u32],
-) -> Done
-    requires { Fitting p file.old buffer.old × (length work.now ≡ p.wpr) }
-    ensures { Follows result nsert_steps p current flag (file.old, file.new) (buffer.old, buffer.new) (work.now, work.now) }
+pub fn nsert(at: Held, file: &mut [u32], buffer: &mut [u32], work: &[u32]) -> Done
+    requires { Fitting at.desc file.old buffer.old × (length work.now ≡ at.desc.wpr) }
+    ensures { FollowsAt result nsert_steps at (file.old, file.new) (buffer.old, buffer.new) (work.now, work.now) }
 {
-    let at = Held {
-        desc: p,
-        current,
-        flag,
+    let v = Seen {
+        desc: at.desc,
+        current: at.current,
+        file,
+        buffer,
     };
-    let deed = plan::plan_nsert(at, file, buffer, work);
-    deeds::do_nsert(deed, at, file, buffer, work)
+    match plan::plan_nsert(v, at.flag, work) {
+        Ok(deed) => deeds::do_nsert(deed, at, file, buffer, work),
+        Err(refusal) => at.refused(refusal),
+    }
 }

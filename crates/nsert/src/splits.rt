@@ -1,12 +1,13 @@
 // All that a split stores in the file.
 ghost use Rattle.std.specs.Prelude.{◌≡◌, ◌+◌, ◌≤◌, length};
 ghost use Rattle.words.specs.Words.{part};
-ghost use Rattle.drum.specs.Blocks.{Fitting, seen, at_entry};
+ghost use Rattle.drum.specs.Blocks.{Fitting};
+ghost use Rattle.acts.specs.Reach.{seen_by};
 ghost use Rattle.rules.specs.declared.Way.TheVariants as way-is;
 ghost use Rattle.rules.specs.Lookup.{reached};
 ghost use Rattle.rules.specs.NsertDone.{detail_entry, split_file, both_split_file};
 ghost use Rattle.rules.specs.State.{record_in};
-ghost use Rattle.nsert.specs.Fits.{CutFits, SplitFits, BothFits, Lends, AboveFits, second_of};
+ghost use Rattle.nsert.specs.Fits.{CutFits, SplitFits, BothFits, Lent, AboveFits, second_of};
 ghost use Rattle.nsert.specs.Steps.{cut_file, above_file};
 
 use drum::Description;
@@ -30,13 +31,13 @@ fn cut(
     c: Overflow,
     entry: &mut [u32],
 ) -> usize
-    requires { Fitting at.desc file.old buffer.old
-        × Lends at.desc work.now entry.old
-        × CutFits (seen at.desc at.current file.old buffer.old) at.flag c }
-    ensures { (result ≡ length (reached (at_entry at.desc at.current file.old buffer.old) at.flag (way-is.By c.path)).moves)
-        × (file.new ≡ cut_file (at_entry at.desc at.current file.old buffer.old) at.flag c (record_in at.desc work.now))
+    requires { Lent at file.old buffer.old work.now
+        × (at.desc.k + 1 ≤ length entry.old)
+        × CutFits (seen_by at file.old buffer.old) at.flag c }
+    ensures { (result ≡ length (reached (seen_by at file.old buffer.old) at.flag (way-is.By c.path)).moves)
+        × (file.new ≡ cut_file (seen_by at file.old buffer.old) at.flag c (record_in at.desc work.now))
         × (part 0 (at.desc.k + 1) entry.new
-        ≡ detail_entry (at_entry at.desc at.current file.old buffer.old) c.path c.place (record_in at.desc work.now)) }
+        ≡ detail_entry (seen_by at file.old buffer.old) c.path c.place (record_in at.desc work.now)) }
 {
     let p = at.desc;
     let w = c.path;
@@ -50,7 +51,7 @@ fn cut(
         old: w.detail,
         new: d.block,
     };
-    split::divide(halves, file, buffer, entry, work);
+    halves.divide(file, buffer, entry, work);
     moved
 }
 
@@ -62,12 +63,11 @@ pub fn write_split(
     work: &[u32],
     c: Overflow,
 ) -> usize
-    requires { Fitting at.desc file.old buffer.old
-        × (length work.now ≡ at.desc.wpr)
-        × SplitFits (seen at.desc at.current file.old buffer.old) at.flag c }
-    ensures { (result ≡ length (reached (at_entry at.desc at.current file.old buffer.old) at.flag (way-is.By c.path)).moves)
+    requires { Lent at file.old buffer.old work.now
+        × SplitFits (seen_by at file.old buffer.old) at.flag c }
+    ensures { (result ≡ length (reached (seen_by at file.old buffer.old) at.flag (way-is.By c.path)).moves)
         × (file.new
-        ≡ split_file (at_entry at.desc at.current file.old buffer.old) at.flag c.path c.place
+        ≡ split_file (seen_by at file.old buffer.old) at.flag c.path c.place
         (record_in at.desc work.now) c.new) }
 {
     let mut entry = [0u32; 64];
@@ -101,7 +101,7 @@ fn write_above(
         old: w.index,
         new: x,
     };
-    split::divide_in(halves, file, buffer, &mut above, entry, d.block);
+    halves.divide_in(file, buffer, &mut above, entry, d.block);
     split::enter(p.master_shape(), file, w.section, &above, x);
 }
 
@@ -114,12 +114,11 @@ pub fn write_both(
     c: Overflow,
     x: usize,
 ) -> usize
-    requires { Fitting at.desc file.old buffer.old
-        × (length work.now ≡ at.desc.wpr)
-        × BothFits (seen at.desc at.current file.old buffer.old) at.flag c x }
-    ensures { (result ≡ length (reached (at_entry at.desc at.current file.old buffer.old) at.flag (way-is.By c.path)).moves)
+    requires { Lent at file.old buffer.old work.now
+        × BothFits (seen_by at file.old buffer.old) at.flag c x }
+    ensures { (result ≡ length (reached (seen_by at file.old buffer.old) at.flag (way-is.By c.path)).moves)
         × (file.new
-        ≡ both_split_file (at_entry at.desc at.current file.old buffer.old) at.flag c.path c.place
+        ≡ both_split_file (seen_by at file.old buffer.old) at.flag c.path c.place
         (record_in at.desc work.now) c.new.block (second_of c x)) }
 {
     let mut entry = [0u32; 64];

@@ -1,20 +1,13 @@
 // What a line of a list does.
-use super::shown::{print_line, print_turned, print_words, told, words_of};
+use super::shown::{print_lent, print_line, print_turned, told};
+use rules::Call;
 use searchfile::{Answer, Session};
 use std::io;
 
-// The calls, then what no call does.
+// A call, or what no call does.
 #[derive(Clone, Copy)]
 pub enum Deed {
-    Create,
-    Open,
-    Close,
-    Seek,
-    Adv,
-    Nsert,
-    Dlete,
-    Updat,
-    Xtend,
+    Call(Call),
     View,
     Turn,
     Short,
@@ -27,62 +20,75 @@ pub enum Deed {
     Unknown,
 }
 
-// A line: what its first word means, the bytes of that word, and the words that follow; so many were given, the others are 0.
+// A line: what its first word means, that word, and the words that follow, three at least: those that are not given are 0.
 #[derive(Clone, Copy)]
-pub struct Line {
+pub struct Line<'a> {
     pub deed: Deed,
-    pub name: [u8; 8],
-    pub spelled: usize,
-    pub numbers: [u32; 16],
-    pub count: usize,
+    pub name: &'a [u8],
+    pub numbers: &'a [u32],
 }
 
-fn wide(x: u32) -> usize {
-    x as usize
+// What the calls are lent.
+#[derive(Drop)]
+pub struct Lent<'a> {
+    pub file: &'a mut [u32],
+    pub buffer: &'a mut [u32],
+    pub work: &'a mut [u32],
+    pub marks: &'a mut [u8],
 }
 
 fn put(words: &mut [u32], i: usize, x: u32) {
-    if i < words.len() {
-        words[i] = x;
+    if let Some(word) = words.get_mut(i) {
+        *word = x;
     }
 }
 
-// The words of a line put into the workspace, as far as there is room.
-fn fill(line: Line, work: &mut [u32]) {
-    let numbers = line.numbers;
-    let n = words_of(line.count);
-    for i in 0..n {
-        put(work, i, numbers[i]);
+impl Lent<'_> {
+    // The words of a line put into the workspace, as far as there is room.
+    fn fill(&mut self, numbers: &[u32]) {
+        for (word, x) in self.work.iter_mut().zip(numbers) {
+            *word = *x;
+        }
     }
-}
 
-// A session that no call would leave, for a line that makes one up.
-fn made_up(line: Line, s: Session, file: &mut [u32], buffer: &mut [u32]) -> Session {
-    let mut next = s;
-    let numbers = line.numbers;
-    let a = numbers[0];
-    let b = numbers[1];
-    let deed = line.deed;
-    match deed {
-        Deed::FileWord => put(file, wide(a), b),
-        Deed::BufferWord => put(buffer, wide(a), b),
-        Deed::Current => {
-            next.current = wide(a);
-            next.flag = b == 1;
+    // A call, its key or record in the workspace.
+    fn call(&mut self, s: Session, call: Call) -> Answer {
+        let file = &mut *self.file;
+        let buffer = &mut *self.buffer;
+        let work = &mut *self.work;
+        let marks = &mut *self.marks;
+        match call {
+            Call::Create => s.create(file),
+            Call::Open => s.open_file(file, buffer, marks),
+            Call::Close => s.close(file, buffer),
+            Call::Adv => s.adv(file, buffer, work),
+            Call::Seek { .. } => s.seek(file, buffer, work),
+            Call::Updat { .. } => s.updat(file, buffer, work),
+            Call::Nsert { .. } => s.nsert(file, buffer, work),
+            Call::Dlete { .. } => s.dlete(file, buffer, work),
+            Call::Xtend { .. } => s.xtend(file, buffer, work),
         }
-        Deed::Form => {
-            let p = s.desc;
-            next.desc = p.with_form(wide(a));
-        }
-        Deed::Position => {
-            let mut position = s.position;
-            position[0] = b;
-            next.placed = a == 1;
-            next.position = position;
-        }
-        _ => {}
     }
-    next
+
+    // A session that no call would leave, for a line that makes one up of two words.
+    fn made_up(&mut self, s: Session, deed: Deed, a: u32, b: u32) -> Session {
+        let mut next = s;
+        match deed {
+            Deed::FileWord => put(self.file, a as usize, b),
+            Deed::BufferWord => put(self.buffer, a as usize, b),
+            Deed::Current => {
+                next.current = a as usize;
+                next.flag = b == 1;
+            }
+            Deed::Form => next.desc = s.desc.with_form(a as usize),
+            Deed::Position => {
+                next.placed = a == 1;
+                next.position[0] = b;
+            }
+            _ => {}
+        }
+        next
+    }
 }
 
 // An answer of 0 with no transfer.
@@ -94,100 +100,55 @@ fn answered(session: Session) -> Answer {
     }
 }
 
-// A call that is no keyed one, or a line that makes something up.
-fn play_plain(
-    out: &impl Print,
-    line: Line,
-    s: Session,
-    file: &mut [u32],
-    buffer: &mut [u32],
-    work: &mut [u32],
-    marks: &mut [u8],
-) -> io::Result<Answer> {
-    let numbers = line.numbers;
-    let deed = line.deed;
-    let answer = match deed {
-        Deed::Create => s.create(file),
-        Deed::Open => s.open_file(file, buffer, marks),
-        Deed::Close => s.close(file, buffer),
-        Deed::Adv => s.adv(file, buffer, work),
+fn is_keyed(call: Call) -> bool {
+    !matches!(call, Call::Create | Call::Open | Call::Close | Call::Adv)
+}
+
+// What a line that is no remark does, and what is printed on the way.
+fn done(out: &impl Print, line: Line, s: Session, lent: &mut Lent) -> io::Result<Answer> {
+    let (a, b) = match line.numbers {
+        [a, b, ..] => (*a, *b),
+        _ => (0, 0),
+    };
+    let answer = match line.deed {
+        Deed::Call(call) => {
+            if is_keyed(call) {
+                lent.fill(line.numbers);
+            }
+            lent.call(s, call)
+        }
+        Deed::Short => {
+            lent.fill(line.numbers);
+            s.seek(lent.file, lent.buffer, &mut [])
+        }
         Deed::View => {
-            print_words(out, b"  lent", s.view(file, buffer, wide(numbers[0])))?;
+            let file = &mut *lent.file;
+            let buffer = &mut *lent.buffer;
+            print_lent(out, s.view(file, buffer, a as usize))?;
             answered(s)
         }
         Deed::Turn => {
-            let answer = s.turn(file, marks);
-            print_turned(out, answer.session, marks)?;
+            let answer = s.turn(lent.file, lent.marks);
+            print_turned(out, answer.session, lent.marks)?;
             answer
         }
-        _ => answered(made_up(line, s, file, buffer)),
+        made => answered(lent.made_up(s, made, a, b)),
     };
     Ok(answer)
 }
 
-// A keyed call, its key or record put into the workspace first.
-fn play_keyed(
-    line: Line,
-    s: Session,
-    file: &mut [u32],
-    buffer: &mut [u32],
-    work: &mut [u32],
-) -> Answer {
-    fill(line, work);
-    let deed = line.deed;
-    match deed {
-        Deed::Seek => s.seek(file, buffer, work),
-        Deed::Updat => s.updat(file, buffer, work),
-        Deed::Nsert => s.nsert(file, buffer, work),
-        Deed::Dlete => s.dlete(file, buffer, work),
-        Deed::Xtend => s.xtend(file, buffer, work),
-        _ => s.seek(file, buffer, &mut work[..0]),
-    }
-}
-
-fn is_keyed(deed: Deed) -> bool {
-    match deed {
-        Deed::Seek | Deed::Nsert | Deed::Dlete | Deed::Updat | Deed::Xtend | Deed::Short => true,
-        _ => false,
-    }
-}
-
-fn is_remark(deed: Deed) -> bool {
-    match deed {
-        Deed::Remark => true,
-        _ => false,
-    }
-}
-
-fn is_unknown(deed: Deed) -> bool {
-    match deed {
-        Deed::Unknown => true,
-        _ => false,
-    }
-}
-
 // One line: what it does, and what it leaves.
-pub fn play(
-    out: &impl Print,
-    line: Line,
-    s: Session,
-    file: &mut [u32],
-    buffer: &mut [u32],
-    work: &mut [u32],
-    marks: &mut [u8],
-) -> io::Result<Session> {
-    let deed = line.deed;
-    if is_remark(deed) {
-        return Ok(s);
+pub fn play(out: &impl Print, line: Line, s: Session, lent: &mut Lent) -> io::Result<Session> {
+    match line.deed {
+        Deed::Remark => Ok(s),
+        Deed::Unknown => {
+            print_line(out, line)?;
+            Ok(s)
+        }
+        _ => {
+            print_line(out, line)?;
+            let answer = done(out, line, s, lent)?;
+            told(out, answer, lent)
+        }
     }
-    print_line(out, line)?;
-    if is_unknown(deed) {
-        return Ok(s);
-    }
-    if is_keyed(deed) {
-        let answer = play_keyed(line, s, file, buffer, work);
-        return told(out, answer, file, buffer, work);
-    }
-    let answer = play_plain(out, line, s, file, buffer, work, marks)?;
-    told(out, answer, file, buffer, work)
 }

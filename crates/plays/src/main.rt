@@ -31,7 +31,7 @@ fn read_full<R: Read>(list: &mut R, text: &mut [u8; 65536]) -> usize
     done
 }
 
-// A path is text.
+// A path is text. Program runs has the same `open` and `main`: shared ones could promise nothing, as all that they do is on files and output.
 fn open(rt: &HostRuntime, name: &[u8]) -> io::Result<File> {
     match str::from_utf8(name) {
         Ok(path) => File::open(rt, path),

@@ -5,7 +5,7 @@ use mathlib.Core.Logic.{◌⊎◌}
 use mathlib.Core.Path.{◌≡◌, refl, sym, ap, ◌∙◌, subst}
 use mathlib.Core.Bool.{Bool, true, false, cond, ◌&&◌, ◌||◌}
 use mathlib.Core.List.{List, [], ◌∷◌, ◌++◌, map, map-append}
-use mathlib.Core.Option.{Option, none, some}
+use Rattle.std.proofs.Common.{Option, None, Some}
 use lib.Dec.{eqb}
 use lib.ListN.{length, drop, length-replicate}
 use Rattle.numbers.specs.Numbers.{done, not_found, at_end}
@@ -68,8 +68,8 @@ values_length (w ∷ ws) = ap suc (values_length ws)
 
 with-carry : (p : Description) (o : Option Call) (ws : List (List ℕ)) (cs : List Asked) → AllCarry p cs → AllCarry p (asked_first (with_numbers p o ws) cs)
 unfolding with_numbers asked_first
-with-carry p none ws cs h = tt
-with-carry p (some c) ws cs h = go (all_numbers ws && eqb (length ws) (carries p c)) refl
+with-carry p None ws cs h = tt
+with-carry p (Some c) ws cs h = go (all_numbers ws && eqb (length ws) (carries p c)) refl
   where
     go : (t : Bool) → (all_numbers ws && eqb (length ws) (carries p c)) ≡ t → AllCarry p (asked_first (cond t (a_call c (values ws)) no_call) cs)
     go true e = (values_length ws ∙ eqb-true (length ws) (carries p c) (and_both (all_numbers ws) (eqb (length ws) (carries p c)) e).1, h)

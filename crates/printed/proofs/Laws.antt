@@ -4,7 +4,7 @@ use native.Mathlib.Omega.{arith}
 use mathlib.Core.Path.{◌≡◌, sym, ap, subst, ◌∙◌}
 use mathlib.Core.Bool.{Bool, true, false, cond, ◌&&◌}
 use mathlib.Core.List.{List, [], ◌∷◌}
-use mathlib.Core.Option.{Option, none, some}
+use Rattle.std.proofs.Common.{Option, None, Some}
 use lib.Dec.{eqb}
 use lib.ListN.{length}
 use Rattle.words.specs.Words.{part, put}
@@ -27,8 +27,8 @@ use Rattle.printed.specs.Promise.{Shown, told_line, shown_at}
 
 -- what holds of a call, if there is one
 abbrev Of : (Call → Type 0) → Option Call → Type 0
-Of P none = Unit {0}
-Of P (some c) = P c
+Of P None = Unit {0}
+Of P (Some c) = P c
 
 abbrev Each : (Call → Type 0) → List Call → Type 0
 Each P [] = Unit {0}
@@ -39,16 +39,16 @@ unfolding named_in
 named-in P w [] h = tt
 named-in P w (c ∷ cs) h = go (same_key w (spelling c)) (named-in P w cs h.1)
   where
-    go : (x : Bool) → Of P (named_in cs w) → Of P (cond x (some c) (named_in cs w))
+    go : (x : Bool) → Of P (named_in cs w) → Of P (cond x (Some c) (named_in cs w))
     go true g = h.0
     go false g = g
 
 call-in : (P : Call → Type 0) (p : Description) (r : Reading) (o : Option Call) → Of P o → Of P (call_in p r o)
 unfolding call_in
-call-in P p r none h = tt
-call-in P p r (some c) h = go (eqb r.others 1 && eqb r.numbers (carries p c))
+call-in P p r None h = tt
+call-in P p r (Some c) h = go (eqb r.others 1 && eqb r.numbers (carries p c))
   where
-    go : (x : Bool) → Of P (cond x (some c) none)
+    go : (x : Bool) → Of P (cond x (Some c) None)
     go true = h
     go false = tt
 
@@ -74,7 +74,7 @@ module _ (ws : List ℕ) (st : State) (key-given : (desc st).k ≤ length ws) (r
   fits r name = call-in (Fits ws st) (desc st) r (named (part 0 r.spelled name)) (named-in (Fits ws st) (part 0 r.spelled name) kinds each_fits)
 
   -- what was performed is what the line plays, and leaves the parameters as they were
-  pub line-played : (m : List ℕ) → length m ≡ (desc st).n → (r : Reading) (name : List ℕ) (c : Call) → some c ≡ call_of (desc st) r name
+  pub line-played : (m : List ℕ) → length m ≡ (desc st).n → (r : Reading) (name : List ℕ) (c : Call) → Some c ≡ call_of (desc st) r name
       → (o : Counted) → o ≡ counted (done ws st m c).outcome
       → (◌≡◌ {A = Played} (record { over = false; after = o.after; text = told_line c o.number o.transfers o.after.work }) (played st (parsed_as (desc st) (call_of (desc st) r name) ws)))
       × (desc o.after ≡ desc st)

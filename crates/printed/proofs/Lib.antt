@@ -6,4 +6,3 @@ pub mod Small
 pub mod Formula
 pub mod Found
 pub mod Starting
-pub mod Telling

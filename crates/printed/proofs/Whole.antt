@@ -6,7 +6,7 @@ use native.Mathlib.Omega.{arith}
 use mathlib.Core.Path.{◌≡◌, refl, sym, ap, subst, ◌∙◌}
 use mathlib.Core.Bool.{Bool, true, false, cond}
 use mathlib.Core.List.{List, [], ◌∷◌, ◌++◌}
-use mathlib.Core.Option.{Option, none, some}
+use Rattle.std.proofs.Common.{Option, None, Some}
 use lib.Dec.{ltb}
 use lib.ListN.{length}
 use Rattle.words.specs.Words.{part}
@@ -105,8 +105,8 @@ Fit (Good p) = good_params p ≡ true
 
 pub start_fits : (o : Option Description) → Fit (start_of o)
 unfolding start_of start_with
-start_fits none = tt
-start_fits (some p) = go (good_params p) refl (ltb most_words (file_size p))
+start_fits None = tt
+start_fits (Some p) = go (good_params p) refl (ltb most_words (file_size p))
   where
     go : (x : Bool) → good_params p ≡ x → (y : Bool) → Fit (cond x (cond y TooLarge (Good p)) OutOfRange)
     go true e true = tt

@@ -1,6 +1,5 @@
 -- Document 01, "One session, printed": what the program writes, of all that it reads.
-use Rattle.std.specs.Prelude.{ℕ, Bool, true, false, cond, List, [], ◌∷◌, ◌++◌, ltb}
-use Rattle.std.proofs.Math.Option.{Option, none, some}
+use Rattle.std.specs.Prelude.{ℕ, Bool, true, false, cond, List, [], ◌∷◌, ◌++◌, ltb, Option, None, Some}
 use Rattle.drum.specs.declared.Description.{Description}
 use Rattle.drum.specs.Params.{good_params, file_size}
 use Rattle.rules.specs.declared.Call.{Call}
@@ -21,8 +20,8 @@ start_with p = cond (good_params p) (cond (ltb most_words (file_size p)) TooLarg
 
 -- "a first line not of six numbers, prints `BAD LINE`" [O6]
 unfoldable pub start_of : Option Description → Start
-start_of none = BadLine
-start_of (some p) = start_with p
+start_of None = BadLine
+start_of (Some p) = start_with p
 
 -- a line of calls: whether it ends the program, what it leaves, and what it prints
 pub record Played : Type 0 where
@@ -48,8 +47,8 @@ pub record Refused : Type 0 where
 
 -- "every line whose first word names a call but VIEW prints that name, then 020007 0" [O7]
 unfoldable pub refusal : Option Call → Refused
-refusal none = record { over = true; text = bad_line }
-refusal (some c) = record { over = false; text = refused_text c }
+refusal None = record { over = true; text = bad_line }
+refusal (Some c) = record { over = false; text = refused_text c }
 
 -- such lines, up to the first that ends the program
 unfoldable pub refused_lines : List (List ℕ) → List ℕ

@@ -1,6 +1,5 @@
 -- The program's lines taken as a run of calls, and the printed bytes read back as rows. Nothing is proved here.
-use Rattle.std.specs.Prelude.{ℕ, ◌+◌, ◌*◌, ◌-◌, cond, List, [], ◌∷◌, ◌++◌, map}
-use Rattle.std.proofs.Math.Option.{Option, none, some}
+use Rattle.std.specs.Prelude.{ℕ, ◌+◌, ◌*◌, ◌-◌, cond, List, [], ◌∷◌, ◌++◌, map, Option, None, Some}
 use Rattle.numbers.specs.Numbers.{accepted}
 use Rattle.drum.specs.declared.Description.{Description}
 use Rattle.rules.specs.declared.Call.{Call}
@@ -115,8 +114,8 @@ sum value (r ∷ rs) = value r + sum value rs
 
 -- a number of the call that a row names, taken as a request
 unfoldable pub of_named : (Request → ℕ) → Option Call → ℕ
-of_named value none = 0
-of_named value (some c) = value (asks [] [] c)
+of_named value None = 0
+of_named value (Some c) = value (asks [] [] c)
 
 -- "the sum of transfers"
 unfoldable pub counts : List Row → ℕ

@@ -9,7 +9,7 @@ use borrow.Author.Tests.{eq-eqb, eqb-true}
 use lib.ListN.{length}
 use Rattle.numbers.specs.Checked.{Checked, passed, refused, ◌>>=◌, ◌>>◌, require}
 use Rattle.numbers.specs.Numbers.{wrong_size, bad_file}
-use Rattle.numbers.proofs.Passed.{Passed, chain, by-refused, by-bind, by-passed}
+use Rattle.numbers.proofs.Passed.{Passed, chain, by-bind, by-passed}
 use Rattle.drum.specs.Blocks.{Texts, written, writes}
 use Rattle.layout.specs.Inspect.{layout_marks}
 use Rattle.rules.specs.declared.Path.{Path}
@@ -49,7 +49,6 @@ module _ (v : Texts) where
 
   seek-done-two : (work : List ℕ) (l : Look) → Passed Two (seek_done v false work l)
   unfolding seek_done stopping giving
-  seek-done-two work look_is.Bad = by-refused _
   seek-done-two work (look_is.Found way i) = by-passed _ (way-two way)
   seek-done-two work (look_is.Missing w) = by-passed _ (way-two (By w))
 
@@ -59,7 +58,6 @@ module _ (v : Texts) where
 
   -- ADV: with one section the next detail block is in the section of the first path
   abbrev Same : Step → Type 0
-  Same step_is.Bad = Unit {0}
   Same (step_is.At way i) = Unit {0}
   Same (step_is.Beyond w x i) = x.section ≡ w.section
 
@@ -92,7 +90,6 @@ module _ (v : Texts) where
 
   adv-done-three : (s : Step) → Same s → Passed Three (adv_done v false s)
   unfolding adv_done adv_giving giving
-  adv-done-three step_is.Bad h = by-refused _
   adv-done-three (step_is.At way i) h = by-passed _ (way-three way)
   adv-done-three (step_is.Beyond w x i) h = by-passed _ (beyond-three w x h)
 

@@ -5,7 +5,7 @@ use mathlib.Core.Bool.{Bool, true, false, cond}
 use mathlib.Core.List.{List, [], ◌∷◌}
 use lib.Dec.{eqb}
 use Rattle.numbers.specs.Checked.{Checked, passed, refused}
-use Rattle.numbers.proofs.Passed.{Passed, by-refused, by-bind, by-passed}
+use Rattle.numbers.proofs.Passed.{Passed, by-bind, by-passed}
 use Rattle.drum.specs.declared.Description.{Description}
 use Rattle.drum.specs.Blocks.{Transfer, Read, written, writes, Texts, seen}
 use Rattle.rules.specs.declared.Path.{Path}
@@ -36,7 +36,6 @@ module _ (v : Texts) where
 
   seek-done-kept : (work : List ℕ) (l : Look) → Passed (Kept v) (seek_done v false work l)
   unfolding seek_done stopping reached bringing flush_moves written writes
-  seek-done-kept work look_is.Bad = by-refused _
   seek-done-kept work (look_is.Found way i) = by-passed _ (given-kept way _ i true)
   seek-done-kept work (look_is.Missing w) = by-passed _ (record { off = refl; same = refl; reads = λ b. refl })
 
@@ -61,7 +60,6 @@ module _ (v : Texts) where
 
   adv-done-kept : (s : Step) → Passed (Kept v) (adv_done v false s)
   unfolding adv_done adv_giving
-  adv-done-kept step_is.Bad = by-refused _
   adv-done-kept (step_is.At way i) = by-passed _ (given-kept way _ i _)
   adv-done-kept (step_is.Beyond w x i) = by-passed _ (beyond-kept w x _ i _)
 

@@ -5,7 +5,7 @@ use Prim.Native.Nat.{ℕ}
 use Rattle.drum.specs.Parts.{part_of}
 use Rattle.rules.specs.State.{Outcome}
 use Rattle.face.specs.Counted.{counted}
-use Rattle.reading.specs.declared.Answer.{Answer}
+use Rattle.reading.specs.Answers.{Answer}
 use Rattle.reading.specs.Reading.{answered, answered_open}
 use Rattle.reading.specs.OneResult.{OneReading}
 

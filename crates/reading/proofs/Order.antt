@@ -1,11 +1,11 @@
 -- Whether the detail blocks are 2, 3, .. with FD records each but the last: one law for each return, and what a file that was inspected leaves to rely on.
 use Prim.Native.Nat.{ℕ, zero, suc, ◌+◌, ◌*◌, ◌-◌, ◌≤◌, ◌<◌}
-use mathlib.Core.Path.{◌≡◌, sym, ap, ◌∙◌, subst}
+use mathlib.Core.Path.{◌≡◌, refl, sym, ap, ◌∙◌, subst}
 use mathlib.Core.Bool.{Bool, true, false, not, ◌&&◌}
 use mathlib.Core.List.{List}
 use native.Mathlib.Nat.{not-suc-le-zero}
 use native.Mathlib.Omega.{arith}
-use borrow.Author.Tests.{eq-eqb, ne_eqb, not-true, not-false}
+use borrow.Author.Tests.{eq-eqb, ne_eqb, eqb-true}
 use lib.Dec.{eqb}
 use lib.ListN.{length, get_or}
 use mir.Syntax.{w64}
@@ -13,18 +13,19 @@ use mir.Val.{Fits}
 use Rattle.numbers.specs.Numbers.{bad_file}
 use Rattle.numbers.specs.Checked.{passed, refused}
 use Rattle.words.specs.Words.{zeros}
+use Rattle.words.proofs.All.{and_both}
 use Rattle.words.proofs.Parts.{get_d_part}
 use Rattle.table.specs.declared.Shape.{Shape}
 use Rattle.table.specs.Tables.{count}
-use Rattle.table.proofs.Places.{row-le}
+use Rattle.table.proofs.Places.{row-le, row_next}
 use Rattle.drum.specs.declared.Description.{Description}
 use Rattle.drum.specs.Params.{I, FD, start, index_shape, detail_shape}
-use Rattle.drum.specs.Blocks.{sections, block_at, Block}
+use Rattle.drum.specs.Blocks.{sections, chain_head, block_at, Block}
 use Rattle.drum.proofs.Good.{caps}
 use Rattle.layout.specs.Inspect.{named, layout_marks}
 use Rattle.layout.specs.Inspected.{Fit, flagged, left_marks}
-use Rattle.layout.proofs.CodeFlags.{halted, moved}
-use Rattle.layout.proofs.CodeSizes.{start-inside, row_inside, file-short, file-long}
+use Rattle.layout.proofs.CodeFlags.{halted, moved, grouped}
+use Rattle.layout.proofs.CodeSizes.{start-inside, file-short, file-long}
 use Rattle.layout.proofs.Read.{LeavesAt, SectionFacts, Sections, entries_at}
 use Rattle.layout.proofs.Found.{layout-facts}
 use Rattle.reading.specs.Finished.{holds_fd, entry_ok, in_order, finished, finished_marks}
@@ -32,7 +33,7 @@ use Rattle.reading.specs.Fits.{NamesBlocks, Inspected}
 
 -- ---- a block's count
 
-pub last-holds : (p : Description) (f : List ℕ) (b behind : ℕ) → behind ≡ 0 → true ≡ holds_fd p f b behind
+pub last-holds : (p : Description) (f : List ℕ) (b behind : ℕ) → behind ≡ 0 → eqb behind 0 ≡ holds_fd p f b behind
 unfolding holds_fd
 last-holds p f b behind e = simp (eq-eqb _ _ e)
 
@@ -41,32 +42,41 @@ pub other-holds : (p : Description) (f t : List ℕ) (b behind n m : ℕ) → n 
 unfolding holds_fd
 other-holds p f t b behind n m en et em z = simp (ne_eqb _ _ z, en, et, em)
 
--- ---- the entries, one by one: what is left tells what all tell
+-- ---- the entries, one by one: what is left behind the first i tells what all tell
 
-order-step : (p : Description) (f : List ℕ) (at b left : ℕ) → 0 < left
-    → in_order p f at b left ≡ (entry_ok p f at b (left - 1) && in_order p f (at + (p.k + 1)) (b + 1) (left - 1))
-unfolding in_order
-order-step p f at b zero h = absurd (not-suc-le-zero h)
-order-step p f at b (suc n) h =
-    ap (λ (m : ℕ). entry_ok p f at b m && in_order p f (at + (p.k + 1)) (b + 1) m) (let d : n ≡ suc n - 1 = omega arith in d)
+module _ (p : Description) (f : List ℕ) where
+  pub order-start : (e n : ℕ) → in_order p f e 2 n ≡ in_order p f (e + 0 * (p.k + 1)) (2 + 0) (n - 0)
+  order-start e n =
+      let x : e ≡ e + 0 * (p.k + 1) = omega arith in
+      let y : n ≡ n - 0 = omega arith in
+      λ j. in_order p f (x j) 2 (y j)
 
-module _ (p : Description) (f : List ℕ) (at b left : ℕ) (whole : Bool) (q : whole ≡ in_order p f at b left) where
-  pub order-done : left ≤ 0 → true ≡ whole
-  unfolding in_order
-  order-done h = sym (q ∙ ap (in_order p f at b) (let z : left ≡ 0 = omega arith in z))
+  module _ (e n i : ℕ) (whole : Bool) (q : whole ≡ in_order p f (e + i * (p.k + 1)) (2 + i) (n - i)) where
+    pub order-done : n ≤ i → true ≡ whole
+    unfolding in_order
+    order-done h = let z : n - i ≡ 0 = omega arith in sym (q ∙ rw z)
 
-  module _ (t : Bool) (h : t ≡ entry_ok p f at b (left - 1)) (some : 0 < left) where
-    pub order-stop : not t ≡ true → false ≡ whole
-    order-stop n = sym (q ∙ order-step p f at b left some ∙ simp (sym h ∙ not-true t n))
+    module _ (some : i < n) where
+      one_more_lem : n - i ≡ suc (n - (i + 1))
+      one_more_lem = omega arith
 
-    pub order-next : not t ≡ false → whole ≡ in_order p f (at + (p.k + 1)) (b + 1) (left - 1)
-    order-next n = q ∙ order-step p f at b left some ∙ simp (sym h ∙ not-false t n)
+      module _ (t : Bool) (h : t ≡ entry_ok p f (e + i * (p.k + 1)) (2 + i) (n - (i + 1))) where
+        pub order-stop : t ≡ false → false ≡ whole
+        unfolding in_order
+        order-stop m = sym (q ∙ rw one_more_lem (simp (sym h ∙ m)))
+
+        pub order-next : t ≡ true → whole ≡ in_order p f (e + (i + 1) * (p.k + 1)) (2 + (i + 1)) (n - (i + 1))
+        unfolding in_order
+        order-next m =
+            let k : e + i * (p.k + 1) + (p.k + 1) ≡ e + (i + 1) * (p.k + 1) = omega (arith, row_next i (p.k + 1)) in
+            let d : 2 + i + 1 ≡ 2 + (i + 1) = omega arith in
+            q ∙ rw one_more_lem (simp (sym h ∙ m) (λ j. in_order p f (k j) (d j) (n - (i + 1))))
 
 -- one entry: m is the block that it names
 module _ (p : Description) (f : List ℕ) (e b behind m : ℕ) (em : m ≡ named p f e) where
-  pub other_block : (m ≡ b → ⊥) → false ≡ entry_ok p f e b behind
+  pub other_block : (m ≡ b → ⊥) → eqb m b ≡ entry_ok p f e b behind
   unfolding entry_ok
-  other_block n = simp (ap (λ (z : ℕ). eqb z b) (sym em) ∙ ne_eqb m b n)
+  other_block n = simp (ap (λ (z : ℕ). eqb z b) (sym em) ∙ ne_eqb m b n) (ne_eqb m b n)
 
   pub this-block : (t : Bool) → t ≡ holds_fd p f b behind → m ≡ b → t ≡ entry_ok p f e b behind
   unfolding entry_ok
@@ -87,31 +97,28 @@ module _ (p : Description) (f : List ℕ) (e : ℕ) (w : Fit p f) (inside : e + 
   pub word_fits : Fits w64 (e + p.k)
   word_fits = let l = file-short p f w in omega arith
 
--- the numbers of the next one
-module _ (p : Description) (f : List ℕ) (at left : ℕ) (inside : at + left * (p.k + 1) ≤ length f) (some : 0 < left) (w : Fit p f) where
-  pub next_fits : Fits w64 (at + (p.k + 1))
-  next_fits = let z = row_inside at left (p.k + 1) (length f) inside some in let l = file-short p f w in omega arith
-
-  pub number_fits : (b n : ℕ) → b + left ≡ n + 2 → n ≤ I p → Fits w64 (b + 1)
-  number_fits b n e few = let g = caps p w.good in omega arith
-
 -- the blocks that they name
 module _ (p : Description) (f : List ℕ) where
-  first-named : (at left : ℕ) → NamesBlocks p f at left → 0 < left → Block p (named p f at)
-  unfolding NamesBlocks
-  first-named at zero h some = absurd (not-suc-le-zero some)
-  first-named at (suc n) h some = h.0
+  pub names_start : (e n : ℕ) → NamesBlocks p f e n → NamesBlocks p f (e + 0 * (p.k + 1)) (n - 0)
+  names_start e n h =
+      let x : e ≡ e + 0 * (p.k + 1) = omega arith in
+      let y : n ≡ n - 0 = omega arith in
+      subst (NamesBlocks p f (e + 0 * (p.k + 1))) y (subst (λ (a : ℕ). NamesBlocks p f a n) x h)
 
-  pub names-rest : (at left : ℕ) → NamesBlocks p f at left → 0 < left → NamesBlocks p f (at + (p.k + 1)) (left - 1)
-  unfolding NamesBlocks
-  names-rest at zero h some = absurd (not-suc-le-zero some)
-  names-rest at (suc n) h some = subst (NamesBlocks p f (at + (p.k + 1))) (let d : n ≡ suc n - 1 = omega arith in d) h.1
+  module _ (e n i : ℕ) (h : NamesBlocks p f (e + i * (p.k + 1)) (n - i)) (some : i < n) where
+    both_named : Block p (named p f (e + i * (p.k + 1))) × NamesBlocks p f (e + i * (p.k + 1) + (p.k + 1)) (n - (i + 1))
+    unfolding NamesBlocks
+    both_named =
+        let m : n - i ≡ suc (n - (i + 1)) = omega arith in
+        subst (NamesBlocks p f (e + i * (p.k + 1))) m h
 
-  pub first-least : (at left : ℕ) → NamesBlocks p f at left → 0 < left → 1 ≤ named p f at
-  first-least at left h some = (first-named at left h some).0
+    pub next-named : Block p (named p f (e + i * (p.k + 1)))
+    next-named = both_named.0
 
-  pub first-most : (at left : ℕ) → NamesBlocks p f at left → 0 < left → named p f at ≤ p.n
-  first-most at left h some = (first-named at left h some).1
+    pub names-rest : NamesBlocks p f (e + (i + 1) * (p.k + 1)) (n - (i + 1))
+    names-rest =
+        let k : e + i * (p.k + 1) + (p.k + 1) ≡ e + (i + 1) * (p.k + 1) = omega (arith, row_next i (p.k + 1)) in
+        subst (λ (a : ℕ). NamesBlocks p f a (n - (i + 1))) k both_named.1
 
   -- a file that was inspected
   names_of : (n low e : ℕ) → LeavesAt p f low e n → NamesBlocks p f e n
@@ -144,24 +151,42 @@ inspected p f ms r e y w =
       names = λ h. rw counted (names_of p f (entries_at p f (start p 1)) 0 (start p 1 + 1) (rw h at s.leaves));
     }
 
--- ---- the whole: x is word 1, y the block that the master's first entry names, n the count of block 1
+-- ---- the whole: v is what the two numbers of the master are found to be, n the count of block 1
+
+-- a test that is made only where the one before it holds
+pub then_and : (x y v : Bool) → x ≡ true → v ≡ y → v ≡ (x && y)
+then_and x y v e h = h ∙ rw e refl
+
+pub else-and : (x y v : Bool) → x ≡ false → v ≡ x → v ≡ (x && y)
+else-and x y v e h = h ∙ rw e refl
+
+-- two tests that were made before a third
+tested_no : (x y z v : Bool) → v ≡ (x && y) → v ≡ false → v ≡ (x && (y && z))
+tested_no x y z v e n = n ∙ sym (grouped x y z ∙ ap (λ (b : Bool). b && z) (sym e ∙ n))
+
+tested_yes : (x y z v : Bool) → v ≡ (x && y) → v ≡ true → z ≡ (x && (y && z))
+tested_yes x y z v e n = sym (grouped x y z ∙ ap (λ (b : Bool). b && z) (sym e ∙ n))
 
 module _ (p : Description) (f : List ℕ) where
-  pub chained : (x : ℕ) → x ≡ get_or f 1 0 → (x ≡ 0 → ⊥) → false ≡ finished p f
-  unfolding finished
-  chained x e n = simp (ap (λ (z : ℕ). eqb z 0) (sym e) ∙ ne_eqb x 0 n)
+  -- no block is chained, and the first entry names block 1
+  abbrev pub Master : Bool
+  Master = eqb (chain_head f) 0 && eqb (named p f 3) 1
 
-  module _ (x : ℕ) (ex : x ≡ get_or f 1 0) (none : x ≡ 0) (y : ℕ) (ey : y ≡ get_or f (3 + p.k) 0) where
-    pub elsewhere : (y ≡ 1 → ⊥) → false ≡ finished p f
+  module _ (v : Bool) (e : v ≡ Master) where
+    pub elsewhere : v ≡ false → v ≡ finished p f
     unfolding finished
-    elsewhere n = simp (ap (λ (z : ℕ). eqb z 0) (sym ex) ∙ eq-eqb x 0 none, ap (λ (z : ℕ). eqb z 1) (sym ey) ∙ ne_eqb y 1 n)
+    elsewhere n = tested_no _ _ (in_order p f (start p 1 + 1) 2 (count (index_shape p) (block_at p f 1))) v e n
 
-    pub in-first : y ≡ 1 → (t : List ℕ) (n s : ℕ) (r : Bool) → r ≡ in_order p f (s + 1) 2 n → n ≡ count (index_shape p) t → t ≡ block_at p f 1 → s ≡ start p 1
-        → r ≡ finished p f
-    unfolding finished
-    in-first one t n s r er en et es =
-        er ∙ (λ j. in_order p f (es j + 1) 2 ((en ∙ ap (count (index_shape p)) et) j))
-        ∙ sym (simp (ap (λ (z : ℕ). eqb z 0) (sym ex) ∙ eq-eqb x 0 none, ap (λ (z : ℕ). eqb z 1) (sym ey) ∙ eq-eqb y 1 one))
+    module _ (y : v ≡ true) where
+      pub names-first : named p f 3 ≡ 1
+      names-first = eqb-true _ _ (and_both (eqb (chain_head f) 0) _ (sym e ∙ y)).1
+
+      pub in-first : (t : List ℕ) (n s : ℕ) (r : Bool) → r ≡ in_order p f (s + 1) 2 n → n ≡ count (index_shape p) t → t ≡ block_at p f 1 → s ≡ start p 1
+          → r ≡ finished p f
+      unfolding finished
+      in-first t n s r er en et es =
+          er ∙ (λ j. in_order p f (es j + 1) 2 ((en ∙ ap (count (index_shape p)) et) j))
+          ∙ tested_yes _ _ (in_order p f (start p 1 + 1) 2 (count (index_shape p) (block_at p f 1))) v e y
 
   module _ (w : Inspected p f) where
     pub whole-fit : Fit p f
@@ -186,15 +211,15 @@ module _ (p : Description) (f : List ℕ) where
     word-behind = let z = file-long p f whole-fit in omega arith
 
     -- the entries of block 1
-    module _ (y : ℕ) (ey : y ≡ get_or f (3 + p.k) 0) (one : y ≡ 1) (t : List ℕ) (n : ℕ) (en : n ≡ count (index_shape p) t) (et : t ≡ block_at p f 1) where
+    module _ (one : named p f 3 ≡ 1) (t : List ℕ) (n : ℕ) (en : n ≡ count (index_shape p) t) (et : t ≡ block_at p f 1) where
       counted : n ≡ count (index_shape p) (block_at p f 1)
       counted = en ∙ ap (count (index_shape p)) et
 
       pub entries-few : n ≤ I p
-      entries-few = rw counted (w.few (sym ey ∙ one))
+      entries-few = rw counted (w.few one)
 
       pub entries-named : (s : ℕ) → s ≡ start p 1 → NamesBlocks p f (s + 1) n
-      entries-named s es = rw (counted, es) (w.names (sym ey ∙ one))
+      entries-named s es = rw (counted, es) (w.names one)
 
       pub entries-inside : (s : ℕ) → s ≡ start p 1 → s + 1 + n * (p.k + 1) ≤ length f
       entries-inside s es =

@@ -1,73 +1,70 @@
 -- A call of the profile is the rules' where CONTROL is 1, and 020007 where it is not. The laws speak as the code does: s is the session, n the number of
--- the first refusal, d what the steps gave, r the answer, and b₁, w₁ are the words left.
+-- the refusal, d what the steps gave, r the answer, and b₁, w₁ are the words left.
 use Prim.Native.Nat.{ℕ}
 use mathlib.Core.Path.{◌≡◌, refl, sym, ap, ◌∙◌}
-use mathlib.Core.Bool.{Bool, true, false, not, ◌&&◌}
+use mathlib.Core.Bool.{Bool, true, false, cond}
 use mathlib.Core.List.{List, []}
-use borrow.Author.Tests.{eq-eqb, ne_eqb, not-true, not-false}
-use lib.ListN.{length}
-use Rattle.numbers.specs.Numbers.{done, wrong_size, is_closed, reading_only}
-use Rattle.numbers.specs.Checked.{Checked, passed, refused, ◌>>◌}
+use Rattle.numbers.specs.Numbers.{done, wrong_size, reading_only}
+use Rattle.numbers.specs.Checked.{Checked, passed, refused, ◌>>◌, require}
+use Rattle.numbers.proofs.Passed.{then-passed}
 use Rattle.words.specs.Words.{part, put}
-use Rattle.words.proofs.All.{and_both}
-use Rattle.words.proofs.Keys.{clash}
-use Rattle.drum.specs.declared.Description.{Description}
-use Rattle.drum.specs.Params.{sized}
 use Rattle.rules.specs.State.{State, Effect, Outcome, desc, lent, texts, holding, positioned, at_rest, unchanged, settle}
-use Rattle.rules.specs.Close.{close}
+use Rattle.rules.specs.Close.{close, close_checks, close_done}
 use Rattle.rules.specs.Told.{gave, told}
 use Rattle.rules.specs.declared.Done.{Done}
 use Rattle.rules.specs.Lookup.{flush_moves}
+use Rattle.drum.specs.declared.Description.{Description}
 use Rattle.drum.specs.Blocks.{written}
-use Rattle.face.specs.Checks.{refusing, plain_checks}
 use Rattle.face.specs.Counted.{counted, next}
-use Rattle.face.proofs.Refusing.{refusing-some, refusing-none, plain, plain-chain}
+use Rattle.face.proofs.Refusing.{plain, plain-chain}
 use Rattle.face.proofs.Chains.{Chain, seen_of, told-seen, refused-by}
-use Rattle.face.proofs.Closing.{sizes-no, opened-no, all_yes}
 use Rattle.reading.specs.declared.ReadingSession.{ReadingSession}
-use Rattle.reading.specs.declared.Answer.{Answer}
-use Rattle.reading.specs.Reading.{one_section, as_session, given, answered, profile, altering, read_close, read_alter}
+use Rattle.reading.specs.Answers.{Answer}
+use Rattle.reading.specs.Reading.{one_section, as_session, given, answered, profile, profile_checks, altering, read_close, read_alter}
 
--- which of the two it is
+-- the call itself
 pub profile-is : (call : State → Outcome) (st : State) → one_section (desc st) ≡ true → profile call st ≡ call st
 unfolding profile
 profile-is call st e = simp e
 
-pub profile-not : (call : State → Outcome) (st : State) → one_section (desc st) ≡ false → profile call st ≡ unchanged st wrong_size
-unfolding profile
-profile-not call st e = simp e
+-- its refusals: the profile's, and then the call's
+abbrev pub profiled : (State → Checked Bool) → State → Checked Bool
+profiled checks st = profile_checks (desc st) (checks st)
 
--- a refusal: all unchanged
-unchanged-by : (s : ReadingSession) (f b w : List ℕ) (n : ℕ) (r : Answer) (o : Outcome) → r ≡ record { number = n; transfers = 0; session = s }
-    → o ≡ unchanged (given s f b w) n → answered r f b w ≡ counted o
-unchanged-by s f b w n r o e h = (λ j. answered (e j) f b w) ∙ sym (ap counted h)
+-- what is behind the profile's test, once all has passed
+pub behind : (p : Description) (c : Checked Bool) → passed true ≡ profile_checks p c → passed true ≡ c
+behind p c e = sym (then-passed (one_section p) wrong_size c true (sym e)).1
 
-module _ (call : State → Outcome) where
-  pub read-many : (s : ReadingSession) (f b w : List ℕ) (r : Answer) → r ≡ record { number = wrong_size; transfers = 0; session = s }
-      → (s.desc.control ≡ 1 → ⊥) → answered r f b w ≡ counted (profile call (given s f b w))
-  read-many s f b w r e n = unchanged-by s f b w wrong_size r _ e (profile-not call (given s f b w) (ne_eqb _ _ n))
+pub read-chain : {call : State → Outcome} {checks : State → Checked Bool} {steps : State → Checked Effect} → Chain call checks steps
+    → Chain (profile call) (profiled checks) steps
+unfolding profile settle
+read-chain {call} {checks} {steps} chain = record { is = λ st. go st (one_section (desc st)) }
+  where
+    go : (st : State) (t : Bool) → cond t (call st) (unchanged st wrong_size) ≡ settle st ((require t wrong_size >> checks st) >> steps st)
+    go st true = chain.is st
+    go st false = refl
 
-module _ {call : State → Outcome} {checks : State → Checked Bool} {steps : State → Checked Effect} (chain : Chain call checks steps) where
+module _ {call : State → Outcome} {checks : State → Checked Bool} {steps : State → Checked Effect} (chain : Chain call checks steps)
+    (s : ReadingSession) (f b w : List ℕ) (r : Answer) where
+  abbrev from : State
+  from = given s f b w
+
   -- the answer of a call that is refused
-  pub read-refused : (s : ReadingSession) (f b w : List ℕ) (n : ℕ) (r : Answer) → r ≡ record { number = n; transfers = 0; session = s }
-      → refusing n ≡ checks (given s f b w) → (n ≡ 0 → ⊥) → s.desc.control ≡ 1 → answered r f b w ≡ counted (profile call (given s f b w))
-  read-refused s f b w n r e h z one =
-      let st = given s f b w in
+  pub read-refused : (n : ℕ) → r ≡ record { number = n; transfers = 0; session = s } → refused n ≡ profiled checks from
+      → answered r f b w ≡ counted (profile call from)
+  read-refused n e h =
       (λ j. answered (e j) f b w)
-      ∙ sym (ap counted (profile-is call st (eq-eqb _ _ one) ∙ chain.is st) ∙ refused-by st (checks st) n (steps st) (sym h ∙ refusing-some n z))
+      ∙ sym (ap counted ((read-chain chain).is from) ∙ refused-by from (profiled checks from) n (steps from) (sym h))
 
   -- the answer of a call whose steps are made
-  pub read_told : (s : ReadingSession) (f b w b₁ w₁ : List ℕ) (n : ℕ) (d : Done) (r : Answer)
-      → gave d f b₁ w₁ ≡ told (texts (given s f b w)) false w (steps (given s f b w))
+  pub read_told : (b₁ w₁ : List ℕ) (d : Done) → gave d f b₁ w₁ ≡ told (texts from) false w (steps from)
       → (r.number ≡ d.number) × (r.transfers ≡ d.transfers) × (as_session r.session ≡ next (as_session s) d w₁)
-      → refusing n ≡ checks (given s f b w) → n ≡ 0 → s.desc.control ≡ 1 → answered r f b₁ w₁ ≡ counted (profile call (given s f b w))
-  read_told s f b w b₁ w₁ n d r e a h z one =
-      let st = given s f b w in
-      let c : checks st ≡ passed true = sym h ∙ refusing-none n z in
+      → passed true ≡ profiled checks from → answered r f b₁ w₁ ≡ counted (profile call from)
+  read_told b₁ w₁ d e a h =
       (λ j. record { number = a.0 j; transfers = a.1 j; after = lent (a.2 j) f b₁ w₁ })
       ∙ ap (seen_of (as_session s)) e
-      ∙ told-seen st (steps st)
-      ∙ sym (ap counted (profile-is call st (eq-eqb _ _ one) ∙ chain.is st ∙ ap (λ (x : Checked Bool). settle st (x >> steps st)) c))
+      ∙ told-seen from (steps from)
+      ∙ sym (ap counted ((read-chain chain).is from ∙ ap (λ (x : Checked Bool). settle from (x >> steps from)) (sym h)))
 
 -- the session of an answer, where the steps left the flag off
 module _ (s : ReadingSession) (d : Done) (w : List ℕ) (off : d.flag ≡ false) where
@@ -91,65 +88,43 @@ pub alter-chain : Chain altering plain alter-steps
 unfolding altering
 alter-chain = record { is = λ st. ap (settle st) (plain-chain st (refused reading_only)) }
 
-pub read_only : (s : ReadingSession) (f b w : List ℕ) (n : ℕ) (r : Answer) → r ≡ record { number = reading_only; transfers = 0; session = s }
-    → refusing n ≡ plain_checks s.desc s.opened (length f) (length b) (length w) → n ≡ 0 → s.desc.control ≡ 1
-    → answered r f b w ≡ counted (read_alter (given s f b w))
+pub read_only : (s : ReadingSession) (f b w : List ℕ) (r : Answer) → r ≡ record { number = reading_only; transfers = 0; session = s }
+    → passed true ≡ profiled plain (given s f b w) → answered r f b w ≡ counted (read_alter (given s f b w))
 unfolding settle
-read_only s f b w n r e h z one =
+read_only s f b w r e h =
     let st = given s f b w in
-    let c : plain st ≡ passed true = sym h ∙ refusing-none n z in
-    unchanged-by s f b w reading_only r _ e
-    (profile-is altering st (eq-eqb _ _ one) ∙ alter-chain.is st ∙ ap (λ (x : Checked Bool). settle st (x >> refused reading_only)) c)
-
--- ---- the test of the sizes: t is what it gave
-
-pub fitting-many : (p : Description) (file buffer : ℕ) → (p.control ≡ 1 → ⊥) → false ≡ (one_section p && sized p file buffer)
-fitting-many p file buffer n = simp (ne_eqb _ _ n)
-
-pub fitting-by : (p : Description) (file buffer : ℕ) (t : Bool) → t ≡ sized p file buffer → p.control ≡ 1 → t ≡ (one_section p && sized p file buffer)
-fitting-by p file buffer t e one = simp (eq-eqb _ _ one) e
-
-module _ (p : Description) (file buffer : ℕ) (t : Bool) (e : t ≡ (one_section p && sized p file buffer)) where
-  pub fit-one : not t ≡ false → one_section p ≡ true
-  fit-one h = (and_both (one_section p) (sized p file buffer) (sym e ∙ not-false t h)).0
-
-  pub fit-sized : not t ≡ false → sized p file buffer ≡ true
-  fit-sized h = (and_both (one_section p) (sized p file buffer) (sym e ∙ not-false t h)).1
-
-  -- where it does not hold, one of the two does not
-  pub fit_none : {A : Type 0} → not t ≡ true → (one_section p ≡ false → A) → (one_section p ≡ true → sized p file buffer ≡ false → A) → A
-  fit_none {A} h many size = go (one_section p) (sized p file buffer) refl refl (sym e ∙ not-true t h)
-    where
-      go : (x y : Bool) → one_section p ≡ x → sized p file buffer ≡ y → (one_section p && sized p file buffer) ≡ false → A
-      go false y ex ey q = many ex
-      go true false ex ey q = size ex ey
-      go true true ex ey q = absurd (clash (sym (simp (ex, ey)) ∙ q))
+    (λ j. answered (e j) f b w)
+    ∙ sym (ap counted ((read-chain alter-chain).is st ∙ ap (λ (x : Checked Bool). settle st (x >> refused reading_only)) (sym h)))
 
 -- ---- CLOSE
 
-module _ (s : ReadingSession) (f b : List ℕ) (r : Answer) (t : Bool) (i : t ≡ (one_section s.desc && sized s.desc (length f) (length b))) where
-  abbrev st : State
-  st = given s f b []
+-- a test behind which nothing is asked
+pub last_asked : (t : Bool) (n : ℕ) (c : Checked Bool) → c ≡ require t n → c ≡ (require t n >> passed true)
+last_asked true n c e = e
+last_asked false n c e = e
 
-  pub close-sizes : r ≡ record { number = wrong_size; transfers = 0; session = s } → not t ≡ true → answered r f b [] ≡ counted (read_close st)
-  close-sizes e h =
-      unchanged-by s f b [] wrong_size r _ e
-      (fit_none s.desc (length f) (length b) t i h (profile-not close st) (λ one no. profile-is close st one ∙ sizes-no st no))
+module _ (s : ReadingSession) (f b : List ℕ) where
+  abbrev shut : State
+  shut = given s f b []
 
-  pub close-shut : r ≡ record { number = is_closed; transfers = 0; session = s } → not t ≡ false → not s.opened ≡ true
-      → answered r f b [] ≡ counted (read_close st)
-  close-shut e h o =
-      let one = fit-one s.desc (length f) (length b) t i h in
-      let fit = fit-sized s.desc (length f) (length b) t i h in
-      unchanged-by s f b [] is_closed r _ e (profile-is close st one ∙ opened-no st fit (not-true s.opened o))
+  closing : read_close shut ≡ close_done shut (profiled close_checks shut)
+  unfolding profile close close_done
+  closing = go (one_section s.desc)
+    where
+      go : (t : Bool) → cond t (close shut) (unchanged shut wrong_size) ≡ close_done shut (require t wrong_size >> close_checks shut)
+      go true = refl
+      go false = refl
 
-pub close-done : (s rest : ReadingSession) (f b : List ℕ) (t : Bool) → as_session rest ≡ at_rest false (as_session s)
-    → t ≡ (one_section s.desc && sized s.desc (length f) (length b)) → not t ≡ false → not s.opened ≡ false
-    → answered (record { number = done; transfers = 0; session = rest }) f b [] ≡ counted (read_close (given s f b []))
-unfolding flush_moves written
-close-done s rest f b t e i h o =
-    let st = given s f b [] in
-    let one = fit-one s.desc (length f) (length b) t i h in
-    let fit = fit-sized s.desc (length f) (length b) t i h in
-    (λ j. record { number = done; transfers = 0; after = lent (e j) f b [] })
-    ∙ sym (ap counted (profile-is close st one ∙ all_yes st fit (not-false s.opened o) refl))
+  -- a refusal leaves all as it was
+  pub close_early : (n : ℕ) (r : Answer) → r ≡ record { number = n; transfers = 0; session = s } → refused n ≡ profiled close_checks shut
+      → answered r f b [] ≡ counted (read_close shut)
+  unfolding close_done
+  close_early n r e h = (λ j. answered (e j) f b []) ∙ sym (ap counted (closing ∙ ap (close_done shut) (sym h)))
+
+  -- nothing is written
+  pub close-done : (rest : ReadingSession) → as_session rest ≡ at_rest false (as_session s) → passed true ≡ profiled close_checks shut
+      → answered (record { number = done; transfers = 0; session = rest }) f b [] ≡ counted (read_close shut)
+  unfolding close_done flush_moves written
+  close-done rest e h =
+      (λ j. record { number = done; transfers = 0; after = lent (e j) f b [] })
+      ∙ sym (ap counted (closing ∙ ap (close_done shut) (sym h)))

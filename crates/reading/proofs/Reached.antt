@@ -1,6 +1,6 @@
 -- A block reached where nothing is flagged: nothing is written, so the words of the file are those that came in.
 use mathlib.Core.Path.{◌≡◌, refl, ap, ◌∙◌, subst}
-use mathlib.Core.Bool.{Bool, false}
+use mathlib.Core.Bool.{false}
 use mathlib.Core.List.{List}
 use Prim.Native.Nat.{ℕ, ◌+◌, ◌≤◌}
 use native.Mathlib.Omega.{arith}
@@ -19,16 +19,14 @@ use Rattle.rules.specs.declared.Step.{Step}
 use Rattle.rules.specs.declared.Step.TheVariants.{Beyond}
 use Rattle.rules.specs.declared.Done.{Done}
 use Rattle.rules.specs.Lookup.{flush_moves, bringing, reached, stopping}
-use Rattle.rules.specs.Fits.{WayFits, StepFits}
+use Rattle.rules.specs.Fits.{WayFits}
 use Rattle.rules.specs.Seek.{seek_done}
-use Rattle.rules.specs.Adv.{adv_reads, adv_done, adv_step, adv_steps}
+use Rattle.rules.specs.Adv.{adv_reads, adv_done}
 use Rattle.rules.specs.Told.{gave, told}
 use Rattle.acts.specs.declared.Arrived.{Arrived}
 use Rattle.acts.specs.Reach.{come, came}
-use Rattle.adv.specs.Answers.{as_step, handed}
+use Rattle.adv.specs.Answers.{handed}
 use Rattle.adv.proofs.Given.{adv-beyond-told}
-use Rattle.adv.proofs.Fits.{step_fits}
-use Rattle.adv.proofs.Steps.{adv-told}
 
 module _ (p : Description) (cur : ℕ) (f b : List ℕ) where
   abbrev v : Texts
@@ -53,12 +51,12 @@ module _ (p : Description) (cur : ℕ) (f b : List ℕ) where
     by-come t et = rw e (λ j. record { file = f; current = w.detail; flag = false; buffer = et j; transfers = 2 })
 
   -- SEEK does not find the key
-  pub missing-told : (l : Look) (w : Path) (work : List ℕ) (here : Arrived) (t : List ℕ) → came here f t ≡ come (reached v false (By w)) → l ≡ Missing w
-      → gave (record { number = not_found; transfers = here.transfers; current = here.current; flag = here.flag; keyed = false }) f t work
-      ≡ told v false work (seek_done v false work l)
+  pub missing-told : (l : Look) (w : Path) (work : List ℕ) (here : Arrived) (t : List ℕ) (r : Done) → came here f t ≡ come (reached v false (By w))
+      → l ≡ Missing w → r ≡ record { number = not_found; transfers = here.transfers; current = here.current; flag = here.flag; keyed = false }
+      → gave r f t work ≡ told v false work (seek_done v false work l)
   unfolding seek_done stopping
-  missing-told l w work here t e el =
-      rw el (λ j. record {
+  missing-told l w work here t r e el er =
+      rw (el, er) (λ j. record {
         number = not_found;
         transfers = (e j).transfers;
         current = (e j).current;
@@ -78,15 +76,3 @@ module _ (p : Description) (cur : ℕ) (f b : List ℕ) where
       let none : n ≡ 0 + n = omega arith in
       let read = er ∙ ap (λ (m : ℕ). handed p t i (record { transfers = m; current = x.detail; flag = false })) none in
       adv-beyond-told p cur f b false s w x i es 0 n work given f t r refl en refl et read eg
-
-  -- ADV's step, planned with the flag that is off
-  module _ (flag placed : Bool) (key : List ℕ) (s : Step) (e : as_step s ≡ adv_step v flag placed key) (off : flag ≡ false) where
-    planned : as_step s ≡ adv_step v false placed key
-    planned = e ∙ ap (λ (z : Bool). adv_step v z placed key) off
-
-    pub plan-fits : StepFits v false s
-    plan-fits = step_fits v false placed key s planned
-
-    pub plan-told : (r : Done) (g t w work : List ℕ) → gave r g t w ≡ told v false work (adv_done v false s)
-        → gave r g t w ≡ told v false work (adv_steps v false placed key)
-    plan-told r g t w work h = adv-told v false placed key work s r g t w planned h

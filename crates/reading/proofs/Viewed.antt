@@ -1,9 +1,9 @@
 -- VIEW of the profile: one law for each return of the test whether a block is shown, and of the code that lends its part.
-use Prim.Native.Nat.{ℕ, ◌≤◌, ◌<◌}
+use Prim.Native.Nat.{ℕ, ◌≤◌}
 use mathlib.Core.Path.{◌≡◌, refl, sym, ap, ◌∙◌}
-use mathlib.Core.Bool.{Bool, true, false, cond, not, ◌&&◌, and-false}
+use mathlib.Core.Bool.{Bool, true, false, cond, not, ◌&&◌}
 use mathlib.Core.List.{List, []}
-use borrow.Author.Tests.{not-true, not-false, lt-leb, le-leb, leb-true}
+use borrow.Author.Tests.{not-true, not-false, leb-true}
 use lib.Dec.{leb}
 use lib.ListN.{length}
 use Rattle.numbers.specs.Checked.{between}
@@ -16,27 +16,25 @@ use Rattle.rules.specs.Close.{view}
 use Rattle.face.specs.Parts.{shown}
 use Rattle.reading.specs.declared.ReadingSession.{ReadingSession}
 use Rattle.reading.specs.Reading.{one_section, as_session, read_shown, read_part}
-use Rattle.reading.proofs.Profile.{fit-one, fit-sized, fit_none}
 
--- ---- whether a block is shown: t is the test of the sizes
+-- ---- whether a block is shown: the tests, one after the other
 
-module _ (s : ReadingSession) (file buffer b : ℕ) (t : Bool) (e : t ≡ (one_section s.desc && sized s.desc file buffer)) where
-  pub shows-sizes : not t ≡ true → false ≡ read_shown (as_session s) file buffer b
-  unfolding read_shown shown
-  shows-sizes h = fit_none s.desc file buffer t e h (λ many. simp many) (λ one no. simp (one, no, and-false))
+regrouped : (a o z l m : Bool) → ((((a && o) && z) && l) && m) ≡ (a && (o && (z && (l && m))))
+regrouped false o z l m = refl
+regrouped true false z l m = refl
+regrouped true true false l m = refl
+regrouped true true true l m = refl
 
-  module _ (h : not t ≡ false) where
-    pub shows-closed : not s.opened ≡ true → false ≡ read_shown (as_session s) file buffer b
-    unfolding read_shown shown
-    shows-closed o = simp (fit-one s.desc file buffer t e h, not-true s.opened o)
+-- u, v, w are what the first two, three and four tests came to
+module _ (a o z l m u v w : Bool) (eu : u ≡ (a && o)) (ev : v ≡ (u && z)) (ew : w ≡ (v && l)) where
+  four : (w && m) ≡ (a && (o && (z && (l && m))))
+  four = (λ j. (ew ∙ ap (λ (x : Bool). x && l) (ev ∙ ap (λ (x : Bool). x && z) eu)) j && m) ∙ regrouped a o z l m
 
-    pub shows-below : not s.opened ≡ false → b < 1 → false ≡ read_shown (as_session s) file buffer b
-    unfolding read_shown shown
-    shows-below o l = simp (fit-one s.desc file buffer t e h, not-false s.opened o, fit-sized s.desc file buffer t e h, lt-leb 1 b l)
+  pub shown-when : w ≡ true → m ≡ (a && (o && (z && (l && m))))
+  shown-when h = sym (ap (λ (x : Bool). x && m) h) ∙ four
 
-    pub shows-last : not s.opened ≡ false → 1 ≤ b → leb b s.desc.n ≡ read_shown (as_session s) file buffer b
-    unfolding read_shown shown
-    shows-last o l = simp (fit-one s.desc file buffer t e h, not-false s.opened o, fit-sized s.desc file buffer t e h, le-leb 1 b l)
+  pub shown_not : w ≡ false → w ≡ (a && (o && (z && (l && m))))
+  shown_not h = h ∙ sym (ap (λ (x : Bool). x && m) h) ∙ four
 
 -- ---- what a block that is shown is: t is the test above
 

@@ -3,7 +3,7 @@ use Rattle.std.specs.Prelude.{ℕ, ◌≤◌, ◌≡◌, true, false, ◌⊎◌,
 use Rattle.numbers.specs.Numbers.{reading_only}
 use Rattle.drum.specs.Params.{sized}
 use Rattle.drum.specs.Blocks.{writes}
-use Rattle.rules.specs.State.{State, Outcome, desc, lent, unchanged}
+use Rattle.rules.specs.State.{State, Outcome, lent, unchanged}
 use Rattle.rules.specs.Seek.{seek}
 use Rattle.rules.specs.Adv.{adv}
 use Rattle.rules.specs.Open.{open_file}

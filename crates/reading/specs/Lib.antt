@@ -1,3 +1,4 @@
+pub mod Answers
 pub mod Finished
 pub mod Reading
 pub mod Fits

@@ -4,7 +4,7 @@ use Rattle.drum.specs.Parts.{Borrowed, part_of}
 use Rattle.rules.specs.State.{Session, Outcome}
 use Rattle.rules.specs.Open.{Opened}
 use Rattle.face.specs.Counted.{counted, counted_open}
-use Rattle.reading.specs.declared.Answer.{Answer}
+use Rattle.reading.specs.Answers.{Answer}
 use Rattle.reading.specs.Reading.{answered, answered_open, read_part}
 
 -- of each promise: the answer with its session, and every word lent

@@ -1,7 +1,7 @@
 -- Document 02, "The reading set": a profile with SEEK, ADV and VIEW only, CONTROL 1. Its calls are the rules' own on a session whose flag is off.
 use Rattle.std.specs.Prelude.{ℕ, Bool, false, cond, ◌&&◌, List, [], eqb, length}
 use Rattle.numbers.specs.Numbers.{wrong_size, reading_only}
-use Rattle.numbers.specs.Checked.{Checked, passed, refused, ◌>>=◌, ◌>>◌, require}
+use Rattle.numbers.specs.Checked.{Checked, passed, refused, ◌>>◌, require}
 use Rattle.drum.specs.declared.Description.{Description}
 use Rattle.drum.specs.Parts.{Borrowed, Part, part_text}
 use Rattle.rules.specs.State.{Session, State, Outcome, desc, lent, unchanged, settle}
@@ -14,7 +14,7 @@ use Rattle.face.specs.Counted.{Counted, CountedOpen}
 use Rattle.face.specs.Parts.{shown}
 use Rattle.reading.specs.Finished.{finished_marks}
 use Rattle.reading.specs.declared.ReadingSession.{ReadingSession}
-use Rattle.reading.specs.declared.Answer.{Answer}
+use Rattle.reading.specs.Answers.{Answer}
 
 -- "CONTROL 1": the profile is of files with one section [V1]
 abbrev pub one_section : Description → Bool
@@ -38,6 +38,10 @@ given s f b w = lent (as_session s) f b w
 -- a call of the profile: 020007 where CONTROL is not 1, else the call itself [V1, N1]
 unfoldable pub profile : (State → Outcome) → State → Outcome
 profile call st = cond (one_section (desc st)) (call st) (unchanged st wrong_size)
+
+-- what refuses a call of the profile: 020007 where CONTROL is not 1, and then the call's own refusals [V1, N1]
+abbrev pub profile_checks : Description → Checked Bool → Checked Bool
+profile_checks p checks = require (one_section p) wrong_size >> checks
 
 -- SEEK and ADV of the profile are the rules' [V1]
 abbrev pub read_seek : State → Outcome

@@ -1,58 +1,98 @@
 // The calls of a reading session. None has a condition on what it is given.
-ghost use Rattle.std.specs.Prelude.{◌≡◌, []};
+ghost use Rattle.std.specs.Prelude.{◌≡◌, [], length};
+ghost use Rattle.numbers.specs.Refused.{tested};
 ghost use Rattle.drum.specs.Parts.{part_of};
+ghost use Rattle.rules.specs.Open.{open_checks};
+ghost use Rattle.rules.specs.Close.{close_checks};
+ghost use Rattle.face.specs.Checks.{plain_checks, keyed_checks};
 ghost use Rattle.face.specs.Counted.{counted, counted_open};
 ghost use Rattle.reading.specs.Reading.{as_session, given, answered, answered_open, read_open, read_close, read_seek, read_adv, read_alter};
-ghost use Rattle.reading.specs.Reading.{read_shown, read_part};
+ghost use Rattle.reading.specs.Reading.{profile_checks, read_shown, read_part};
 
-use super::{Answer, ReadingSession, finished, is_fitting, steps};
+use super::{Answer, ReadingSession, finished, steps};
 use face::{refused_key, refused_plain};
-use numbers::{ALREADY_OPEN, BAD_FILE, DONE, IS_CLOSED, READING_ONLY, WRONG_SIZE};
-use rules::Held;
+use numbers::{DONE, Refusal, require};
 
 impl ReadingSession {
+    // What refuses OPEN before the file is looked at.
+    fn open_checks(self, file: &[u32], buffer: &[u32], marks: &[u8]) -> Result<(), Refusal>
+        ensures { tested result
+            ≡ profile_checks self.desc (open_checks (given self file.now buffer.now []) marks.now) }
+    {
+        let p = self.desc;
+        require(p.control == 1, Refusal::WrongSize)?;
+        require(p.is_sized(file.len(), buffer.len()), Refusal::WrongSize)?;
+        require(marks.len() == p.n, Refusal::WrongSize)?;
+        require(!self.opened, Refusal::AlreadyOpen)
+    }
+
     // OPEN: the file is inspected, and every block marked: 1 reached from the master, 0 never used.
     pub fn open(self, file: &[u32], buffer: &[u32], marks: &mut [u8]) -> Answer
         ensures { answered_open result file.now buffer.now marks.new
             ≡ counted_open (read_open (given self file.now buffer.now []) marks.old) }
     {
+        match self.open_checks(file, buffer, marks) {
+            Ok(()) => {
+                if !finished::inspect(self.desc, file, marks) {
+                    return self.refused(Refusal::BadFile);
+                }
+                Answer {
+                    number: DONE,
+                    transfers: 0,
+                    session: self.at_rest(true),
+                }
+            }
+            Err(refusal) => self.refused(refusal),
+        }
+    }
+
+    // What refuses CLOSE: as nothing is flagged, no number of a file can.
+    fn close_checks(self, file: &[u32], buffer: &[u32]) -> Result<(), Refusal>
+        ensures { tested result
+            ≡ profile_checks self.desc (close_checks (given self file.now buffer.now [])) }
+    {
         let p = self.desc;
-        if !is_fitting(p, file.len(), buffer.len()) {
-            return self.refused(WRONG_SIZE);
-        }
-        if marks.len() != p.n {
-            return self.refused(WRONG_SIZE);
-        }
-        if self.opened {
-            return self.refused(ALREADY_OPEN);
-        }
-        if !finished::inspect(p, file, marks) {
-            return self.refused(BAD_FILE);
-        }
-        let rest = self.at_rest(true);
-        Answer {
-            number: DONE,
-            transfers: 0,
-            session: rest,
-        }
+        require(p.control == 1, Refusal::WrongSize)?;
+        require(p.is_sized(file.len(), buffer.len()), Refusal::WrongSize)?;
+        require(self.opened, Refusal::IsClosed)
     }
 
     // CLOSE: the session is closed; there is nothing to write.
     pub fn close(self, file: &[u32], buffer: &[u32]) -> Answer
         ensures { answered result file.now buffer.now [] ≡ counted (read_close (given self file.now buffer.now [])) }
     {
-        if !is_fitting(self.desc, file.len(), buffer.len()) {
-            return self.refused(WRONG_SIZE);
+        match self.close_checks(file, buffer) {
+            Ok(()) => Answer {
+                number: DONE,
+                transfers: 0,
+                session: self.at_rest(false),
+            },
+            Err(refusal) => self.refused(refusal),
         }
-        if !self.opened {
-            return self.refused(IS_CLOSED);
-        }
-        let rest = self.at_rest(false);
-        Answer {
-            number: DONE,
-            transfers: 0,
-            session: rest,
-        }
+    }
+
+    // What refuses SEEK: the profile's test, and then the face's.
+    fn keyed_checks(self, file: &[u32], buffer: &[u32], work: &[u32]) -> Result<(), Refusal>
+        ensures { tested result
+            ≡ profile_checks
+            self.desc
+            (keyed_checks self.desc self.opened (length file.now) (length buffer.now) work.now self.desc.k) }
+    {
+        let p = self.desc;
+        require(p.control == 1, Refusal::WrongSize)?;
+        refused_key(p, self.opened, file.len(), buffer.len(), work, p.k)
+    }
+
+    // What refuses ADV and the altering calls.
+    fn plain_checks(self, file: &[u32], buffer: &[u32], work: &[u32]) -> Result<(), Refusal>
+        ensures { tested result
+            ≡ profile_checks
+            self.desc
+            (plain_checks self.desc self.opened (length file.now) (length buffer.now) (length work.now)) }
+    {
+        let p = self.desc;
+        require(p.control == 1, Refusal::WrongSize)?;
+        refused_plain(p, self.opened, file.len(), buffer.len(), work.len())
     }
 
     // SEEK: the record with the workspace's key to the workspace.
@@ -60,22 +100,13 @@ impl ReadingSession {
         ensures { answered result file.now buffer.new work.new
             ≡ counted (read_seek (given self file.now buffer.old work.old)) }
     {
-        let p = self.desc;
-        if p.control != 1 {
-            return self.refused(WRONG_SIZE);
+        match self.keyed_checks(file, buffer, work) {
+            Ok(()) => {
+                let done = steps::seek(self.at(), file, buffer, work);
+                self.after(done, work)
+            }
+            Err(refusal) => self.refused(refusal),
         }
-        let k = p.k;
-        let number = refused_key(p, self.opened, file.len(), buffer.len(), work, k);
-        if number != 0 {
-            return self.refused(number);
-        }
-        let at = Held {
-            desc: p,
-            current: self.current,
-            flag: false,
-        };
-        let done = steps::seek(at, file, buffer, work);
-        self.after(done, work)
     }
 
     // ADV: the record with the least key above position to the workspace.
@@ -83,22 +114,14 @@ impl ReadingSession {
         ensures { answered result file.now buffer.new work.new
             ≡ counted (read_adv (given self file.now buffer.old work.old)) }
     {
-        let p = self.desc;
-        if p.control != 1 {
-            return self.refused(WRONG_SIZE);
+        match self.plain_checks(file, buffer, work) {
+            Ok(()) => {
+                let position = self.position;
+                let done = steps::adv(self.at(), self.placed, &position, file, buffer, work);
+                self.after(done, work)
+            }
+            Err(refusal) => self.refused(refusal),
         }
-        let number = refused_plain(p, self.opened, file.len(), buffer.len(), work.len());
-        if number != 0 {
-            return self.refused(number);
-        }
-        let position = self.position;
-        let at = Held {
-            desc: p,
-            current: self.current,
-            flag: false,
-        };
-        let done = steps::adv(at, self.placed, &position, file, buffer, work);
-        self.after(done, work)
     }
 
     // Whether VIEW of block b lends a text.
@@ -106,16 +129,7 @@ impl ReadingSession {
         ensures { result ≡ read_shown (as_session self) file buffer b }
     {
         let p = self.desc;
-        if !is_fitting(p, file, buffer) {
-            return false;
-        }
-        if !self.opened {
-            return false;
-        }
-        if b < 1 {
-            return false;
-        }
-        b <= p.n
+        p.control == 1 && self.opened && p.is_sized(file, buffer) && 1 <= b && b <= p.n
     }
 
     // VIEW: the current text of block b, a part of the buffer or of the file, or else an empty part.
@@ -133,15 +147,10 @@ impl ReadingSession {
         ensures { answered result file.now buffer.now work.now
             ≡ counted (read_alter (given self file.now buffer.now work.now)) }
     {
-        let p = self.desc;
-        if p.control != 1 {
-            return self.refused(WRONG_SIZE);
+        match self.plain_checks(file, buffer, work) {
+            Ok(()) => self.refused(Refusal::ReadingOnly),
+            Err(refusal) => self.refused(refusal),
         }
-        let number = refused_plain(p, self.opened, file.len(), buffer.len(), work.len());
-        if number != 0 {
-            return self.refused(number);
-        }
-        self.refused(READING_ONLY)
     }
 
     // NSERT, refused.

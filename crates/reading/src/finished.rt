@@ -14,12 +14,7 @@ fn holds_fd(p: Description, file: &[u32], b: usize, behind: usize) -> bool
     requires { Fit p file.now × Block p b }
     ensures { result ≡ holds_fd p file.now b behind }
 {
-    if behind == 0 {
-        return true;
-    }
-    let t = layout::block_of(p, file, b);
-    let n = kinds::records_in(p, t);
-    n == p.fd()
+    behind == 0 || kinds::records_in(p, layout::block_of(p, file, b)) == p.fd()
 }
 
 // Whether the entry at place e, behind which so many come, names block b, which is then looked at.
@@ -27,11 +22,7 @@ fn entry_ok(p: Description, file: &[u32], e: usize, b: usize, behind: usize) -> 
     requires { Fit p file.now × (e + (p.k + 1) ≤ length file.now) × Block p (named p file.now e) }
     ensures { result ≡ entry_ok p file.now e b behind }
 {
-    let block = words::word_at(file, e + p.k);
-    if block != b {
-        return false;
-    }
-    holds_fd(p, file, b, behind)
+    words::word_at(file, e + p.k) == b && holds_fd(p, file, b, behind)
 }
 
 // Whether the n entries from place e on name block 2, the next one, and so on, each with FD records but the last.
@@ -39,16 +30,10 @@ fn in_order(p: Description, file: &[u32], e: usize, n: usize) -> bool
     requires { Fit p file.now × (n ≤ I p) × (e + n * (p.k + 1) ≤ length file.now) × NamesBlocks p file.now e n }
     ensures { result ≡ in_order p file.now e 2 n }
 {
-    let mut at = e;
-    let mut b = 2;
-    let mut left = n;
-    while 0 < left {
-        if !entry_ok(p, file, at, b, left - 1) {
+    for i in 0..n {
+        if !entry_ok(p, file, e + i * (p.k + 1), 2 + i, n - (i + 1)) {
             return false;
         }
-        at += p.k + 1;
-        b += 1;
-        left -= 1;
     }
     true
 }
@@ -58,18 +43,17 @@ fn is_finished(p: Description, file: &[u32]) -> bool
     requires { Inspected p file.now }
     ensures { result ≡ is_finished p file.now }
 {
-    if words::word_at(file, 1) != 0 {
-        return false;
-    }
-    if words::word_at(file, 3 + p.k) != 1 {
-        return false;
-    }
-    let t = layout::block_of(p, file, 1);
-    let n = kinds::entries_in(p, t);
-    in_order(p, file, p.start(1) + 1, n)
+    words::word_at(file, 1) == 0
+        && words::word_at(file, 3 + p.k) == 1
+        && in_order(
+            p,
+            file,
+            p.start(1) + 1,
+            kinds::entries_in(p, layout::block_of(p, file, 1)),
+        )
 }
 
-// Whether the file is as under Layout and finished; the marks if so, and all 0 if not.
+// Whether the file is as under Layout and finished; the marks if so, and all 0 if not. A bool, as layout's own: what it refuses has one number.
 pub fn inspect(p: Description, file: &[u32], marks: &mut [u8]) -> bool
     requires { Fit p file.now × (length marks.old ≡ p.n) }
     ensures { (finished_marks p file.now ≡ flagged result marks.new) × (marks.new ≡ left_marks p.n (finished_marks p file.now)) }

@@ -6,15 +6,15 @@ mod calls;
 mod finished;
 mod steps;
 
-ghost use Rattle.std.specs.Prelude.{◌≡◌, false, ◌&&◌, ◌≤◌, length, replicate};
-ghost use Rattle.words.specs.Words.{part, put};
-ghost use Rattle.drum.specs.Params.{sized};
+ghost use Rattle.std.specs.Prelude.{◌≡◌, false, ◌≤◌, length, replicate};
+ghost use Rattle.numbers.specs.Refused.{number_of};
 ghost use Rattle.rules.specs.State.{at_rest};
 ghost use Rattle.face.specs.Counted.{next};
-ghost use Rattle.reading.specs.Reading.{one_section, as_session};
+ghost use Rattle.reading.specs.Reading.{as_session};
 
 use drum::Description;
-use rules::Done;
+use numbers::Refusal;
+use rules::{Done, Held};
 
 // The parameters, open or closed, the current block (0 none), and the position: a key in its first K words, which means nothing unless `placed`.
 #[derive(Clone, Copy)]
@@ -27,30 +27,7 @@ pub struct ReadingSession {
 }
 
 // What a call answers: its number (crate `numbers`), the transfers it made, and the session to go on with.
-#[derive(Clone, Copy)]
-pub struct Answer {
-    pub number: u32,
-    pub transfers: usize,
-    pub session: ReadingSession,
-}
-
-// Whether the parameters are the profile's, and file and buffer of their lengths.
-fn is_fitting(p: Description, file: usize, buffer: usize) -> bool
-    ensures { result ≡ (one_section p && sized p file buffer) }
-{
-    if p.control != 1 {
-        return false;
-    }
-    p.is_sized(file, buffer)
-}
-
-// Writes the key of k words that stands first in the workspace over the first words of a position.
-fn put_key(position: &mut [u32; 63], work: &[u32], k: usize)
-    requires { (k ≤ 63) × (k ≤ length work.now) }
-    ensures { position.new ≡ put position.old 0 (part 0 k work.now) }
-{
-    words::copy_words(position, 0, work, 0, k);
-}
+pub type Answer = face::Answer<ReadingSession>;
 
 impl ReadingSession {
     // A closed session with these parameters.
@@ -66,12 +43,23 @@ impl ReadingSession {
         }
     }
 
+    // What the steps of a call work with: nothing is flagged.
+    fn at(self) -> Held
+        ensures { result ≡ record { desc = self.desc; current = self.current; flag = false } }
+    {
+        Held {
+            desc: self.desc,
+            current: self.current,
+            flag: false,
+        }
+    }
+
     // "all unchanged", no transfers.
-    fn refused(self, number: u32) -> Answer
-        ensures { result ≡ record { number = number; transfers = 0; session = self } }
+    fn refused(self, refusal: Refusal) -> Answer
+        ensures { result ≡ record { number = number_of refusal; transfers = 0; session = self } }
     {
         Answer {
-            number,
+            number: u32::from(refusal),
             transfers: 0,
             session: self,
         }
@@ -81,12 +69,13 @@ impl ReadingSession {
     fn at_rest(self, opened: bool) -> Self
         ensures { as_session result ≡ at_rest opened (as_session self) }
     {
-        let mut rest = self;
-        rest.opened = opened;
-        rest.current = 0;
-        rest.placed = false;
-        rest.position = [0; 63];
-        rest
+        Self {
+            opened,
+            current: 0,
+            placed: false,
+            position: [0; 63],
+            ..self
+        }
     }
 
     // The answer of a call whose steps are done, which flag nothing; position is the key that stands first in the workspace, where they say so.
@@ -104,7 +93,7 @@ impl ReadingSession {
         };
         next.session.current = done.current;
         if done.keyed {
-            put_key(&mut next.session.position, work, k);
+            face::put_key(&mut next.session.position, work, k);
             next.session.placed = true;
         }
         next

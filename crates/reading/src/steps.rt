@@ -1,4 +1,5 @@
 // The steps of SEEK and ADV where nothing is flagged: blocks are brought, and none is written.
+// They stay beside those of acts, seek and adv: those take a file that they may write, and this set promises that its file is lent to be read alone.
 ghost use Rattle.std.specs.Prelude.{◌≡◌, false, ◌≤◌, length};
 ghost use Rattle.words.specs.Words.{part};
 ghost use Rattle.drum.specs.Blocks.{Fitting};
@@ -10,7 +11,8 @@ ghost use Rattle.rules.specs.Told.{Follows};
 ghost use Rattle.acts.specs.Reach.{seen_by, come, came};
 
 use acts::Arrived;
-use numbers::{BAD_FILE, DONE, NOT_FOUND};
+use drum::Seen;
+use numbers::{DONE, NOT_FOUND};
 use rules::{Done, Held, Look, Step, Way};
 
 // Reaches the block at the end of the way.
@@ -25,7 +27,7 @@ fn reach(at: Held, file: &[u32], buffer: &mut [u32], way: Way) -> Arrived
             flag: false,
         },
         Way::By(w) => {
-            acts::load(at.desc, at.current, file, buffer, w.detail);
+            acts::load(at, file, buffer, w.detail);
             Arrived {
                 transfers: 2,
                 current: w.detail,
@@ -40,41 +42,37 @@ fn act_seek(l: Look, at: Held, file: &[u32], buffer: &mut [u32], work: &mut [u32
     requires { Fitting at.desc file.now buffer.old
         × (length work.old ≡ at.desc.wpr)
         × LookFits (seen_by at file.now buffer.old) false l }
-    ensures { Follows result (λ v flag work. seek_done v flag work l) at.desc at.current false (file.now, file.now) (buffer.old, buffer.new) (work.old, work.new) }
+    ensures { Follows result (λ v flag work. seek_done v flag work l)
+        at.desc at.current false (file.now, file.now) (buffer.old, buffer.new) (work.old, work.new) }
 {
     match l {
-        Look::Bad => Done::refused(BAD_FILE, at.current, false),
         Look::Found(way, i) => {
             let here = reach(at, file, buffer, way);
             acts::give(at.desc, buffer, work, i);
-            Done {
-                number: DONE,
-                transfers: here.transfers,
-                current: here.current,
-                flag: here.flag,
-                keyed: true,
-            }
+            here.done(DONE, here.flag, true)
         }
         Look::Missing(w) => {
             let here = reach(at, file, buffer, Way::By(w));
-            Done {
-                number: NOT_FOUND,
-                transfers: here.transfers,
-                current: here.current,
-                flag: here.flag,
-                keyed: false,
-            }
+            here.done(NOT_FOUND, here.flag, false)
         }
     }
 }
 
 // SEEK.
 pub fn seek(at: Held, file: &[u32], buffer: &mut [u32], work: &mut [u32]) -> Done
-    requires { Fitting at.desc file.now buffer.old × (length work.old ≡ at.desc.wpr) }
+    requires { (at.flag ≡ false) × Fitting at.desc file.now buffer.old × (length work.old ≡ at.desc.wpr) }
     ensures { Follows result seek_steps at.desc at.current false (file.now, file.now) (buffer.old, buffer.new) (work.old, work.new) }
 {
-    let l = lookup::look(at.desc, at.current, false, file, buffer, work);
-    act_seek(l, at, file, buffer, work)
+    let v = Seen {
+        desc: at.desc,
+        current: at.current,
+        file,
+        buffer,
+    };
+    match lookup::look(v, false, work) {
+        Ok(l) => act_seek(l, at, file, buffer, work),
+        Err(refusal) => at.refused(refusal),
+    }
 }
 
 // ADV, once the record is found.
@@ -85,13 +83,12 @@ fn act_adv(s: Step, at: Held, file: &[u32], buffer: &mut [u32], work: &mut [u32]
     ensures { Follows result (λ v flag work. adv_done v flag s) at.desc at.current false (file.now, file.now) (buffer.old, buffer.new) (work.old, work.new) }
 {
     match s {
-        Step::Bad => Done::refused(BAD_FILE, at.current, false),
         Step::At(way, i) => {
             let here = reach(at, file, buffer, way);
             adv::hand_over(at.desc, here, buffer, work, i)
         }
         Step::Beyond(w, x, i) => {
-            acts::load(at.desc, at.current, file, buffer, x.detail);
+            acts::load(at, file, buffer, x.detail);
             let here = Arrived {
                 transfers: adv::reads_beyond(w, x),
                 current: x.detail,
@@ -118,6 +115,14 @@ pub fn adv(
     ensures { Follows result (λ v flag work. adv_steps v flag placed (part 0 at.desc.k position.now))
         at.desc at.current false (file.now, file.now) (buffer.old, buffer.new) (work.old, work.new) }
 {
-    let s = adv::plan_adv(at, file, buffer, placed, position);
-    act_adv(s, at, file, buffer, work)
+    let v = Seen {
+        desc: at.desc,
+        current: at.current,
+        file,
+        buffer,
+    };
+    match adv::plan_adv(v, false, placed, position) {
+        Ok(s) => act_adv(s, at, file, buffer, work),
+        Err(refusal) => at.refused(refusal),
+    }
 }

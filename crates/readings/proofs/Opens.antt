@@ -22,7 +22,7 @@ use Rattle.layout.proofs.Exact.{open-exact, refused_none}
 use Rattle.rules.specs.State.{State, desc, texts, lent}
 use Rattle.rules.specs.Checks.{sizes_ok, is_open}
 use Rattle.rules.specs.Lookup.{flush_ok}
-use Rattle.rules.specs.Open.{Opened, create, open_file, open_layout}
+use Rattle.rules.specs.Open.{Opened, create, open_file, open_checks, open_layout}
 use Rattle.rules.specs.Close.{close, close_checks, close_done}
 use Rattle.rules.specs.Requests.{Request, answer, left}
 use Rattle.demands.specs.Promises.{put_back}
@@ -32,9 +32,8 @@ use Rattle.demands.proofs.Demands.{opened-desc}
 use Rattle.demands.proofs.Filled.{extended-filled}
 use Rattle.reading.specs.declared.ReadingSession.{ReadingSession}
 use Rattle.reading.specs.Finished.{finished, finished_marks}
-use Rattle.reading.specs.Reading.{given, read_open}
+use Rattle.reading.specs.Reading.{given, read_open, read_open_done}
 use Rattle.reading.proofs.Order.{not-laid, is-laid, not-finished}
-use Rattle.reading.proofs.Opened.{read-inspected}
 use Rattle.readings.specs.Trees.{Finished, OpensFinished, ReadingOpens, AllExtended}
 use Rattle.readings.proofs.Trees.{finished-tree, tree-finished}
 
@@ -70,7 +69,8 @@ module _ (s : ReadingSession) (f b w marks : List ℕ) (one : s.desc.control ≡
   size = (sized-facts p (length f) (length b) fit).file-is
 
   seen : read_open st marks ≡ open_layout st (finished_marks p f)
-  seen = read-inspected st marks (eq-eqb _ _ one) fit long shut
+  unfolding read_open read_open_done open_checks sizes_ok
+  seen = simp (eq-eqb _ _ one, fit, eq-eqb _ _ long, shut)
 
   opened : (ms : List ℕ) → finished_marks p f ≡ passed ms → ((read_open st marks).outcome.number ≡ done) × ((read_open st marks).marks ≡ ms)
   unfolding open_layout
@@ -130,10 +130,10 @@ closed-file st e =
     go false b c q = absurd (omega (arith, q))
 
 -- a run keeps the parameters
-left-desc : (st : State) (qs : List Request) → desc (left st qs) ≡ desc st
+left-desc : (s : State) (qs : List Request) → desc (left s qs) ≡ desc s
 unfolding left
-left-desc st [] = refl
-left-desc st (q ∷ qs) = left-desc (answer st q).after qs ∙ same-parameters st q
+left-desc s [] = refl
+left-desc s (q ∷ qs) = left-desc (answer s q).after qs ∙ same-parameters s q
 
 -- CREATE that answers 0 was given good parameters
 created-good : (p : Description) (f : List ℕ) → (create p f).number ≡ done → good_params p ≡ true

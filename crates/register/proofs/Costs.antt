@@ -16,7 +16,7 @@ use Rattle.rules.specs.Checks.{keyed_call}
 use Rattle.rules.specs.Lookup.{stopping, storing}
 use Rattle.rules.specs.Seek.{giving, seek_done, seek_steps, seek, updat_done, updat_steps, updat}
 use Rattle.rules.proofs.Sizes.{way-few}
-use Rattle.searchfile.specs.declared.Answer.{Answer}
+use Rattle.searchfile.specs.Answers.{Answer}
 use Rattle.searchfile.specs.Promise.{Counted, counted, answered}
 
 -- at most 3
@@ -26,7 +26,6 @@ Few e = length e.transfers ≤ 3
 module _ (v : Texts) (flag : Bool) (work : List ℕ) where
   seek-done : (l : Look) → Passed Few (seek_done v flag work l)
   unfolding seek_done giving stopping
-  seek-done look_is.Bad = search chain
   seek-done (look_is.Found way i) = by-passed _ (way-few v flag way)
   seek-done (look_is.Missing w) = by-passed _ (way-few v flag (By w))
 
@@ -36,7 +35,6 @@ module _ (v : Texts) (flag : Bool) (work : List ℕ) where
 
   updat-done : (l : Look) → Passed Few (updat_done v flag work l)
   unfolding updat_done storing stopping
-  updat-done look_is.Bad = search chain
   updat-done (look_is.Found way i) = by-passed _ (way-few v flag way)
   updat-done (look_is.Missing w) = by-passed _ (way-few v flag (By w))
 

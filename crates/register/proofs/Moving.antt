@@ -12,22 +12,17 @@ use Rattle.numbers.specs.Numbers.{done, wrong_key, not_allowed}
 use Rattle.numbers.specs.Checked.{Checked, passed, refused, ◌>>◌, require}
 use Rattle.words.specs.Words.{part, put, all_words}
 use Rattle.words.proofs.Parts.{part-all}
-use Rattle.drum.specs.declared.Description.{Description}
 use Rattle.rules.specs.State.{State, desc, key_in}
 use Rattle.rules.specs.Seek.{seek, updat}
 use Rattle.rules.specs.Requests.{lending}
 use Rattle.searchfile.specs.declared.Session as code
-use Rattle.searchfile.specs.declared.Answer.{Answer}
+use Rattle.searchfile.specs.Answers.{Answer}
 use Rattle.searchfile.specs.Promise.{Counted, given, counted, answered}
 use Rattle.register.specs.Names.{romanised, on_hold, name_of, state_of, spelling_of}
 use Rattle.register.specs.Register.{stopped, joined, sought, followed, move, spelled, turned, turn, hold, free}
 use Rattle.register.specs.Checks.{StateFits, SpellingFits, stopped_by, after}
 use Rattle.register.proofs.Records.{spelled-written, turned-written}
 use Rattle.register.proofs.Costs.{seek-few}
-
--- what a spelling of the right length tells of the workspace
-pub state-of-spelled : (p : Description) (w spelling : List ℕ) → SpellingFits p w spelling → StateFits p w
-state-of-spelled p w spelling h = h.state
 
 -- UPDAT's answer, after n transfers
 pub stored-after : (u : Answer) (f b w : List ℕ) (n : ℕ) (st : State) → answered u f b w ≡ counted (updat st)

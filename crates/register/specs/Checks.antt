@@ -1,11 +1,11 @@
 -- What the code of the register tests before it calls the routine, what its moves may rely on, and the form of their promises.
 use Rattle.std.specs.Prelude.{ℕ, ◌+◌, ◌≤◌, ◌<◌, ◌≡◌, Bool, List, eqb, ltb, length}
 use Rattle.numbers.specs.Numbers.{wrong_size, wrong_key}
-use Rattle.numbers.specs.Checked.{Checked, ◌>>=◌, ◌>>◌, require}
+use Rattle.numbers.specs.Checked.{Checked, ◌>>◌, require}
 use Rattle.words.specs.Words.{all_words}
 use Rattle.drum.specs.declared.Description.{Description}
 use Rattle.rules.specs.State.{Outcome}
-use Rattle.searchfile.specs.declared.Answer.{Answer}
+use Rattle.searchfile.specs.Answers.{Answer}
 use Rattle.searchfile.specs.Promise.{Counted}
 use Rattle.face.specs.Checks.{keyed_checks}
 use Rattle.register.specs.Names.{spelling_size}

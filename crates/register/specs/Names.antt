@@ -3,6 +3,8 @@
 use Rattle.std.specs.Prelude.{ℕ, ◌+◌, ◌-◌, List, ◌∷◌, ◌++◌, get_or}
 use Rattle.words.specs.Words.{part}
 use Rattle.drum.specs.declared.Description.{Description}
+use Rattle.register.specs.declared.State as code
+use Rattle.register.specs.declared.State.TheVariants as is
 
 -- "0 raw" [G2]
 abbrev pub raw : ℕ
@@ -15,6 +17,12 @@ romanised = 1
 -- "2 held" [G2]
 abbrev pub on_hold : ℕ
 on_hold = 2
+
+-- the word of a state as the code has it [G2]
+abbrev pub word_of : code.State → ℕ
+word_of is.Raw = raw
+word_of is.Romanised = romanised
+word_of is.Held = on_hold
 
 -- the words of a spelling: those of a record behind its key and its state [G2]
 abbrev pub spelling_size : Description → ℕ

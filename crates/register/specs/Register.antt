@@ -2,7 +2,7 @@
 -- alone". The key stands first in the workspace, as for SEEK; a given spelling is lent apart.
 use Rattle.std.specs.Prelude.{ℕ, Bool, cond, not, ◌&&◌, List, ◌++◌, eqb, ltb, length}
 use Rattle.numbers.specs.Numbers.{done, wrong_size, wrong_key, not_allowed}
-use Rattle.numbers.specs.Checked.{Checked, passed, refused, ◌>>=◌, ◌>>◌, require}
+use Rattle.numbers.specs.Checked.{Checked, passed, refused, ◌>>◌, require}
 use Rattle.words.specs.Words.{zeros, all_words}
 use Rattle.drum.specs.declared.Description.{Description}
 use Rattle.rules.specs.State.{State, Outcome, desc, key_in, unchanged}

@@ -1,57 +1,51 @@
 // What the register refuses before it calls the routine.
 ghost use Rattle.std.specs.Prelude.{◌≡◌};
-ghost use Rattle.face.specs.Checks.{refusing};
+ghost use Rattle.numbers.specs.Refused.{tested, number_of};
 ghost use Rattle.register.specs.Checks.{name_checks, spelled_checks};
 
-use drum::Description;
 use face::refused_key;
-use numbers::{WRONG_KEY, WRONG_SIZE};
+use numbers::{Refusal, require};
 use searchfile::{Answer, Session};
 
-// "all unchanged", no transfers.
-pub fn refused(session: Session, number: u32) -> Answer
-    ensures { result ≡ record { number = number; transfers = 0; session = session } }
+// "all unchanged", no transfers. Each call returns it from an `if let`: one function that takes the rest of the call as a closure is no plainer.
+pub fn refused(session: Session, refusal: Refusal) -> Answer
+    ensures { result ≡ record { number = number_of refusal; transfers = 0; session = session } }
 {
     Answer {
-        number,
+        number: u32::from(refusal),
         transfers: 0,
         session,
     }
 }
 
-// The first refusal of a call on a name, or 0: the routine's, of the sizes, the session and the key, and where a record has no data word.
-pub fn refused_name(p: Description, opened: bool, file: usize, buffer: usize, work: &[u32]) -> u32
-    ensures { refusing result ≡ name_checks p opened file buffer work.now }
+// What refuses a call on a name: where a record has no data word, and the routine's refusals of the sizes, the session and the key.
+pub fn refused_name(
+    session: Session,
+    file: usize,
+    buffer: usize,
+    work: &[u32],
+) -> Result<(), Refusal>
+    ensures { tested result ≡ name_checks session.desc session.opened file buffer work.now }
 {
-    if p.wpr <= p.k {
-        return WRONG_SIZE;
-    }
-    refused_key(p, opened, file, buffer, work, p.k)
+    let p = session.desc;
+    require(p.k < p.wpr, Refusal::WrongSize)?;
+    refused_key(p, session.opened, file, buffer, work, p.k)
 }
 
 // The same where a spelling is given. Its words are tested here: UPDAT would find them wrong only after the lookup.
 pub fn refused_spelled(
-    p: Description,
-    opened: bool,
+    session: Session,
     file: usize,
     buffer: usize,
     work: &[u32],
     spelling: &[u32],
-) -> u32
-    ensures { refusing result ≡ spelled_checks p opened file buffer work.now spelling.now }
+) -> Result<(), Refusal>
+    ensures { tested result ≡ spelled_checks session.desc session.opened file buffer work.now spelling.now }
 {
-    if p.wpr <= p.k {
-        return WRONG_SIZE;
-    }
-    if spelling.len() != p.wpr - p.k - 1 {
-        return WRONG_SIZE;
-    }
-    let number = refused_key(p, opened, file, buffer, work, p.k);
-    if number != 0 {
-        return number;
-    }
-    if !words::all_words(spelling, 0, spelling.len()) {
-        return WRONG_KEY;
-    }
-    0
+    let p = session.desc;
+    let size = p.wpr.saturating_sub(p.k).saturating_sub(1);
+    require(spelling.len() == size, Refusal::WrongSize)?;
+    refused_name(session, file, buffer, work)?;
+    let good = words::all_words(spelling, 0, spelling.len());
+    require(good, Refusal::WrongKey)
 }

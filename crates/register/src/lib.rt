@@ -11,14 +11,31 @@ ghost use Rattle.register.specs.Register.{enter as entered, ask as asked, next a
 
 use checks::{refused, refused_name, refused_spelled};
 use moves::{romanised, turned};
-use numbers::WRONG_SIZE;
+use numbers::Refusal;
 use searchfile::{Answer, Session};
 
-pub const RAW: usize = 0;
+// The state of a name: its record's first data word.
+#[derive(Clone, Copy, Debug, PartialEq, Eq)]
+pub enum State {
+    Raw,
+    Romanised,
+    Held,
+}
 
-pub const ROMANISED: usize = 1;
+impl From<State> for usize {
+    ghost use Rattle.std.specs.Prelude.{◌≡◌};
+    ghost use Rattle.register.specs.Names.{word_of};
 
-pub const HELD: usize = 2;
+    ghost from_gives = { λ state word. word ≡ word_of state };
+
+    fn from(state: State) -> usize {
+        match state {
+            State::Raw => 0,
+            State::Romanised => 1,
+            State::Held => 2,
+        }
+    }
+}
 
 // "Entering adds a raw name, its spelling zero."
 pub fn enter(session: Session, file: &mut [u32], buffer: &mut [u32], work: &mut [u32]) -> Answer
@@ -26,9 +43,8 @@ pub fn enter(session: Session, file: &mut [u32], buffer: &mut [u32], work: &mut 
         ≡ counted (entered (given session file.old buffer.old work.old)) }
 {
     let p = session.desc;
-    let number = refused_name(p, session.opened, file.len(), buffer.len(), work);
-    if number != 0 {
-        return refused(session, number);
+    if let Err(refusal) = refused_name(session, file.len(), buffer.len(), work) {
+        return refused(session, refusal);
     }
     words::zero_words(work, p.k, p.wpr - p.k);
     session.nsert(file, buffer, work)
@@ -41,7 +57,7 @@ pub fn ask(session: Session, file: &mut [u32], buffer: &mut [u32], work: &mut [u
 {
     let p = session.desc;
     if p.wpr <= p.k {
-        return refused(session, WRONG_SIZE);
+        return refused(session, Refusal::WrongSize);
     }
     session.seek(file, buffer, work)
 }
@@ -53,7 +69,7 @@ pub fn next(session: Session, file: &mut [u32], buffer: &mut [u32], work: &mut [
 {
     let p = session.desc;
     if p.wpr <= p.k {
-        return refused(session, WRONG_SIZE);
+        return refused(session, Refusal::WrongSize);
     }
     session.adv(file, buffer, work)
 }
@@ -69,16 +85,8 @@ pub fn romanise(
     ensures { answered result file.new buffer.new work.new
         ≡ counted (spelled spelling.now (given session file.old buffer.old work.old)) }
 {
-    let number = refused_spelled(
-        session.desc,
-        session.opened,
-        file.len(),
-        buffer.len(),
-        work,
-        spelling,
-    );
-    if number != 0 {
-        return refused(session, number);
+    if let Err(refusal) = refused_spelled(session, file.len(), buffer.len(), work, spelling) {
+        return refused(session, refusal);
     }
     romanised(session, file, buffer, work, spelling)
 }
@@ -88,7 +96,7 @@ pub fn hold(session: Session, file: &mut [u32], buffer: &mut [u32], work: &mut [
     ensures { answered result file.new buffer.new work.new
         ≡ counted (holding (given session file.old buffer.old work.old)) }
 {
-    turned(session, file, buffer, work, ROMANISED, HELD)
+    turned(session, file, buffer, work, State::Romanised, State::Held)
 }
 
 // Held to romanised.
@@ -96,5 +104,5 @@ pub fn free(session: Session, file: &mut [u32], buffer: &mut [u32], work: &mut [
     ensures { answered result file.new buffer.new work.new
         ≡ counted (freeing (given session file.old buffer.old work.old)) }
 {
-    turned(session, file, buffer, work, HELD, ROMANISED)
+    turned(session, file, buffer, work, State::Held, State::Romanised)
 }

@@ -2,11 +2,13 @@
 ghost use Rattle.std.specs.Prelude.{◌≡◌, ◌<◌, ◌≤◌, length};
 ghost use Rattle.searchfile.specs.Promise.{given, counted, answered};
 ghost use Rattle.register.specs.Register.{sought as sought_in, move, spelled, turned as own, turn};
+ghost use Rattle.register.specs.declared.State.TheVariants.{Raw};
+ghost use Rattle.register.specs.Names.{word_of};
 ghost use Rattle.register.specs.Checks.{StateFits, SpellingFits, stopped_by, after};
 ghost use Rattle.rules.specs.Seek.{updat};
 
+use super::State;
 use super::checks::{refused, refused_name};
-use super::{RAW, ROMANISED};
 use numbers::{DONE, NOT_ALLOWED, WRONG_KEY};
 use searchfile::{Answer, Session};
 
@@ -14,12 +16,7 @@ use searchfile::{Answer, Session};
 fn stopped(found: Answer, number: u32) -> Answer
     ensures { result ≡ stopped_by number found }
 {
-    let session = found.session;
-    Answer {
-        number,
-        transfers: found.transfers,
-        session,
-    }
+    Answer { number, ..found }
 }
 
 // SEEK, and 030007 where the record found is in another state.
@@ -28,18 +25,18 @@ fn sought(
     file: &mut [u32],
     buffer: &mut [u32],
     work: &mut [u32],
-    from: usize,
+    from: State,
 ) -> Answer
     requires { StateFits session.desc work.old }
     ensures { answered result file.new buffer.new work.new
-        ≡ counted (sought_in from (given session file.old buffer.old work.old)) }
+        ≡ counted (sought_in (word_of from) (given session file.old buffer.old work.old)) }
 {
     let k = session.desc.k;
     let found = session.seek(file, buffer, work);
     if found.number != DONE {
         return found;
     }
-    if words::word_at(work, k) != from {
+    if words::word_at(work, k) != usize::from(from) {
         return stopped(found, NOT_ALLOWED);
     }
     found
@@ -51,13 +48,10 @@ fn stored(found: Answer, file: &mut [u32], buffer: &mut [u32], work: &[u32]) -> 
     ensures { answered result file.new buffer.new work.now
         ≡ after found.transfers (updat (given found.session file.old buffer.old work.now)) }
 {
-    let before = found.session;
-    let done = before.updat(file, buffer, work);
-    let session = done.session;
+    let done = found.session.updat(file, buffer, work);
     Answer {
-        number: done.number,
         transfers: found.transfers + done.transfers,
-        session,
+        ..done
     }
 }
 
@@ -71,15 +65,15 @@ pub fn romanised(
 ) -> Answer
     requires { SpellingFits session.desc work.old spelling.now }
     ensures { answered result file.new buffer.new work.new
-        ≡ counted (move 0 (spelled session.desc spelling.now) (given session file.old buffer.old work.old)) }
+        ≡ counted (move (word_of Raw) (spelled session.desc spelling.now) (given session file.old buffer.old work.old)) }
 {
     let k = session.desc.k;
-    let found = sought(session, file, buffer, work, RAW);
+    let found = sought(session, file, buffer, work, State::Raw);
     if found.number != DONE {
         return found;
     }
     words::copy_words(work, k + 1, spelling, 0, spelling.len());
-    words::put_word(work, k, ROMANISED);
+    words::put_word(work, k, usize::from(State::Romanised));
     stored(found, file, buffer, work)
 }
 
@@ -90,13 +84,12 @@ fn kept(
     file: &mut [u32],
     buffer: &mut [u32],
     work: &mut [u32],
-    from: usize,
-    to: usize,
+    from: State,
+    to: State,
 ) -> Answer
-    requires state_fits { StateFits session.desc work.old }
-    requires to_bound { to ≤ 262143 }
+    requires { StateFits session.desc work.old }
     ensures { answered result file.new buffer.new work.new
-        ≡ counted (move from (own session.desc to) (given session file.old buffer.old work.old)) }
+        ≡ counted (move (word_of from) (own session.desc (word_of to)) (given session file.old buffer.old work.old)) }
 {
     let p = session.desc;
     let found = sought(session, file, buffer, work, from);
@@ -106,7 +99,7 @@ fn kept(
     if !words::all_words(work, p.k + 1, p.wpr - p.k - 1) {
         return stopped(found, WRONG_KEY);
     }
-    words::put_word(work, p.k, to);
+    words::put_word(work, p.k, usize::from(to));
     stored(found, file, buffer, work)
 }
 
@@ -116,16 +109,14 @@ pub fn turned(
     file: &mut [u32],
     buffer: &mut [u32],
     work: &mut [u32],
-    from: usize,
-    to: usize,
+    from: State,
+    to: State,
 ) -> Answer
-    requires { to ≤ 262143 }
     ensures { answered result file.new buffer.new work.new
-        ≡ counted (turn from to (given session file.old buffer.old work.old)) }
+        ≡ counted (turn (word_of from) (word_of to) (given session file.old buffer.old work.old)) }
 {
-    let number = refused_name(session.desc, session.opened, file.len(), buffer.len(), work);
-    if number != 0 {
-        return refused(session, number);
+    if let Err(refusal) = refused_name(session, file.len(), buffer.len(), work) {
+        return refused(session, refusal);
     }
     kept(session, file, buffer, work, from, to)
 }

@@ -23,7 +23,7 @@ use Rattle.drum.specs.Blocks.{Texts, text_of, seen}
 use Rattle.rules.specs.declared.Path.{Path}
 use Rattle.rules.specs.declared.Way.TheVariants.{Here, By}
 use Rattle.rules.specs.declared.Look.{Look}
-use Rattle.rules.specs.declared.Look.TheVariants.{Bad, Found, Missing}
+use Rattle.rules.specs.declared.Look.TheVariants.{Found, Missing}
 use Rattle.rules.specs.State.{State, Effect, desc, texts, key_in, holding, positioned, outcome, settle}
 use Rattle.rules.specs.Checks.{sizes_ok, work_ok, is_open, key_ok, keyed_call}
 use Rattle.rules.specs.Paths.{path_to}
@@ -73,7 +73,6 @@ abbrev left_in : Texts → Reached → Texts
 left_in v r = seen v.desc r.current r.file r.buffer
 
 abbrev Again : Texts → Bool → List ℕ → Look → Type 0
-Again v flag key Bad = Unit {0}
 Again v flag key (Found way i) = Buffered (left_in v (reached v flag way)) key i
 Again v flag key (Missing w) = Unit {0}
 
@@ -150,7 +149,6 @@ module _ (st : State) (wide : (desc st).k ≤ (desc st).wpr) where
 
   done-brings : (l : Look) → look (texts st) st.session.flag key ≡ passed l → Passed Brings (seek_done (texts st) st.session.flag st.work l)
   unfolding seek_done giving stopping outcome holding positioned
-  done-brings Bad e = by-refused _
   done-brings (Found way i) e =
       let r = reached (texts st) st.session.flag way in
       let b : Buffered (left_in (texts st) r) key i = (look-again (texts st) st.session.flag key).holds (Found way i) e in

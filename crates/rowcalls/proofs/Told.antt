@@ -1,6 +1,6 @@
 -- PUT and GET told in words: the place and what is left fit their words, and what is returned is what the calls give. The laws speak as the
 -- code does: t is its test of the row, l and q what it reads from it, a the call's answer, us the row written back, r what it returns.
-use Prim.Native.Nat.{ℕ, ◌+◌, ◌*◌, ◌-◌, ◌≤◌, ◌<◌}
+use Prim.Native.Nat.{ℕ, ◌+◌, ◌*◌, ◌≤◌, ◌<◌}
 use mathlib.Core.Path.{◌≡◌, refl, sym, ap, ◌∙◌, subst}
 use mathlib.Core.Bool.{Bool, true, false, not}
 use mathlib.Core.List.{List}
@@ -16,7 +16,6 @@ use Rattle.numbers.specs.Checked.{Checked, passed, refused}
 use Rattle.sequential.specs.declared.Layout.{Layout}
 use Rattle.sequential.specs.declared.Place.{Place}
 use Rattle.sequential.specs.declared.Row.{Row}
-use Rattle.sequential.specs.declared.Spot.TheVariants.{At}
 use Rattle.sequential.specs.declared.PutAnswer.{PutAnswer}
 use Rattle.sequential.specs.declared.GetAnswer.{GetAnswer}
 use Rattle.sequential.specs.Rows.{behind}
@@ -63,7 +62,7 @@ module _ (l : Layout) (q : Place) (f w : List ℕ) (few : length f ≤ most_word
       where
         go : (x : Checked Row) → get_spot l q left f (length w) ≡ x → Small (get_told l q left f w x).place
         go (refused n) e = s
-        go (passed r) e = behind-small l r (length f) (get-lies l q left f (length w) r (At r) (sym e) refl) few
+        go (passed r) e = behind-small l r (length f) (get-lies l q left f (length w) r (sym e)) few
 
 -- GET leaves no more to be read than it was told
 get-fewer : (l : Layout) (q : Place) (left : ℕ) (f w : List ℕ) → (get_row l q left f w).left ≤ left

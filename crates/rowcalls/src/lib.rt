@@ -10,22 +10,16 @@ ghost use Rattle.rowcalls.specs.Calls.{returned, put_called, get_called};
 use numbers::WRONG_SIZE;
 use row::{is_row, layout_of, place_of, put_place, put_rest};
 
-fn wide(x: u32) -> u64
-    ensures { result ≡ x }
-{
-    x as u64
-}
-
 // PUT.
 pub fn put(row: &mut [u32], file: &mut [u32], work: &[u32]) -> u64
     ensures { returned result row.new file.new work.now ≡ put_called row.old file.old work.now }
 {
     if !is_row(row, file.len()) {
-        return wide(WRONG_SIZE);
+        return u64::from(WRONG_SIZE);
     }
     let answer = sequential::put(layout_of(row), place_of(row), file, work);
     put_place(row, answer.place);
-    wide(answer.number)
+    u64::from(answer.number)
 }
 
 // GET.
@@ -33,10 +27,10 @@ pub fn get(row: &mut [u32], file: &[u32], work: &mut [u32]) -> u64
     ensures { returned result row.new file.now work.new ≡ get_called row.old file.now work.old }
 {
     if !is_row(row, file.len()) {
-        return wide(WRONG_SIZE);
+        return u64::from(WRONG_SIZE);
     }
     let left = words::word_at(row, 6);
     let answer = sequential::get(layout_of(row), place_of(row), left, file, work);
     put_rest(row, answer.place, answer.left);
-    wide(answer.number)
+    u64::from(answer.number)
 }

@@ -7,30 +7,27 @@ use sequential::{Kind, Layout, Place};
 const ROW_WORDS: usize = 7;
 
 // Whether the words are a row, for a file of so many words.
+#[tactic(auto, unfolding(crate::specs::Words::is_row))]
 pub fn is_row(row: &[u32], file: usize) -> bool
     ensures { result ≡ is_row row.now file }
 {
-    if row.len() != ROW_WORDS {
-        return false;
-    }
-    if 1 < row[2] {
-        return false;
-    }
-    let wpb = words::word_at(row, 0);
-    file <= 4294967295 * wpb
+    row.len() == ROW_WORDS && row[2] <= 1 && file <= 4294967295 * words::word_at(row, 0)
 }
 
+#[tactic(auto, unfolding(crate::specs::Words::kind_of))]
 fn kind_of(row: &[u32]) -> Kind
     requires { length row.now ≡ 7 }
     ensures { result ≡ kind_of row.now }
 {
     if row[2] == 0 {
-        return Kind::Fixed(words::word_at(row, 3));
+        Kind::Fixed(words::word_at(row, 3))
+    } else {
+        Kind::Variable
     }
-    Kind::Variable
 }
 
 // The layout that the row says.
+#[tactic(auto, unfolding(crate::specs::Words::layout_of))]
 pub fn layout_of(row: &[u32]) -> Layout
     requires { length row.now ≡ 7 }
     ensures { result ≡ layout_of row.now }
@@ -43,6 +40,7 @@ pub fn layout_of(row: &[u32]) -> Layout
 }
 
 // The place that the row says.
+#[tactic(auto, unfolding(crate::specs::Words::place_of))]
 pub fn place_of(row: &[u32]) -> Place
     requires { length row.now ≡ 7 }
     ensures { result ≡ place_of row.now }
@@ -54,6 +52,7 @@ pub fn place_of(row: &[u32]) -> Place
 }
 
 // Writes a place into the row.
+#[tactic(auto, unfolding(crate::specs::Words::at_place))]
 pub fn put_place(row: &mut [u32], q: Place)
     requires { (length row.old ≡ 7) × Small q }
     ensures { row.new ≡ at_place row.old q }
@@ -67,7 +66,6 @@ pub fn put_rest(row: &mut [u32], q: Place, left: usize)
     requires { (length row.old ≡ 7) × Small q × (left ≤ most_word) }
     ensures { row.new ≡ set (at_place row.old q) 6 left }
 {
-    row[4] = q.block as u32;
-    row[5] = q.at as u32;
+    put_place(row, q);
     row[6] = left as u32;
 }

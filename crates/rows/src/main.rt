@@ -1,27 +1,27 @@
 // Records in a row, played: lists put and read back, and places and words that no call would leave. Blocks have six words, one of them a leader word.
 #![tactic(auto)]
 
-mod shown;
-
-use shown::{print_bytes, print_told, print_words};
+use said::Row;
 use std::io;
 
-fn put(out: &impl Print, row: &mut [u32], file: &mut [u32], work: &[u32]) -> io::Result<()> {
-    print_words(out, b"PUT", work)?;
-    let number = rowcalls::put(row, file, work);
-    print_told(out, number, row)
+// A call and its words, the number that it answers, and the place in its row.
+fn told(out: &impl Print, name: &str, work: &[u32], number: u64, row: &[u32; 7]) -> io::Result<()> {
+    print!(out; "{name}{}: {:06o}", Row(work), number % 0o1000000)?;
+    println!(out; "{}", Row(&row[4..6]))
 }
 
-fn get(out: &impl Print, row: &mut [u32], file: &[u32], work: &mut [u32]) -> io::Result<()> {
-    print_bytes(out, b"GET")?;
+fn put(out: &impl Print, row: &mut [u32; 7], file: &mut [u32], work: &[u32]) -> io::Result<()> {
+    let number = rowcalls::put(row, file, work);
+    told(out, "PUT", work, number, row)
+}
+
+fn get(out: &impl Print, row: &mut [u32; 7], file: &[u32], work: &mut [u32]) -> io::Result<()> {
     let number = rowcalls::get(row, file, work);
-    print_words(out, b"", work)?;
-    print_told(out, number, row)
+    told(out, "GET", work, number, row)
 }
 
 fn print_file(out: &impl Print, file: &[u32]) -> io::Result<()> {
-    print_words(out, b"file", file)?;
-    print_bytes(out, b"\n")
+    println!(out; "file{}", Row(file))
 }
 
 // Fixed records of two words.
@@ -36,14 +36,13 @@ fn fixed(out: &impl Print) -> io::Result<()> {
     print_file(out, &file)?;
     let mut back = [6, 1, 0, 2, 0, 0, 4];
     let mut work = [8; 2];
-    get(out, &mut back, &file, &mut work)?;
-    get(out, &mut back, &file, &mut work)?;
-    get(out, &mut back, &file, &mut work)?;
-    get(out, &mut back, &file, &mut work)?;
-    get(out, &mut back, &file, &mut work)
+    for _ in 0..5 {
+        get(out, &mut back, &file, &mut work)?;
+    }
+    Ok(())
 }
 
-fn read(out: &impl Print, row: &mut [u32], file: &[u32]) -> io::Result<()> {
+fn read(out: &impl Print, row: &mut [u32; 7], file: &[u32]) -> io::Result<()> {
     let mut work = [8; 5];
     get(out, row, file, &mut work)
 }
@@ -51,12 +50,10 @@ fn read(out: &impl Print, row: &mut [u32], file: &[u32]) -> io::Result<()> {
 // The five variable records, and the end.
 fn read_back(out: &impl Print, file: &[u32]) -> io::Result<()> {
     let mut row = [6, 1, 1, 0, 0, 0, 5];
-    read(out, &mut row, file)?;
-    read(out, &mut row, file)?;
-    read(out, &mut row, file)?;
-    read(out, &mut row, file)?;
-    read(out, &mut row, file)?;
-    read(out, &mut row, file)
+    for _ in 0..6 {
+        read(out, &mut row, file)?;
+    }
+    Ok(())
 }
 
 // Variable records.

@@ -37,7 +37,6 @@ module _ (v : Texts) (work : List ℕ) where
   -- it passes
   pub insert-done : (flag : Bool) (d : Insert) → Outside d → (e : Effect) × (insert_done v flag work d ≡ passed e)
   unfolding insert_done
-  insert-done flag insert-is.Bad o = absurd o
   insert-done flag (insert-is.Stop way n) o = (_, refl)
   insert-done flag (insert-is.Room w i n) o = (_, refl)
   insert-done flag (insert-is.Split w i d n) o = (_, refl)
@@ -46,7 +45,6 @@ module _ (v : Texts) (work : List ℕ) where
   -- NSERT's list is short
   few : (flag : Bool) (d : Insert) → (told v flag work (insert_done v flag work d)).transfers ≤ 8
   unfolding insert_done stopping storing landing reached bringing flush_moves split_moves both_split_moves
-  few flag insert-is.Bad = omega arith
   few flag (insert-is.Stop Here n) = omega arith
   few true (insert-is.Stop (By w) n) = omega arith
   few false (insert-is.Stop (By w) n) = omega arith
@@ -69,7 +67,6 @@ module _ (v : Texts) (work : List ℕ) where
   flush-first : (d : Insert) (e t : Effect) → Outside d → insert_done v true work d ≡ passed e → insert_done v false work d ≡ passed t
       → e.transfers ≡ flush_moves v true ++ t.transfers
   unfolding insert_done stopping storing landing reached bringing flush_moves
-  flush-first insert-is.Bad e t o h k = absurd o
   flush-first (insert-is.Stop Here n) e t o h k = absurd o
   flush-first (insert-is.Stop (By w) n) e t o h k = cc
   flush-first (insert-is.Room w i n) e t o h k = cc

@@ -159,7 +159,6 @@ module _ (v : Texts) (fit : Fitting v.desc v.file v.buffer) (flag : Bool) (work 
 
   after_kept : (key : List ℕ) (l : Look) → LookFits v flag l → Passed Deed (delete_after v key l)
   unfolding delete_after empty_at empty_deed
-  after_kept key look_is.Bad h = search chain
   after_kept key (look_is.Missing w) h = by-passed _ (stopped w h)
   after_kept key (look_is.Found Here i) h = let r = removing Here i h in let b : WayFits v flag Here = h.0 in search (chain, either, pathed) depth 12
   after_kept key (look_is.Found (By w) i) h = let r = removing (By w) i h in let b : WayFits v flag (By w) = h.0 in let q : PathFits v w = h.0.0 in search

@@ -203,7 +203,6 @@ module _ (v : Texts) (fit : Fitting v.desc v.file v.buffer) (flag : Bool) (work 
   -- SEEK and UPDAT
   seek-done : (l : Look) → LookFits v flag l → Passed (Kept v) (seek_done v flag work l)
   unfolding seek_done
-  seek-done look_is.Bad h = search chain
   seek-done (look_is.Found way i) h =
       by-passed _ (give_kept (reached v flag way) _ i _ (reached-fits v fit flag way h.0) (reached-only v fit flag way h.0) (way-most way h.0)
       (way-below way i h.1))
@@ -215,7 +214,6 @@ module _ (v : Texts) (fit : Fitting v.desc v.file v.buffer) (flag : Bool) (work 
 
   updat-done : (l : Look) → LookFits v flag l → Passed (Kept v) (updat_done v flag work l)
   unfolding updat_done
-  updat-done look_is.Bad h = search chain
   updat-done (look_is.Found way i) h =
       let f = reached-fits v fit flag way h.0 in
       by-passed _ (store_kept _ (reached v flag way) _ f (reached-only v fit flag way h.0)
@@ -240,7 +238,6 @@ module _ (v : Texts) (fit : Fitting v.desc v.file v.buffer) (flag : Bool) (work 
 
   adv-done : (s : Step) → StepFits v flag s → Passed (Kept v) (adv_done v flag s)
   unfolding adv_done adv_giving bringing
-  adv-done step_is.Bad h = search chain
   adv-done (step_is.At way i) h =
       by-passed _ (give_kept (reached v flag way) _ i _ (reached-fits v fit flag way h.0) (reached-only v fit flag way h.0) (way-most way h.0)
       (way-below way i h.1))

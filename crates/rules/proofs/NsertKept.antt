@@ -214,7 +214,6 @@ module _ (v : Texts) (fit : Fitting v.desc v.file v.buffer) (flag : Bool) (work 
 
   after_kept : (key : List ℕ) (l : Look) → LookFits v flag l → Passed Deed (insert_after v flag key l)
   unfolding insert_after insert_at room_deed split_deed both_deed
-  after_kept key look_is.Bad h = search chain
   after_kept key (look_is.Found way i) h = by-passed _ (duplicate-deed way i _ h)
   after_kept key (look_is.Missing w) h =
       let p : PathFits v w = h.0 in

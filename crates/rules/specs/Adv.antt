@@ -10,7 +10,7 @@ use Rattle.rules.specs.declared.Which.TheVariants.{First, Place}
 use Rattle.rules.specs.declared.Path.{Path}
 use Rattle.rules.specs.declared.Way.TheVariants.{Here, By}
 use Rattle.rules.specs.declared.Step.{Step}
-use Rattle.rules.specs.declared.Step.TheVariants.{Bad, At, Beyond}
+use Rattle.rules.specs.declared.Step.TheVariants.{At, Beyond}
 use Rattle.rules.specs.State.{State, Outcome, Effect, desc, texts, position_key, settle}
 use Rattle.rules.specs.Checks.{sizes_ok, work_ok, is_open}
 use Rattle.rules.specs.Paths.{path_by, path_to, first_path}
@@ -77,7 +77,6 @@ adv_reads w x =
 
 -- what ADV does, of the step that it comes to [C6, C7, C8, C9]
 unfoldable pub adv_done : Texts → Bool → Step → Checked Effect
-adv_done v flag Bad = refused bad_file
 adv_done v flag (At way i) = passed (adv_giving v (reached v flag way) i)
 adv_done v flag (Beyond w x i) = passed (adv_giving v (bringing v flag x.detail (adv_reads w x)) i)
 

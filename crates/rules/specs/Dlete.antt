@@ -13,7 +13,7 @@ use Rattle.rules.specs.declared.Way.TheVariants.{Here, By}
 use Rattle.rules.specs.declared.Look.{Look}
 use Rattle.rules.specs.declared.Look.TheVariants as look_is
 use Rattle.rules.specs.declared.Delete.{Delete}
-use Rattle.rules.specs.declared.Delete.TheVariants.{Bad, Stop, Remove, Empty, Both}
+use Rattle.rules.specs.declared.Delete.TheVariants.{Stop, Remove, Empty, Both}
 use Rattle.rules.specs.State.{State, Outcome, Effect, desc, texts, key_in}
 use Rattle.rules.specs.Checks.{keyed_call}
 use Rattle.rules.specs.Paths.{path_to}
@@ -36,7 +36,6 @@ empty_at v key Here = do
 
 -- what DLETE will do [C17, C18]
 unfoldable pub delete_after : Texts → List ℕ → Look → Checked Delete
-delete_after v key look_is.Bad = refused bad_file
 delete_after v key (look_is.Missing w) = passed (Stop w)
 delete_after v key (look_is.Found way i) = cond (eqb (count (detail_shape v.desc) (text_at v way)) 1) (empty_at v key way) (passed (Remove way i))
 
@@ -89,7 +88,6 @@ emptying p work moves f = record {
 
 -- what DLETE does, of what it will do: "found: remove, flag on. Left empty: .." [C17, C18, C20]
 unfoldable pub delete_done : Texts → Bool → List ℕ → Delete → Checked Effect
-delete_done v flag work Bad = refused bad_file
 delete_done v flag work (Stop w) = passed (stopping not_found work (reached v flag (By w)))
 delete_done v flag work (Remove way i) =
     let r = reached v flag way in

@@ -48,13 +48,11 @@ WayFits v flag (By w) = PathFits v w × FlushFits v flag
 
 -- what a lookup comes to: a place in the block at the end of the way
 abbrev pub LookFits : Texts → Bool → Look → Type 0
-LookFits v flag look_is.Bad = Unit {0}
 LookFits v flag (look_is.Found way i) = WayFits v flag way × (i < count (detail_shape v.desc) (text_at v way))
 LookFits v flag (look_is.Missing w) = PathFits v w × FlushFits v flag
 
 -- what ADV comes to: a place in the block reached, or in the block after the one that the first path leads to
 abbrev pub StepFits : Texts → Bool → Step → Type 0
-StepFits v flag step_is.Bad = Unit {0}
 StepFits v flag (step_is.At way i) = WayFits v flag way × (i < count (detail_shape v.desc) (text_at v way))
 StepFits v flag (step_is.Beyond w x i) = PathFits v x × FlushFits v flag × (i < count (detail_shape v.desc) (text_of v x.detail))
 
@@ -79,7 +77,6 @@ pub record TwoNew (v : Texts) (w : Path) (t : Pair) : Type 0 where
 
 -- what NSERT will do, if nothing is bad, after a lookup that the buffer did not answer: all but the write of a flagged buffer is then the same, flag or no
 abbrev pub Outside : Insert → Type 0
-Outside insert-is.Bad = ⊥
 Outside (insert-is.Stop Here n) = ⊥
 Outside (insert-is.Stop (By w) n) = Unit {0}
 Outside (insert-is.Room w i n) = Unit {0}

@@ -49,7 +49,6 @@ insert_at v flag w i =
 
 -- "NSERT duplicate"; else before the first record above the key [C10, N6]
 unfoldable pub insert_after : Texts → Bool → List ℕ → Look → Checked Insert
-insert_after v flag key look_is.Bad = refused bad_file
 insert_after v flag key (look_is.Found way i) = passed (Stop way not_found)
 insert_after v flag key (look_is.Missing w) =
     insert_at v flag w (row_above (detail_shape v.desc) key (text_of v w.detail))

@@ -10,7 +10,7 @@ use Rattle.rules.specs.declared.Path.{Path}
 use Rattle.rules.specs.declared.Way.TheVariants.{By}
 use Rattle.rules.specs.declared.Taken.{Taken}
 use Rattle.rules.specs.declared.Insert.{Insert}
-use Rattle.rules.specs.declared.Insert.TheVariants.{Bad, Stop, Room, Split, Both}
+use Rattle.rules.specs.declared.Insert.TheVariants.{Stop, Room, Split, Both}
 use Rattle.rules.specs.State.{State, Outcome, Effect, desc, texts, key_in, record_in}
 use Rattle.rules.specs.Checks.{keyed_call}
 use Rattle.rules.specs.Lookup.{reached, stopping, storing, landing}
@@ -85,7 +85,6 @@ half_of n i old new = cond (ltb i (low_count n)) old new
 
 -- what NSERT does, of what it will do: it stops where it is, inserts, or splits [C11, C12, C15, C16]
 unfoldable pub insert_done : Texts → Bool → List ℕ → Insert → Checked Effect
-insert_done v flag work Bad = refused bad_file
 insert_done v flag work (Stop way n) = passed (stopping n work (reached v flag way))
 insert_done v flag work (Room w i n) =
     let here = reached v flag (By w) in

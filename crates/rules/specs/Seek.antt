@@ -7,7 +7,7 @@ use Rattle.drum.specs.Params.{detail_shape}
 use Rattle.drum.specs.Blocks.{Texts}
 use Rattle.rules.specs.declared.Way.TheVariants.{By}
 use Rattle.rules.specs.declared.Look.{Look}
-use Rattle.rules.specs.declared.Look.TheVariants.{Bad, Found, Missing}
+use Rattle.rules.specs.declared.Look.TheVariants.{Found, Missing}
 use Rattle.rules.specs.State.{State, Outcome, Effect, desc, texts, key_in, record_in}
 use Rattle.rules.specs.Checks.{keyed_call}
 use Rattle.rules.specs.Lookup.{Reached, reached, look, stopping, storing}
@@ -27,7 +27,6 @@ giving v r number i keyed = record {
 
 -- what SEEK does, of what the lookup came to [C3, N6]
 unfoldable pub seek_done : Texts → Bool → List ℕ → Look → Checked Effect
-seek_done v flag work Bad = refused bad_file
 seek_done v flag work (Found way i) = passed (giving v (reached v flag way) done i true)
 seek_done v flag work (Missing w) = passed (stopping not_found work (reached v flag (By w)))
 
@@ -43,7 +42,6 @@ seek st = keyed_call (desc st).k st (seek_steps (texts st) st.session.flag st.wo
 
 -- "UPDAT found: record replaced, flag on, position = key." [C4, N6]
 unfoldable pub updat_done : Texts → Bool → List ℕ → Look → Checked Effect
-updat_done v flag work Bad = refused bad_file
 updat_done v flag work (Found way i) =
     let r = reached v flag way in
     passed (storing done work r (replaced (detail_shape v.desc) i (record_in v.desc work) r.buffer))

@@ -3,7 +3,7 @@ use Rattle.std.specs.Prelude.{◌≡◌, ℕ, Bool, false, List, length}
 use Rattle.numbers.specs.Checked.{Checked, passed, refused}
 use Rattle.words.specs.Slices.{Slice, was, became}
 use Rattle.drum.specs.declared.Description.{Description}
-use Rattle.drum.specs.Blocks.{Texts, at_entry}
+use Rattle.drum.specs.Blocks.{Texts, seen}
 use Rattle.rules.specs.declared.Done.{Done}
 use Rattle.rules.specs.declared.Held.{Held}
 use Rattle.rules.specs.State.{Effect}
@@ -58,7 +58,7 @@ told v flag work (passed e) = record {
 -- the promise of a function that makes a call's steps, or the last of them: what it gave back, with the words it left, is what the steps tell
 abbrev pub Follows : Done → (Texts → Bool → List ℕ → Checked Effect) → Description → ℕ → Bool → Slice → Slice → Slice → Type 0
 Follows r steps p current flag file buffer work =
-    let v = at_entry p current (was file) (was buffer) in
+    let v = seen p current (was file) (was buffer) in
     gave r (became file) (became buffer) (became work) ≡ told v flag (was work) (steps v flag (was work))
 
 -- the same promise where description, current block and flag are handed over as one

@@ -82,7 +82,6 @@ apart (By _) w b = not (eqb b w.index) && not (eqb b w.detail)
 
 -- the same of each new block that NSERT takes [B5, E4]
 unfoldable pub new_apart : Way → Path → Insert → Bool
-new_apart way w insert-is.Bad = true
 new_apart way w (insert-is.Stop _ _) = true
 new_apart way w (insert-is.Room _ _ _) = true
 new_apart way w (insert-is.Split q i d n) = apart way w d.block

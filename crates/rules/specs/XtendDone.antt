@@ -12,7 +12,7 @@ use Rattle.rules.specs.declared.Path.{Path}
 use Rattle.rules.specs.declared.Way.{Way}
 use Rattle.rules.specs.declared.Taken.{Taken}
 use Rattle.rules.specs.declared.Extend.{Extend}
-use Rattle.rules.specs.declared.Extend.TheVariants.{Bad, Stop, Room, New, Both, Before}
+use Rattle.rules.specs.declared.Extend.TheVariants.{Stop, Room, New, Both, Before}
 use Rattle.rules.specs.State.{State, Outcome, Effect, desc, texts, key_in, record_in}
 use Rattle.rules.specs.Checks.{keyed_call}
 use Rattle.rules.specs.Lookup.{Reached, reached, text_at, stopping, storing, landing}
@@ -98,7 +98,6 @@ listed moves e = record {
 
 -- "insert before the end record, flag on"; "Buffer: the new block, flag off." [C26, C27, C29, C30]
 unfoldable pub extend_done : Texts → Bool → List ℕ → Extend → Checked Effect
-extend_done v flag work Bad = refused bad_file
 extend_done v flag work (Stop way x n) = passed (stopping n work (reading x (reached v flag way)))
 extend_done v flag work (Room way x n) =
     let here = reading x (reached v flag way) in

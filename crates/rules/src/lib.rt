@@ -4,8 +4,10 @@
 #![tactic(auto)]
 
 ghost use Rattle.std.specs.Prelude.{◌≡◌, false};
+ghost use Rattle.numbers.specs.Refused.{number_of};
 
 use drum::Description;
+use numbers::Refusal;
 
 // Which entry of a table is wanted: the first, the last, the one at a place, or the first whose bound is not below the key.
 #[derive(Clone, Copy)]
@@ -42,7 +44,6 @@ pub enum Way {
 // What a lookup comes to: the record's place in the block, or the block that would hold it.
 #[derive(Clone, Copy)]
 pub enum Look {
-    Bad,
     Found(Way, usize),
     Missing(Path),
 }
@@ -50,12 +51,11 @@ pub enum Look {
 // What ADV comes to: the record's place in a block, or in the next block (the second path) when the first path's has nothing greater.
 #[derive(Clone, Copy)]
 pub enum Step {
-    Bad,
     At(Way, usize),
     Beyond(Path, Path, usize),
 }
 
-// A new block (0: none is free), and words 1 and 2 of the master then. Word 2 may be any word while the chain is not empty.
+// A new block (0: none is free, as the definitions of specs/Free have it), and words 1 and 2 of the master then. Word 2 may be any word while the chain is not empty.
 #[derive(Clone, Copy)]
 pub struct Taken {
     pub block: usize,
@@ -74,7 +74,6 @@ pub struct Pair {
 // What NSERT will do, with its number: stop after the lookup; store at a place of the block; split the block; split the index block too.
 #[derive(Clone, Copy)]
 pub enum Insert {
-    Bad,
     Stop(Way, u32),
     Room(Path, usize, u32),
     Split(Path, usize, Taken, u32),
@@ -85,7 +84,6 @@ pub enum Insert {
 // its index block too.
 #[derive(Clone, Copy)]
 pub enum Delete {
-    Bad,
     Stop(Path),
     Remove(Way, usize),
     Empty(Way, Path, usize),
@@ -96,7 +94,6 @@ pub enum Delete {
 // start a new index block and section too; or, from a last block with only the end record, do what NSERT does on another path, or stop there.
 #[derive(Clone, Copy)]
 pub enum Extend {
-    Bad,
     Stop(Way, usize, u32),
     Room(Way, usize, u32),
     New(Way, Path, Taken, u32),
@@ -136,16 +133,18 @@ pub enum Call {
     Xtend { at: usize },
 }
 
-impl Done {
+impl Held {
     // A refusal: "all unchanged", 0 transfers.
-    pub fn refused(number: u32, current: usize, flag: bool) -> Self
-        ensures { result ≡ record { number = number; transfers = 0; current = current; flag = flag; keyed = false } }
+    pub fn refused(self, refusal: Refusal) -> Done
+        ensures { result
+            ≡ record
+            { number = number_of refusal; transfers = 0; current = self.current; flag = self.flag; keyed = false } }
     {
-        Self {
-            number,
+        Done {
+            number: u32::from(refusal),
             transfers: 0,
-            current,
-            flag,
+            current: self.current,
+            flag: self.flag,
             keyed: false,
         }
     }

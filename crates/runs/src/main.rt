@@ -10,7 +10,7 @@ use std::io;
 use std::io::{Error, ErrorKind};
 use terminal::Streams;
 
-// A path is text.
+// A path is text. Program plays has the same `open` and `main`: shared ones could promise nothing, as all that they do is on files and output.
 fn open(rt: &HostRuntime, name: &[u8]) -> io::Result<File> {
     match str::from_utf8(name) {
         Ok(path) => File::open(rt, path),
@@ -23,7 +23,8 @@ fn play_named(rt: &HostRuntime, name: &[u8]) -> io::Result<()> {
     rt.write_all(b":\n")?;
     match open(rt, name) {
         Ok(input) => {
-            terminal::play(Streams {
+            // how a session ended is seen in what it printed
+            let _ = terminal::play(Streams {
                 input,
                 output: rt.stdout(),
                 errors: rt.stderr(),

@@ -2,6 +2,7 @@
 use mathlib.Core.Path.{◌≡◌, sym, ap, ◌∙◌}
 use mathlib.Core.Bool.{Bool, true, false, cond, not, ◌&&◌}
 use mathlib.Core.List.{List, []}
+use mathlib.Core.Logic.{◌⊎◌, inl, inr}
 use Prim.Native.Nat.{ℕ, ◌+◌, ◌*◌, ◌≤◌}
 use native.Mathlib.Nat.{mul-le-mul}
 use native.Mathlib.Omega.{arith}
@@ -17,11 +18,10 @@ use Rattle.drum.specs.declared.Description.{Description}
 use Rattle.drum.specs.Params.{D, file_size, good_params, sized}
 use Rattle.drum.proofs.Good.{caps, Sized, sized-facts}
 use Rattle.layout.specs.Create.{created}
-use Rattle.rules.specs.State.{Session}
 use Rattle.rules.specs.Close.{close}
 use Rattle.rules.specs.Requests.{closing, answer}
 use Rattle.searchfile.specs.declared.Session as code
-use Rattle.searchfile.specs.declared.Answer.{Answer}
+use Rattle.searchfile.specs.Answers.{Answer}
 use Rattle.searchfile.specs.Promise.{Counted, given, counted, answered, held}
 use Rattle.demands.proofs.Costs.{few-transfers}
 use Rattle.salvage.specs.declared.Going.{Going}
@@ -35,19 +35,19 @@ use Rattle.salvage.proofs.Walks.{met-most}
 -- ---- the sizes: x is the code's test of file and buffer
 
 module _ (p : Description) (copy fresh buffer report : ℕ) (x : Bool) (is : x ≡ sized p fresh buffer) where
-  pub sizes-wrong : not x ≡ true → false ≡ roomy p copy fresh buffer report
+  sizes-wrong : x ≡ false → false ≡ roomy p copy fresh buffer report
   unfolding roomy
-  sizes-wrong h = sym (ap (λ (c : Bool). c && (eqb copy (file_size p) && leb (3 * (p.n * (1 + D p))) report)) (sym is ∙ not-true x h))
+  sizes-wrong h = sym (ap (λ (c : Bool). c && (eqb copy (file_size p) && leb (3 * (p.n * (1 + D p))) report)) (sym is ∙ h))
 
-  module _ (h : not x ≡ false) where
+  module _ (h : x ≡ true) where
     facts : Sized p fresh buffer
-    facts = sized-facts p fresh buffer (sym is ∙ not-false x h)
+    facts = sized-facts p fresh buffer (sym is ∙ h)
 
-    pub copy-wrong : (copy ≡ fresh → ⊥) → false ≡ roomy p copy fresh buffer report
+    copy-wrong : (copy ≡ fresh → ⊥) → false ≡ roomy p copy fresh buffer report
     unfolding roomy
     copy-wrong ne =
         let e : eqb copy (file_size p) ≡ false = ne_eqb copy (file_size p) (λ q. ne (q ∙ sym facts.file-is)) in
-        sym λ j. (sym is ∙ not-false x h) j && (e j && leb (3 * (p.n * (1 + D p))) report)
+        sym λ j. (sym is ∙ h) j && (e j && leb (3 * (p.n * (1 + D p))) report)
 
     module _ (d : ℕ) (e : d ≡ D p) where
       most : p.n * (1 + d) ≤ 262142 * 4097
@@ -70,7 +70,11 @@ module _ (p : Description) (copy fresh buffer report : ℕ) (x : Bool) (is : x �
       unfolding roomy
       report-tells q =
           let s : eqb copy (file_size p) ≡ true = eq-eqb copy (file_size p) (q ∙ facts.file-is) in
-          sym λ j. (sym is ∙ not-false x h) j && (s j && leb (3 * (p.n * (1 + sym e j))) report)
+          sym λ j. (sym is ∙ h) j && (s j && leb (3 * (p.n * (1 + sym e j))) report)
+
+  pub lengths-wrong : (x ≡ false) ⊎ ((x ≡ true) × (copy ≡ fresh → ⊥)) → false ≡ roomy p copy fresh buffer report
+  lengths-wrong (inl h) = sizes-wrong h
+  lengths-wrong (inr h) = copy-wrong h.0 h.1
 
 -- what the test tells
 pub roomy-facts : (p : Description) (copy fresh buffer report : ℕ) → roomy p copy fresh buffer report ≡ true → Roomy p copy fresh buffer report

@@ -1,12 +1,9 @@
 -- The records of a text, one after the other: where they lie, and whether their keys ascend.
 use mathlib.Core.Path.{◌≡◌, refl, sym, ap, ◌∙◌}
-use mathlib.Core.Bool.{Bool, true, false, not, ◌&&◌}
+use mathlib.Core.Bool.{Bool, true, false, ◌&&◌}
 use mathlib.Core.List.{List}
 use Prim.Native.Nat.{ℕ, zero, suc, ◌+◌, ◌*◌, ◌-◌, ◌≤◌, ◌<◌}
 use native.Mathlib.Omega.{arith}
-use mir.Syntax.{w64}
-use mir.Val.{Fits}
-use borrow.Author.Tests.{not-true, not-false}
 use lib.ListN.{length, take, drop}
 use Rattle.words.specs.Words.{part}
 use Rattle.words.specs.Keys.{key_lt}
@@ -38,17 +35,8 @@ module _ (p : Description) (t : List ℕ) (at left : ℕ) where
   abbrev keys : ℕ → ℕ → List (List ℕ)
   keys a n = keys_of p (rows_from p.wpr a n t)
 
-  pub rest-rows : at + left * p.wpr ≤ length t → 1 < left → at + p.wpr + (left - 1) * p.wpr ≤ length t
-  rest-rows h l = omega (arith, rows-less left p.wpr (omega arith))
-
   pub key-next : at + left * p.wpr ≤ length t → 1 < left → p.k ≤ p.wpr → at + p.wpr + p.k ≤ length t
   key-next h l k = omega (arith, rows-less left p.wpr (omega arith), rows-less (left - 1) p.wpr (omega arith))
-
-  pub key_here : at + left * p.wpr ≤ length t → 1 < left → p.k ≤ p.wpr → at + p.k ≤ length t
-  key_here h l k = omega (arith, rows-less left p.wpr (omega arith))
-
-  pub next_fits : at + left * p.wpr ≤ length t → 1 < left → Fits w64 (length t) → Fits w64 (at + p.wpr)
-  next_fits h l f = omega (arith, rows-less left p.wpr (omega arith))
 
   module _ (many : 1 < left) (short : p.k ≤ p.wpr) where
     opens : ascending (keys at left)
@@ -65,19 +53,11 @@ module _ (p : Description) (t : List ℕ) (at left : ℕ) where
 
     -- a pair of keys that ascends, or not: x is the code's test of it
     module _ (x : Bool) (is : x ≡ key_lt (part at p.k t) (part (at + p.wpr) p.k t)) where
-      pub keys-go : not x ≡ false → ascending (keys at left) ≡ ascending (keys (at + p.wpr) (left - 1))
-      keys-go h = opens ∙ ap (λ (b : Bool). b && ascending (keys (at + p.wpr) (left - 1))) (sym is ∙ not-false x h)
+      pub keys-go : x ≡ true → ascending (keys at left) ≡ ascending (keys (at + p.wpr) (left - 1))
+      keys-go h = opens ∙ ap (λ (b : Bool). b && ascending (keys (at + p.wpr) (left - 1))) (sym is ∙ h)
 
-      pub keys-stop : not x ≡ true → ascending (keys at left) ≡ false
-      keys-stop h = opens ∙ ap (λ (b : Bool). b && ascending (keys (at + p.wpr) (left - 1))) (sym is ∙ not-true x h)
-
-      -- of the whole, which has been the same so far
-      module _ (n : ℕ) (here : ascending (keys 1 n) ≡ ascending (keys at left)) where
-        pub keys-again : not x ≡ false → ascending (keys 1 n) ≡ ascending (keys (at + p.wpr) (left - 1))
-        keys-again h = here ∙ keys-go h
-
-        pub keys-told : not x ≡ true → false ≡ ascending (keys 1 n)
-        keys-told h = sym (here ∙ keys-stop h)
+      pub keys-stop : x ≡ false → ascending (keys at left) ≡ false
+      keys-stop h = opens ∙ ap (λ (b : Bool). b && ascending (keys (at + p.wpr) (left - 1))) (sym is ∙ h)
 
   -- one key or none
   pub keys-end : left ≤ 1 → ascending (keys at left) ≡ true
@@ -89,5 +69,57 @@ module _ (p : Description) (t : List ℕ) (at left : ℕ) where
       go (suc zero) l = refl
       go (suc (suc n)) l = absurd (omega arith)
 
-  pub keys-done : (n : ℕ) → ascending (keys 1 n) ≡ ascending (keys at left) → left ≤ 1 → true ≡ ascending (keys 1 n)
-  keys-done n here h = sym (here ∙ keys-end h)
+-- one row more
+pub row-more : (n w : ℕ) → (n + 1) * w ≡ w + n * w
+row-more n w = omega arith
+
+-- the pairs of n keys, of which `last` is the number
+module _ (p : Description) (t : List ℕ) (n : ℕ) where
+  abbrev behind : ℕ → List (List ℕ)
+  behind i = keys_of p (rows_from p.wpr (1 + i * p.wpr) (n - i) t)
+
+  abbrev all : List (List ℕ)
+  all = keys_of p (rows_from p.wpr 1 n t)
+
+  pub rows-first : 1 + n * p.wpr ≤ length t → 1 + 0 * p.wpr + (n - 0) * p.wpr ≤ length t
+  rows-first h =
+      let z : n - 0 ≡ n = omega arith in
+      omega (arith, ap (λ (k : ℕ). k * p.wpr) z)
+
+  pub keys-first : ascending all ≡ ascending (behind 0)
+  keys-first =
+      let a : 1 ≡ 1 + 0 * p.wpr = omega arith in
+      let z : n ≡ n - 0 = omega arith in
+      λ j. ascending (keys_of p (rows_from p.wpr (a j) (z j) t))
+
+  -- i of them have ascended: what the next tells, and what is left after it
+  module _ (i last : ℕ) (ends : last ≡ n - 1) where
+    pub rows-after : i < last → 1 + i * p.wpr + (n - i) * p.wpr ≤ length t → 1 + (i + 1) * p.wpr + (n - (i + 1)) * p.wpr ≤ length t
+    rows-after l h =
+        let m : n - i - 1 ≡ n - (i + 1) = omega arith in
+        omega (arith, rows-less (n - i) p.wpr (omega arith), ap (λ (k : ℕ). k * p.wpr) m, row-more i p.wpr)
+
+    pub pair-within : i < last → 1 + i * p.wpr + (n - i) * p.wpr ≤ length t → p.k ≤ p.wpr
+        → (1 + i * p.wpr + p.k ≤ length t) × (1 + i * p.wpr + p.wpr + p.k ≤ length t)
+    pair-within l h k =
+        let e = key-next p t (1 + i * p.wpr) (n - i) h (omega arith) k in
+        (omega arith, e)
+
+    module _ (x : Bool) (is : x ≡ key_lt (part (1 + i * p.wpr) p.k t) (part (1 + i * p.wpr + p.wpr) p.k t)) (more : i < last) (short : p.k ≤ p.wpr)
+        (here : ascending all ≡ ascending (behind i)) where
+      many : 1 < n - i
+      many = omega arith
+
+      pub keys-again : x ≡ true → ascending all ≡ ascending (behind (i + 1))
+      keys-again h =
+          let m : n - i - 1 ≡ n - (i + 1) = omega arith in
+          let r = row-more i p.wpr in
+          let a : 1 + i * p.wpr + p.wpr ≡ 1 + (i + 1) * p.wpr = omega arith in
+          here ∙ keys-go p t (1 + i * p.wpr) (n - i) many short x is h
+          ∙ (λ j. ascending (keys_of p (rows_from p.wpr (a j) (m j) t)))
+
+      pub keys-told : x ≡ false → false ≡ ascending all
+      keys-told h = sym (here ∙ keys-stop p t (1 + i * p.wpr) (n - i) many short x is h)
+
+    pub keys-done : last ≤ i → ascending all ≡ ascending (behind i) → true ≡ ascending all
+    keys-done h here = sym (here ∙ keys-end p t (1 + i * p.wpr) (n - i) (omega arith))

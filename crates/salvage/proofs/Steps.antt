@@ -7,7 +7,6 @@ use native.Mathlib.Omega.{arith}
 use mir.Syntax.{w64}
 use mir.Val.{Fits}
 use borrow.Author.Tests.{eq-eqb, ne_eqb}
-use lib.Dec.{eqb}
 use lib.ListN.{length}
 use Rattle.numbers.specs.Numbers.{accepted, not_found}
 use Rattle.words.specs.Words.{part, put, all_are}
@@ -15,7 +14,7 @@ use Rattle.words.specs.Keys.{is_ones}
 use Rattle.rules.specs.State.{Outcome, key_in, lent}
 use Rattle.rules.specs.NsertDone.{nsert}
 use Rattle.rules.specs.Requests.{inserting, lending, answer}
-use Rattle.searchfile.specs.declared.Answer.{Answer}
+use Rattle.searchfile.specs.Answers.{Answer}
 use Rattle.searchfile.specs.Promise.{Counted, given, counted, answered}
 use Rattle.demands.proofs.Costs.{few-transfers}
 use Rattle.demands.proofs.Came.{same-parameters}
@@ -30,14 +29,7 @@ pub line-is : (g : Going) (f d x y : List ℕ) (b i r : ℕ) (h : Going) → h �
 unfolding lined
 line-is g f d x y b i r h e q = λ j. walking (e j) f d (q j)
 
--- the reason of a record not carried is a word
-pub why-is : (n r : ℕ) → r ≡ why_not n → r ≤ 262143
-why-is n r e = go (eqb n not_found) e
-  where
-    go : (c : Bool) → r ≡ cond c 5 6 → r ≤ 262143
-    go true q = omega arith
-    go false q = omega arith
-
+-- the reason of a record not carried
 pub why-second : (n : ℕ) → n ≡ not_found → 5 ≡ why_not n
 why-second n h = sym (ap (λ (c : Bool). cond c 5 6) (eq-eqb n not_found h))
 

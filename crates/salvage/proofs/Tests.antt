@@ -2,6 +2,7 @@
 use mathlib.Core.Path.{◌≡◌, refl, sym, ap, ◌∙◌}
 use mathlib.Core.Bool.{Bool, true, false, cond, not, ◌&&◌}
 use mathlib.Core.List.{List}
+use mathlib.Core.Logic.{◌⊎◌, inl, inr}
 use Prim.Native.Nat.{ℕ, ◌+◌, ◌*◌, ◌-◌, ◌≤◌, ◌<◌}
 use native.Mathlib.Nat.{mul-le-mul_right}
 use native.Mathlib.Omega.{arith}
@@ -17,6 +18,9 @@ use Rattle.drum.specs.Params.{D, good_params}
 use Rattle.drum.proofs.Good.{good-facts, caps}
 use Rattle.numbers.specs.Checked.{between}
 use Rattle.layout.specs.Holds.{ascending, keys_of}
+use Rattle.salvage.specs.declared.texts.Reason.{Reason}
+use Rattle.salvage.specs.declared.texts.Reason.TheVariants as is
+use Rattle.salvage.specs.Reasons.{word_of}
 use Rattle.salvage.specs.Met.{count_in, rows_from, records_in, missed, not_marked, bad_count, bad_word, bad_order}
 
 -- a number that is not in a range, and one that is
@@ -65,6 +69,10 @@ module _ (p : Description) (t : List ℕ) (word : ℕ) (is : word ≡ get_or t 0
   pub missed-high : 12288 ≤ word → not_marked ≡ missed p t
   unfolding missed
   missed-high h = sym λ j. by (above-range 8192 12287 (get_or t 0 0) (omega arith) j) counts words keys
+
+  pub missed-marked : (word < 8192) ⊎ ((8192 ≤ word) × (12288 ≤ word)) → not_marked ≡ missed p t
+  missed-marked (inl h) = missed-low h
+  missed-marked (inr h) = missed-high h.1
 
   -- what is marked detail
   module _ (low : 8192 ≤ word) (high : word < 12288) where
@@ -144,17 +152,11 @@ whole p t z =
     go true ea false eb c ec d ed z = absurd (omega arith)
     go false ea b eb c ec d ed z = absurd (omega arith)
 
--- each test missed is a reason
-pub reason-small : (p : Description) (t : List ℕ) → missed p t ≤ 4
-unfolding missed
-reason-small p t = go (between 8192 12287 (get_or t 0 0)) (between 1 (D p) (count_in t)) (all_words (part 1 (count_in t * p.wpr) t)) (ascending (keys_of p (records_in p t)))
-  where
-    go : (a b c d : Bool) → by a b c d ≤ 4
-    go true true true true = omega arith
-    go true true true false = omega arith
-    go true true false d = omega arith
-    go true false c d = omega arith
-    go false b c d = omega arith
-
-pub reason-told : (p : Description) (t : List ℕ) (m : ℕ) → m ≡ missed p t → m ≤ 262143
-reason-told p t m e = omega (arith, reason-small p t)
+-- a reason's word is not 0
+pub word-some : (r : Reason) → word_of r ≡ 0 → ⊥
+word-some is.NotMarked e = omega arith
+word-some is.BadCount e = omega arith
+word-some is.BadWord e = omega arith
+word-some is.BadOrder e = omega arith
+word-some is.SecondCopy e = omega arith
+word-some is.LackedRoom e = omega arith

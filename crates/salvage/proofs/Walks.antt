@@ -21,7 +21,7 @@ use Rattle.salvage.specs.declared.Going.{Going}
 use Rattle.salvage.specs.Met.{Met, over, found, count_in, rows_from, records_in, missed, places, met_in, met_from, met}
 use Rattle.salvage.specs.Salvage.{Walk, lined, step, run}
 use Rattle.salvage.specs.Promise.{walking, Spare, Ready, Taken, Copied}
-use Rattle.salvage.proofs.Rows.{part-lent, rows-less, rows-length}
+use Rattle.salvage.proofs.Rows.{part-lent, rows-less, row-more, rows-length}
 use Rattle.salvage.proofs.Tests.{range-facts, whole}
 use Rattle.salvage.proofs.Steps.{line-is, run_more, spare-after, desc-after}
 
@@ -53,7 +53,7 @@ module _ (g : Going) (t : List ℕ) (b n : ℕ) (h : Taken g t b n) where
     pub count-few : count ≤ 4096
     count-few = let c = caps _ h.ready.good in omega (arith, h.counted)
 
-    pub rows-within : 1 + (count - 0) * g.session.desc.wpr ≤ length t
+    pub rows-within : 1 + 0 * g.session.desc.wpr + (count - 0) * g.session.desc.wpr ≤ length t
     rows-within =
         let c = caps _ h.ready.good in
         let z : count - 0 ≡ count_in t = omega arith in
@@ -63,10 +63,11 @@ module _ (g : Going) (t : List ℕ) (b n : ℕ) (h : Taken g t b n) where
     pub records-spare : Spare g (count - 0) n
     records-spare = let s = h.ready.spare in let a = s.lines in let c = s.transfers in record { lines = omega (arith, h.counted); transfers = omega (arith, h.counted) }
 
-    pub records-first : (w : Walk) → run w (places b 1 (records_in g.session.desc t)) ≡ run w (places b (0 + 1) (rows_from g.session.desc.wpr 1 (count - 0) t))
+    pub records-first : (w : Walk) → run w (places b 1 (records_in g.session.desc t)) ≡ run w (places b (0 + 1) (rows_from g.session.desc.wpr (1 + 0 * g.session.desc.wpr) (count - 0) t))
     records-first w =
         let z : count_in t ≡ count - 0 = omega arith in
-        ap (λ (k : ℕ). run w (places b 1 (rows_from g.session.desc.wpr 1 k t))) z
+        let a : 1 ≡ 1 + 0 * g.session.desc.wpr = omega arith in
+        λ j. run w (places b 1 (rows_from g.session.desc.wpr (a j) (z j) t))
 
 -- the record at word `at`, the i + 1st of count
 module _ (count i w at : ℕ) (t : List ℕ) (within : at + (count - i) * w ≤ length t) (more : i < count) where
@@ -78,11 +79,8 @@ module _ (count i w at : ℕ) (t : List ℕ) (within : at + (count - i) * w ≤ 
   pub record-end : at + w ≤ length t
   record-end = omega (arith, left_less)
 
-  pub end_fits : Fits w64 (length t) → Fits w64 (at + w)
-  end_fits h = omega (arith, left_less)
-
-  pub rows-after : at + w + (count - (i + 1)) * w ≤ length t
-  rows-after = omega (arith, left_less)
+  pub rows-after : at ≡ 1 + i * w → 1 + (i + 1) * w + (count - (i + 1)) * w ≤ length t
+  rows-after e = omega (arith, left_less, row-more i w)
 
   pub key-lent : (g : Going) (p : Description) → g.session.desc ≡ p → w ≡ p.wpr → good_params p ≡ true
       → g.session.desc.k ≤ length (take (at + w - at) (drop at t))
@@ -111,14 +109,16 @@ module _ (g h : Going) (f d x f' d' x' : List ℕ) (b i w at : ℕ) (t : List �
   pub record-desc : (p : Description) → g.session.desc ≡ p → h.session.desc ≡ p
   record-desc p q = desc-after g h f d x f' d' x' one as-run ∙ q
 
-  pub record-turn : (whole : Walk) → whole ≡ run (walking g f d x) (places b (i + 1) (rows_from w at (count - i) t))
-      → whole ≡ run (walking h f' d' x') (places b (i + 1 + 1) (rows_from w (at + w) (count - (i + 1)) t))
+  pub record-turn : (whole : Walk) → whole ≡ run (walking g f d x) (places b (i + 1) (rows_from w at (count - i) t)) → at ≡ 1 + i * w
+      → whole ≡ run (walking h f' d' x') (places b (i + 1 + 1) (rows_from w (1 + (i + 1) * w) (count - (i + 1)) t))
   unfolding run places rows_from
-  record-turn whole q =
+  record-turn whole q is =
       let m : count - i ≡ suc (count - (i + 1)) = omega arith in
+      let r = row-more i w in
+      let next : at + w ≡ 1 + (i + 1) * w = omega arith in
       q ∙ ap (λ (k : ℕ). run (walking g f d x) (places b (i + 1) (rows_from w at k t))) m
       ∙ ap (λ (r : List ℕ). run (step (walking g f d x) (found b (i + 1) r)) (places b (i + 1 + 1) (rows_from w (at + w) (count - (i + 1)) t))) (sym (part-lent at w t))
-      ∙ ap (λ (v : Walk). run v (places b (i + 1 + 1) (rows_from w (at + w) (count - (i + 1)) t))) (sym e)
+      ∙ (λ j. run (sym e j) (places b (i + 1 + 1) (rows_from w (next j) (count - (i + 1)) t)))
 
 -- at last
 pub records-end : (whole w : Walk) (b i v at count : ℕ) (t : List ℕ) → whole ≡ run w (places b (i + 1) (rows_from v at (count - i) t)) → count ≤ i → w ≡ whole
@@ -189,14 +189,6 @@ module _ (g : Going) (t : List ℕ) (b m : ℕ) (told : m ≡ missed g.session.d
   unfolding met_in given_by
   block_run v w e z = e ∙ sym (ap (given_by w) (ap (λ (n : ℕ). eqb n 0) (sym told) ∙ eq-eqb m 0 z))
 
--- of a text that can be looked at
-module _ (g : Going) (t : List ℕ) (b n : ℕ) (h : Ready g t b n) where
-  pub ready-line : 3 * (g.lines + 1) ≤ n
-  ready-line = let s = h.spare in let l = s.lines in omega arith
-
-  pub ready-block : b ≤ 262143
-  ready-block = h.block
-
 pub met-few : (p : Description) (b : ℕ) (t : List ℕ) → length (met_in p b t) ≤ 1 + D p
 unfolding met_in
 met-few p b t = go (eqb (missed p t) 0) refl
@@ -225,9 +217,6 @@ module _ (g : Going) (copy : List ℕ) (h : Copied g copy) where
   -- the same of the walk further on, whose parameters are the same
   pub copied_on : (k : Going) → k.session.desc ≡ g.session.desc → Copied k copy
   copied_on k e = record { good = ap good_params e ∙ h.good; copy_is = h.copy_is ∙ ap file_size (sym e) }
-
-pub blocks-fit : (b n : ℕ) → b < n → Fits w64 n → Fits w64 (b + 1)
-blocks-fit b n l f = omega arith
 
 pub spare-first : (g : Going) (k n : ℕ) → Spare g (g.session.desc.n * k) n → Spare g ((g.session.desc.n - 0) * k) n
 spare-first g k n s =

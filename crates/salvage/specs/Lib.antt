@@ -1,3 +1,4 @@
 pub mod Met
+pub mod Reasons
 pub mod Salvage
 pub mod Promise

@@ -51,14 +51,10 @@ fn begin(desc: Description, fresh: &mut [u32]) -> Going
 fn is_roomy(p: Description, copy: usize, fresh: usize, buffer: usize, report: usize) -> bool
     ensures { result ≡ roomy p copy fresh buffer report }
 {
-    if !p.is_sized(fresh, buffer) {
+    if !p.is_sized(fresh, buffer) || copy != fresh {
         return false;
     }
-    if copy != fresh {
-        return false;
-    }
-    let most = p.n * (1 + p.d());
-    3 * most <= report
+    3 * (p.n * (1 + p.d())) <= report
 }
 
 // CLOSE, and what the call answers.
@@ -66,8 +62,7 @@ fn finish(going: Going, fresh: &mut [u32], buffer: &[u32]) -> Salvaged
     requires { going.transfers ≤ 1099511627776 }
     ensures { answered_with result fresh.new buffer.now [] ≡ ended (walking going fresh.old buffer.now []) }
 {
-    let held = going.session;
-    let answer = held.close(fresh, buffer);
+    let answer = going.session.close(fresh, buffer);
     Salvaged {
         number: DONE,
         transfers: going.transfers + answer.transfers,

@@ -2,10 +2,10 @@
 // a good file that lacks room, and the same padded; a report that is too short.
 #![tactic(auto)]
 
-mod said;
+mod shown;
 
 use drum::Description;
-use said::{end_line, print_words, told};
+use shown::told;
 use std::io;
 
 fn description(wpb: usize, wpr: usize, control: usize, n: usize, form: usize) -> Description {
@@ -30,10 +30,7 @@ fn damaged(out: &impl Print, form: usize) -> io::Result<()> {
     let mut report = [5u32; 72];
     let p = description(8, 3, 1, 8, form);
     let done = salvage::salvage(p, &copy, &mut fresh, &mut buffer, &mut report);
-    told(out, b"DAMAGED", done, &report)?;
-    print_words(out, b"  fresh", &fresh)?;
-    print_words(out, b"\n  buffer", &buffer)?;
-    end_line(out)
+    told(out, "DAMAGED", done, &report, &fresh, &buffer)
 }
 
 // Key 4 lacks room in block 2, so its copy in block 3 lacks room too.
@@ -46,10 +43,7 @@ fn crowded(out: &impl Print) -> io::Result<()> {
     let mut report = [5u32; 27];
     let p = description(6, 2, 1, 3, 1);
     let done = salvage::salvage(p, &copy, &mut fresh, &mut buffer, &mut report);
-    told(out, b"CROWDED", done, &report)?;
-    print_words(out, b"  fresh", &fresh)?;
-    print_words(out, b"\n  buffer", &buffer)?;
-    end_line(out)
+    told(out, "CROWDED", done, &report, &fresh, &buffer)
 }
 
 // A good file of three detail blocks, filled by XTEND: its two last records lack room in one filled by NSERT.
@@ -63,10 +57,7 @@ fn good(out: &impl Print) -> io::Result<()> {
     let mut report = [5u32; 48];
     let p = description(8, 2, 1, 4, 1);
     let done = salvage::salvage(p, &copy, &mut fresh, &mut buffer, &mut report);
-    told(out, b"GOOD", done, &report)?;
-    print_words(out, b"  fresh", &fresh)?;
-    print_words(out, b"\n  buffer", &buffer)?;
-    end_line(out)
+    told(out, "GOOD", done, &report, &fresh, &buffer)
 }
 
 // The same with a section and two blocks more: nothing lacks room.
@@ -82,10 +73,7 @@ fn padded(out: &impl Print) -> io::Result<()> {
     let mut report = [5u32; 72];
     let p = description(8, 2, 2, 6, 1);
     let done = salvage::salvage(p, &copy, &mut fresh, &mut buffer, &mut report);
-    told(out, b"PADDED", done, &report)?;
-    print_words(out, b"  fresh", &fresh)?;
-    print_words(out, b"\n  buffer", &buffer)?;
-    end_line(out)
+    told(out, "PADDED", done, &report, &fresh, &buffer)
 }
 
 // 020007, all unchanged: a report one word short.
@@ -96,10 +84,7 @@ fn short(out: &impl Print) -> io::Result<()> {
     let mut report = [5u32; 26];
     let p = description(6, 2, 1, 3, 1);
     let done = salvage::salvage(p, &copy, &mut fresh, &mut buffer, &mut report);
-    told(out, b"SHORT", done, &report)?;
-    print_words(out, b"  fresh", &fresh)?;
-    print_words(out, b"\n  buffer", &buffer)?;
-    end_line(out)
+    told(out, "SHORT", done, &report, &fresh, &buffer)
 }
 
 fn main(rt: HostRuntime) -> io::Result<()> {

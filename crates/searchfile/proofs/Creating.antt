@@ -13,7 +13,7 @@ use Rattle.layout.specs.Create.{created}
 use Rattle.rules.specs.Open.{create}
 use Rattle.rules.specs.Run.{created_outcome}
 use Rattle.searchfile.specs.declared.Session as code
-use Rattle.searchfile.specs.declared.Answer.{Answer}
+use Rattle.searchfile.specs.Answers.{Answer}
 use Rattle.searchfile.specs.Promise.{given, counted, answered, creating}
 
 -- the size, once the parameters are tested

@@ -3,25 +3,25 @@ use Prim.Native.Nat.{ℕ}
 use mathlib.Core.Path.{◌≡◌, sym, ◌∙◌}
 use mathlib.Core.List.{List, []}
 use Rattle.rules.specs.Turning.{turn_left, turning, describing, turn_file}
-use Rattle.turn.specs.declared.Turned.{Turned}
+use Rattle.drum.specs.declared.Description.{Description}
 use Rattle.searchfile.specs.declared.Session as code
 use Rattle.searchfile.specs.Promise.{given}
 use Rattle.searchfile.specs.Turning.{counted_turn, answered_turn, OneTurned}
 use Rattle.searchfile.proofs.OneResult.{one_answer}
 
--- number and parameters are the turning function's; the rest of the session is that which came in
-pub turn-told : (s : code.Session) (t : Turned) (f marks g m : List ℕ) → turn_left t.number t.desc g m ≡ turning s.desc s.opened f marks
+-- number and parameters are what the turning function left; the rest of the session is that which came in
+pub turn-told : (s : code.Session) (n : ℕ) (p : Description) (f marks g m : List ℕ) → turn_left n p g m ≡ turning s.desc s.opened f marks
     → answered_turn
     (record {
-      number = t.number;
+      number = n;
       transfers = 0;
       session =
-          record { desc = t.desc; opened = s.opened; current = s.current; flag = s.flag; placed = s.placed; position = s.position };
+          record { desc = p; opened = s.opened; current = s.current; flag = s.flag; placed = s.placed; position = s.position };
     })
     g m
     ≡ counted_turn (turn_file (given s f [] []) marks)
 unfolding turn_file describing
-turn-told s t f marks g m e = λ j. record {
+turn-told s n p f marks g m e = λ j. record {
   outcome = record {
     number = (e j).number;
     transfers = 0;

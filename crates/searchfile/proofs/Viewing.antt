@@ -11,7 +11,6 @@ use Rattle.numbers.proofs.Passed.{both}
 use Rattle.drum.specs.Params.{good_params, sized}
 use Rattle.drum.specs.Blocks.{Fitting, seen, text_of}
 use Rattle.drum.proofs.Good.{sized-facts}
-use Rattle.rules.specs.State.{Session}
 use Rattle.rules.specs.Close.{view}
 use Rattle.searchfile.specs.declared.Session as code
 use Rattle.searchfile.specs.Promise.{held}

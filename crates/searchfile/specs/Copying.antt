@@ -1,7 +1,7 @@
 -- The form of the copying call's promise, and that two results allowed by it are equal. Nothing is proved here.
 use Rattle.std.specs.Prelude.{ℕ, ◌≡◌, List, []}
 use Rattle.rules.specs.Copy.{Copying}
-use Rattle.searchfile.specs.declared.Answer.{Answer}
+use Rattle.searchfile.specs.Answers.{Answer}
 use Rattle.searchfile.specs.Promise.{Counted, counted, answered}
 
 -- what a caller can see of it: the outcome, the second file and the marks [M5, M6]

@@ -1,3 +1,4 @@
+pub mod Answers
 pub mod Promise
 pub mod Parts
 pub mod OneResult

@@ -2,7 +2,7 @@
 use Rattle.std.specs.Prelude.{ℕ, ◌≡◌, List}
 use Rattle.rules.specs.State.{Session, Outcome}
 use Rattle.rules.specs.Open.{Opened}
-use Rattle.searchfile.specs.declared.Answer.{Answer}
+use Rattle.searchfile.specs.Answers.{Answer}
 use Rattle.searchfile.specs.Promise.{counted, counted_open, answered, answered_open}
 use Rattle.searchfile.specs.Parts.{Borrowed, part_of, view_part}
 

@@ -5,7 +5,7 @@ use Rattle.rules.specs.Open.{create}
 use Rattle.rules.specs.Run.{created_outcome}
 pub use Rattle.face.specs.Counted.{Counted, counted, CountedOpen, counted_open, next}
 use Rattle.searchfile.specs.declared.Session as code
-use Rattle.searchfile.specs.declared.Answer.{Answer}
+use Rattle.searchfile.specs.Answers.{Answer}
 
 -- a session of the code, field by field as "The session" names them [S1]
 abbrev pub held : code.Session → Session

@@ -1,7 +1,7 @@
 -- The form of the turning call's promise, and that two results allowed by it are equal. Nothing is proved here.
 use Rattle.std.specs.Prelude.{ℕ, ◌≡◌, List, []}
 use Rattle.rules.specs.Turning.{TurnedFile}
-use Rattle.searchfile.specs.declared.Answer.{Answer}
+use Rattle.searchfile.specs.Answers.{Answer}
 use Rattle.searchfile.specs.Promise.{Counted, counted, answered}
 
 -- what a caller can see of it: the outcome and the marks [K6]

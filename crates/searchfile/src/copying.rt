@@ -5,6 +5,7 @@ ghost use Rattle.searchfile.specs.Promise.{given};
 ghost use Rattle.searchfile.specs.Copying.{counted_copy, answered_copy};
 
 use super::{Answer, Session};
+use numbers::DONE;
 
 impl Session {
     // Writes every word of the second file, or none. The session stays as it is: it describes the first file, which is only read.
@@ -18,12 +19,13 @@ impl Session {
         ensures { answered_copy result file.now second.new marks.new
             ≡ counted_copy (copy_file (given self file.now [] []) second.old control marks.old) }
     {
-        let p = self.desc;
-        let number = copy::copy_file(p, self.opened, control, file, second, marks);
-        Answer {
-            number,
-            transfers: 0,
-            session: self,
+        match copy::copy_file(self.desc, self.opened, control, file, second, marks) {
+            Ok(()) => Answer {
+                number: DONE,
+                transfers: 0,
+                session: self,
+            },
+            Err(refusal) => self.refused(refusal),
         }
     }
 }

@@ -1,13 +1,14 @@
 // The calls on a whole file, and VIEW: no workspace is lent.
 ghost use Rattle.std.specs.Prelude.{◌≡◌, []};
-ghost use Rattle.rules.specs.Open.{open_file};
-ghost use Rattle.rules.specs.Close.{close as closed};
+ghost use Rattle.rules.specs.Open.{open_file, open_checks};
+ghost use Rattle.rules.specs.Close.{close as closed, close_checks};
+ghost use Rattle.numbers.specs.Refused.{tested};
 ghost use Rattle.searchfile.specs.Promise.{held, given, counted, answered, creating, counted_open, answered_open};
 ghost use Rattle.searchfile.specs.Parts.{part_of, shown, view_part};
 
 use super::{Answer, Session};
-use numbers::{ALREADY_OPEN, BAD_FILE, DONE, IS_CLOSED, WRONG_SIZE};
-use rules::Held;
+use drum::Seen;
+use numbers::{DONE, Refusal, require};
 
 impl Session {
     // CREATE: writes a new file with the session's parameters, every word of it. It has no session: whatever this one is, it stays so.
@@ -16,10 +17,10 @@ impl Session {
     {
         let p = self.desc;
         if !p.is_good() {
-            return self.refused(WRONG_SIZE);
+            return self.refused(Refusal::WrongSize);
         }
         if file.len() != p.file_size() {
-            return self.refused(WRONG_SIZE);
+            return self.refused(Refusal::WrongSize);
         }
         layout::lay_out(p, file);
         Answer {
@@ -29,29 +30,35 @@ impl Session {
         }
     }
 
+    // What refuses OPEN before the file is looked at.
+    fn open_checks(self, file: &[u32], buffer: &[u32], marks: &[u8]) -> Result<(), Refusal>
+        ensures { tested result ≡ open_checks (given self file.now buffer.now []) marks.now }
+    {
+        require(
+            self.desc.is_sized(file.len(), buffer.len()),
+            Refusal::WrongSize,
+        )?;
+        require(marks.len() == self.desc.n, Refusal::WrongSize)?;
+        require(!self.opened, Refusal::AlreadyOpen)
+    }
+
     // OPEN: the file is inspected, and every block marked: 1 reached from the master, 2 chained, 0 never used.
     pub fn open_file(self, file: &[u32], buffer: &[u32], marks: &mut [u8]) -> Answer
         ensures { answered_open result file.now buffer.now marks.new
             ≡ counted_open (open_file (given self file.now buffer.now []) marks.old) }
     {
-        let p = self.desc;
-        if !p.is_sized(file.len(), buffer.len()) {
-            return self.refused(WRONG_SIZE);
-        }
-        if marks.len() != p.n {
-            return self.refused(WRONG_SIZE);
-        }
-        if self.opened {
-            return self.refused(ALREADY_OPEN);
-        }
-        if !layout::inspect(p, file, marks) {
-            return self.refused(BAD_FILE);
-        }
-        let rest = self.at_rest(true);
-        Answer {
-            number: DONE,
-            transfers: 0,
-            session: rest,
+        match self.open_checks(file, buffer, marks) {
+            Ok(()) => {
+                if !layout::inspect(self.desc, file, marks) {
+                    return self.refused(Refusal::BadFile);
+                }
+                Answer {
+                    number: DONE,
+                    transfers: 0,
+                    session: self.at_rest(true),
+                }
+            }
+            Err(refusal) => self.refused(refusal),
         }
     }
 
@@ -59,30 +66,35 @@ impl Session {
     pub fn close(self, file: &mut [u32], buffer: &[u32]) -> Answer
         ensures { answered result file.new buffer.now [] ≡ counted (closed (given self file.old buffer.now [])) }
     {
-        let p = self.desc;
-        let current = self.current;
-        let flag = self.flag;
-        if !p.is_sized(file.len(), buffer.len()) {
-            return self.refused(WRONG_SIZE);
+        match self.close_checks(file, buffer) {
+            Ok(()) => {
+                let transfers = acts::flush(self.at(), file, buffer);
+                Answer {
+                    number: DONE,
+                    transfers,
+                    session: self.at_rest(false),
+                }
+            }
+            Err(refusal) => self.refused(refusal),
         }
-        if !self.opened {
-            return self.refused(IS_CLOSED);
-        }
-        if !lookup::can_flush(p, current, flag) {
-            return self.refused(BAD_FILE);
-        }
-        let at = Held {
-            desc: p,
-            current,
-            flag,
+    }
+
+    // What refuses CLOSE.
+    fn close_checks(self, file: &[u32], buffer: &[u32]) -> Result<(), Refusal>
+        ensures { tested result ≡ close_checks (given self file.now buffer.now []) }
+    {
+        require(
+            self.desc.is_sized(file.len(), buffer.len()),
+            Refusal::WrongSize,
+        )?;
+        require(self.opened, Refusal::IsClosed)?;
+        let v = Seen {
+            desc: self.desc,
+            current: self.current,
+            file,
+            buffer,
         };
-        let wrote = acts::flush(at, file, buffer);
-        let rest = self.at_rest(false);
-        Answer {
-            number: DONE,
-            transfers: wrote,
-            session: rest,
-        }
+        require(lookup::can_flush(v, self.flag), Refusal::BadFile)
     }
 
     // Whether VIEW of block b lends a text: not for a closed session, wrong sizes, or a block outside 1..N.

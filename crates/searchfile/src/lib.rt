@@ -8,15 +8,16 @@ mod records;
 mod turning;
 
 ghost use Rattle.std.specs.Prelude.{◌≡◌, false, ◌≤◌, length, replicate};
-ghost use Rattle.words.specs.Words.{part, put};
+ghost use Rattle.numbers.specs.Refused.{number_of};
 ghost use Rattle.rules.specs.State.{at_rest};
 ghost use Rattle.searchfile.specs.Promise.{held, next};
 
 use drum::Description;
-use rules::Done;
+use numbers::Refusal;
+use rules::{Done, Held};
 
 // "A value handed in and back": the parameters, open or closed, the current block (0 none), the write flag, and the position: a key in its
-// first K words, which means nothing unless `placed`.
+// first K words, which means nothing unless `placed`. Flag and 0 stay as the words of a session for C have them.
 #[derive(Clone, Copy)]
 pub struct Session {
     pub desc: Description,
@@ -28,20 +29,7 @@ pub struct Session {
 }
 
 // What a call answers: its number (crate `numbers`), the transfers it made, and the session to go on with.
-#[derive(Clone, Copy)]
-pub struct Answer {
-    pub number: u32,
-    pub transfers: usize,
-    pub session: Session,
-}
-
-// Writes the key of k words that stands first in the workspace over the first words of a position.
-fn put_key(position: &mut [u32; 63], work: &[u32], k: usize)
-    requires { (k ≤ 63) × (k ≤ length work.now) }
-    ensures { position.new ≡ put position.old 0 (part 0 k work.now) }
-{
-    words::copy_words(position, 0, work, 0, k);
-}
+pub type Answer = face::Answer<Session>;
 
 impl Session {
     // A closed session with these parameters.
@@ -60,12 +48,23 @@ impl Session {
         }
     }
 
+    // What the steps of a call work with.
+    fn at(self) -> Held
+        ensures { result ≡ record { desc = self.desc; current = self.current; flag = self.flag } }
+    {
+        Held {
+            desc: self.desc,
+            current: self.current,
+            flag: self.flag,
+        }
+    }
+
     // "all unchanged", no transfers.
-    fn refused(self, number: u32) -> Answer
-        ensures { result ≡ record { number = number; transfers = 0; session = self } }
+    fn refused(self, refusal: Refusal) -> Answer
+        ensures { result ≡ record { number = number_of refusal; transfers = 0; session = self } }
     {
         Answer {
-            number,
+            number: u32::from(refusal),
             transfers: 0,
             session: self,
         }
@@ -101,7 +100,7 @@ impl Session {
         next.session.current = done.current;
         next.session.flag = done.flag;
         if done.keyed {
-            put_key(&mut next.session.position, work, k);
+            face::put_key(&mut next.session.position, work, k);
             next.session.placed = true;
         }
         next

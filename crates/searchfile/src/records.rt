@@ -1,4 +1,5 @@
-// The calls on records: each is lent a workspace, and is its refusals and then its steps.
+// The calls on records: each is lent a workspace, and is its refusals and then its steps. They stay six bodies: a function that took the steps as a
+// parameter would have to say what becomes of three lent slices under any steps, which is more than the three lines it spares.
 ghost use Rattle.std.specs.Prelude.{◌≡◌};
 ghost use Rattle.rules.specs.Adv.{adv as advanced};
 ghost use Rattle.rules.specs.NsertDone.{nsert as inserted};
@@ -9,7 +10,6 @@ ghost use Rattle.searchfile.specs.Promise.{given, counted, answered};
 
 use super::{Answer, Session};
 use face::{refused_key, refused_plain};
-use rules::Held;
 
 impl Session {
     // SEEK: the record with the workspace's key to the workspace.
@@ -18,13 +18,13 @@ impl Session {
             ≡ counted (sought (given self file.old buffer.old work.old)) }
     {
         let p = self.desc;
-        let k = p.k;
-        let number = refused_key(p, self.opened, file.len(), buffer.len(), work, k);
-        if number != 0 {
-            return self.refused(number);
+        match refused_key(p, self.opened, file.len(), buffer.len(), work, p.k) {
+            Ok(()) => {
+                let done = seek::seek(self.at(), file, buffer, work);
+                self.after(done, work)
+            }
+            Err(refusal) => self.refused(refusal),
         }
-        let done = seek::seek(p, self.current, self.flag, file, buffer, work);
-        self.after(done, work)
     }
 
     // UPDAT: the record with the workspace's key replaced by the workspace.
@@ -33,13 +33,13 @@ impl Session {
             ≡ counted (updated (given self file.old buffer.old work.now)) }
     {
         let p = self.desc;
-        let wpr = p.wpr;
-        let number = refused_key(p, self.opened, file.len(), buffer.len(), work, wpr);
-        if number != 0 {
-            return self.refused(number);
+        match refused_key(p, self.opened, file.len(), buffer.len(), work, p.wpr) {
+            Ok(()) => {
+                let done = seek::updat(self.at(), file, buffer, work);
+                self.after(done, work)
+            }
+            Err(refusal) => self.refused(refusal),
         }
-        let done = seek::updat(p, self.current, self.flag, file, buffer, work);
-        self.after(done, work)
     }
 
     // ADV: the record with the least key above position to the workspace.
@@ -48,18 +48,14 @@ impl Session {
             ≡ counted (advanced (given self file.old buffer.old work.old)) }
     {
         let p = self.desc;
-        let number = refused_plain(p, self.opened, file.len(), buffer.len(), work.len());
-        if number != 0 {
-            return self.refused(number);
+        match refused_plain(p, self.opened, file.len(), buffer.len(), work.len()) {
+            Ok(()) => {
+                let position = self.position;
+                let done = adv::adv(self.at(), self.placed, &position, file, buffer, work);
+                self.after(done, work)
+            }
+            Err(refusal) => self.refused(refusal),
         }
-        let position = self.position;
-        let at = Held {
-            desc: p,
-            current: self.current,
-            flag: self.flag,
-        };
-        let done = adv::adv(at, self.placed, &position, file, buffer, work);
-        self.after(done, work)
     }
 
     // NSERT: the workspace's record put in, unless its key is there.
@@ -68,13 +64,13 @@ impl Session {
             ≡ counted (inserted (given self file.old buffer.old work.now)) }
     {
         let p = self.desc;
-        let wpr = p.wpr;
-        let number = refused_key(p, self.opened, file.len(), buffer.len(), work, wpr);
-        if number != 0 {
-            return self.refused(number);
+        match refused_key(p, self.opened, file.len(), buffer.len(), work, p.wpr) {
+            Ok(()) => {
+                let done = nsert::nsert(self.at(), file, buffer, work);
+                self.after(done, work)
+            }
+            Err(refusal) => self.refused(refusal),
         }
-        let done = nsert::nsert(p, self.current, self.flag, file, buffer, work);
-        self.after(done, work)
     }
 
     // DLETE: the record with the workspace's key taken out.
@@ -83,13 +79,13 @@ impl Session {
             ≡ counted (deleted (given self file.old buffer.old work.now)) }
     {
         let p = self.desc;
-        let k = p.k;
-        let number = refused_key(p, self.opened, file.len(), buffer.len(), work, k);
-        if number != 0 {
-            return self.refused(number);
+        match refused_key(p, self.opened, file.len(), buffer.len(), work, p.k) {
+            Ok(()) => {
+                let done = dlete::dlete(self.at(), file, buffer, work);
+                self.after(done, work)
+            }
+            Err(refusal) => self.refused(refusal),
         }
-        let done = dlete::dlete(p, self.current, self.flag, file, buffer, work);
-        self.after(done, work)
     }
 
     // XTEND: the workspace's record put in after all others, in ascending order.
@@ -98,12 +94,12 @@ impl Session {
             ≡ counted (extended (given self file.old buffer.old work.now)) }
     {
         let p = self.desc;
-        let wpr = p.wpr;
-        let number = refused_key(p, self.opened, file.len(), buffer.len(), work, wpr);
-        if number != 0 {
-            return self.refused(number);
+        match refused_key(p, self.opened, file.len(), buffer.len(), work, p.wpr) {
+            Ok(()) => {
+                let done = xtend::xtend(self.at(), file, buffer, work);
+                self.after(done, work)
+            }
+            Err(refusal) => self.refused(refusal),
         }
-        let done = xtend::xtend(p, self.current, self.flag, file, buffer, work);
-        self.after(done, work)
     }
 }

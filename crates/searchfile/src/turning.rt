@@ -5,6 +5,7 @@ ghost use Rattle.searchfile.specs.Promise.{given};
 ghost use Rattle.searchfile.specs.Turning.{counted_turn, answered_turn};
 
 use super::{Answer, Session};
+use numbers::DONE;
 
 impl Session {
     // Hands the session back with the other form where it answers 0; all else of it stays as it is. A buffer is not lent: what stands in it is of the old
@@ -12,14 +13,13 @@ impl Session {
     pub fn turn(self, file: &mut [u32], marks: &mut [u8]) -> Answer
         ensures { answered_turn result file.new marks.new ≡ counted_turn (turn_file (given self file.old [] []) marks.old) }
     {
-        let turned = turn::turn(self.desc, self.opened, file, marks);
-        let desc = turned.desc;
-        let mut next = self;
-        next.desc = desc;
-        Answer {
-            number: turned.number,
-            transfers: 0,
-            session: next,
+        match turn::turn(self.desc, self.opened, file, marks) {
+            Ok(desc) => Answer {
+                number: DONE,
+                transfers: 0,
+                session: Session { desc, ..self },
+            },
+            Err(refusal) => self.refused(refusal),
         }
     }
 }

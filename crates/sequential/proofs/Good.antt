@@ -1,17 +1,16 @@
 -- What a good layout and whole blocks are, as facts: the ranges, and that a place inside is a word of the file.
 use mathlib.Core.Path.{◌≡◌, refl}
-use mathlib.Core.Bool.{Bool, true, false}
+use mathlib.Core.Bool.{true}
 use Prim.Native.Nat.{ℕ, ◌+◌, ◌*◌, ◌-◌, ◌/◌, ◌%◌, ◌≤◌, ◌<◌}
 use native.Mathlib.Nat.{mul-le-mul_right, mul-le-mul_left, div-mul-le_self}
 use native.Mathlib.Omega.{arith}
-use lib.Dec.{ltb}
-use borrow.Author.Tests.{le-leb, leb-true, eq-eqb, eqb-true, ltb-true}
+use borrow.Author.Tests.{leb-true, eqb-true, ltb-true}
 use Rattle.words.proofs.All.{and_both}
 use Rattle.sequential.specs.declared.Layout.{Layout}
 use Rattle.sequential.specs.declared.Place.{Place}
 use Rattle.sequential.specs.declared.Row.{Row}
 use Rattle.sequential.specs.Rows.{area, good_layout, whole, blocks, word_of}
-use Rattle.sequential.specs.Lent.{Fine, InBlock, InArea, Inside, Reading, LiesIn}
+use Rattle.sequential.specs.Lent.{Fine, InBlock, InArea, Inside, LiesIn}
 
 -- the ranges of a layout
 pub record Good (l : Layout) : Type 0 where
@@ -38,19 +37,6 @@ good-facts l h =
       area-is = refl;
     }
 
-pub good-no : (l : Layout) → (Good l → ⊥) → good_layout l ≡ false
-good-no l f = go (good_layout l) refl
-  where
-    go : (b : Bool) → good_layout l ≡ b → good_layout l ≡ false
-    go true e = absurd (f (good-facts l e))
-    go false e = e
-
--- where the other ranges are kept, the leader words decide
-pub good-last : (l : Layout) (b : Bool) → l.wpb % 2 ≡ 0 → 6 ≤ l.wpb → l.wpb ≤ 4096 → l.leaders ≤ 63 → b ≡ ltb l.leaders l.wpb
-    → b ≡ good_layout l
-unfolding good_layout
-good-last l b e s m n h = simp (eq-eqb _ _ e, le-leb _ _ s, le-leb _ _ m, le-leb _ _ n) h
-
 -- whole blocks of a good layout
 pub whole-good : (l : Layout) (file : ℕ) → whole l file ≡ true → good_layout l ≡ true
 unfolding whole
@@ -68,12 +54,6 @@ block-end l b file h =
 pub fine-leaders : (l : Layout) → Fine l → l.leaders < l.wpb
 fine-leaders l h = (good-facts l h.good).leaders-lt
 
-pub fine-most : (l : Layout) → Fine l → l.wpb ≤ 4096
-fine-most l h = (good-facts l h.good).most
-
-pub fine-area : (l : Layout) → Fine l → area l ≡ l.wpb - l.leaders
-fine-area l h = (good-facts l h.good).area-is
-
 pub block-fine : (l : Layout) (q : Place) (file : ℕ) → InBlock l q file → Fine l
 block-fine l q file h = record { good = whole-good l file h.sized }
 
@@ -82,9 +62,6 @@ area-fine l q file h = record { good = whole-good l file h.sized }
 
 pub lies-fine : (l : Layout) (r : Row) (file : ℕ) → LiesIn l r file → Fine l
 lies-fine l r file h = record { good = whole-good l file h.sized }
-
-pub reading-block : (l : Layout) (q : Place) (file : ℕ) → Reading l q file → InBlock l q file
-reading-block l q file h = record { sized = h.sized; block = h.block }
 
 -- a block of the file has a number below the file's length
 pub block-small : (l : Layout) (q : Place) (file : ℕ) → InBlock l q file → q.block < file
@@ -132,6 +109,3 @@ block-leaders l q file h = (good-facts l (whole-good l file h.sized)).leaders-lt
 
 pub area-least : (l : Layout) (q : Place) (file : ℕ) → InArea l q file → 6 ≤ l.wpb
 area-least l q file h = (good-facts l (whole-good l file h.sized)).least
-
-pub reading_small : (l : Layout) (q : Place) (file : ℕ) → Reading l q file → q.block < file
-reading_small l q file h = block-small l q file (reading-block l q file h)

@@ -8,7 +8,7 @@ use lib.Dec.{leb, ltb, eqb}
 use lib.ListN.{length, replicate}
 use borrow.Author.Tests.{leb-true, ltb-true, eqb-false, not-true}
 use Rattle.numbers.specs.Numbers.{done, wrong_size, wrong_length, no_room, at_end}
-use Rattle.numbers.specs.Checked.{Checked, passed, require, ◌>>◌}
+use Rattle.numbers.specs.Checked.{Checked, passed, refused, require, ◌>>◌}
 use Rattle.numbers.proofs.Passed.{clash as refused-not}
 use Rattle.words.specs.Words.{part, put}
 use Rattle.words.proofs.Keys.{clash}
@@ -19,12 +19,10 @@ use Rattle.sequential.specs.declared.Kind.TheVariants.{Fixed, Variable}
 use Rattle.sequential.specs.declared.Layout.{Layout}
 use Rattle.sequential.specs.declared.Place.{Place}
 use Rattle.sequential.specs.declared.Row.{Row}
-use Rattle.sequential.specs.declared.Spot.{Spot}
-use Rattle.sequential.specs.declared.Spot.TheVariants.{No, At}
 use Rattle.sequential.specs.Rows.{area, sized, blocks, size, right, room, word_of, next, behind, put_place, closed_of, closed}
 use Rattle.sequential.specs.Rows.{row_words, laid, get_place, work_of}
 use Rattle.sequential.specs.Calls.{put_spot, row_from, get_spot, put_row, put_told, get_row, get_told, fixed_right}
-use Rattle.sequential.specs.Lent.{as_spot, LiesIn}
+use Rattle.sequential.specs.Lent.{LiesIn}
 use Rattle.sequential.proofs.Good.{lies-end, lies-few, inside-word}
 use Rattle.sequential.proofs.Spots.{sized-whole, sized-work}
 
@@ -161,12 +159,12 @@ module _ (l : Layout) where
           words-in rt sz,
         )
 
-    module _ (r : Row) (s : Spot) (e : as_spot s ≡ put_spot l q file w) (h : s ≡ At r) where
+    module _ (r : Row) (e : passed r ≡ put_spot l q file w) where
       pub put-lies : LiesIn l r file
-      put-lies = (put-finds r (sym e ∙ ap as_spot h)).0
+      put-lies = (put-finds r (sym e)).0
 
       pub put-words : r.words ≤ length w
-      put-words = (put-finds r (sym e ∙ ap as_spot h)).1
+      put-words = (put-finds r (sym e)).1
 
       pub put-few : r.place.at + r.words ≤ 4096
       put-few = lies-few l r file put-lies
@@ -209,9 +207,9 @@ module _ (l : Layout) where
         let z = eqb-false left 0 (not-true (eqb left 0) lf) in
         omega arith
 
-    module _ (r : Row) (s : Spot) (e : as_spot s ≡ get_spot l q left f work) (h : s ≡ At r) where
+    module _ (r : Row) (e : passed r ≡ get_spot l q left f work) where
       pub get-lies : LiesIn l r (length f)
-      get-lies = get-finds r (sym e ∙ ap as_spot h)
+      get-lies = get-finds r (sym e)
 
       pub get-few : r.place.at + r.words ≤ 4096
       get-few = lies-few l r (length f) get-lies
@@ -220,50 +218,51 @@ module _ (l : Layout) where
       get-end start es = lay-end r (length f) start es get-lies
 
       pub get_left : 1 ≤ left
-      get_left = get-some r (sym e ∙ ap as_spot h)
+      get_left = get-some r (sym e)
 
   -- PUT and GET, once it is decided
-  module _ (q : Place) (f w : List ℕ) (s : Spot) (e : as_spot s ≡ put_spot l q (length f) w) where
-    pub put_refused : (m : ℕ) → s ≡ No m → record { number = m; place = q; file = f } ≡ put_row l q f w
+  module _ (q : Place) (f w : List ℕ) where
+    pub put_refused : (m n : ℕ) → refused m ≡ put_spot l q (length f) w → n ≡ m → record { number = n; place = q; file = f } ≡ put_row l q f w
     unfolding put_row
-    put_refused m h = ap (put_told l q f w) (ap as_spot (sym h) ∙ e)
+    put_refused m n e k = rw k (ap (put_told l q f w) e)
 
-    pub put-done : (r : Row) (g : List ℕ) (z : Place) → s ≡ At r → g ≡ laid l r w f → z ≡ behind r
+    pub put-done : (r : Row) (g : List ℕ) (z : Place) → passed r ≡ put_spot l q (length f) w → g ≡ laid l r w f → z ≡ behind r
         → record { number = done; place = z; file = g } ≡ put_row l q f w
     unfolding put_row
-    put-done r g z h eg ez =
+    put-done r g z e eg ez =
         let d : record { number = done; place = z; file = g } ≡ put_told l q f w (passed r) = λ j. record { number = done; place = ez j; file = eg j } in
-        d ∙ ap (put_told l q f w) (ap as_spot (sym h) ∙ e)
+        d ∙ ap (put_told l q f w) e
 
-  module _ (q : Place) (left : ℕ) (f w : List ℕ) (s : Spot) (e : as_spot s ≡ get_spot l q left f (length w)) where
-    pub get_refused : (m : ℕ) → s ≡ No m → record { number = m; place = q; left = left; work = w } ≡ get_row l q left f w
+  module _ (q : Place) (left : ℕ) (f w : List ℕ) where
+    pub get_refused : (m n : ℕ) → refused m ≡ get_spot l q left f (length w) → n ≡ m
+        → record { number = n; place = q; left = left; work = w } ≡ get_row l q left f w
     unfolding get_row
-    get_refused m h = ap (get_told l q left f w) (ap as_spot (sym h) ∙ e)
+    get_refused m n e k = rw k (ap (get_told l q left f w) e)
 
-    pub get-done : (r : Row) (start : ℕ) (v : List ℕ) (z : Place) → s ≡ At r → start ≡ word_of l r.place
-        → v ≡ put w 0 (part start r.words f) → z ≡ behind r
-        → record { number = done; place = z; left = left - 1; work = v } ≡ get_row l q left f w
-    unfolding get_row
-    get-done r start v z h es ev ez =
-        let d : record { number = done; place = z; left = left - 1; work = v } ≡ get_told l q left f w (passed r) =
-        λ j. record { number = done; place = ez j; left = left - 1; work = (ev ∙ ap (λ (i : ℕ). put w 0 (part i r.words f)) es) j } in
-        d ∙ ap (get_told l q left f w) (ap as_spot (sym h) ∙ e)
+    module _ (r : Row) (e : passed r ≡ get_spot l q left f (length w)) where
+      pub get-done : (start : ℕ) (v : List ℕ) (z : Place) → start ≡ word_of l r.place → v ≡ put w 0 (part start r.words f) → z ≡ behind r
+          → record { number = done; place = z; left = left - 1; work = v } ≡ get_row l q left f w
+      unfolding get_row
+      get-done start v z es ev ez =
+          let d : record { number = done; place = z; left = left - 1; work = v } ≡ get_told l q left f w (passed r) =
+          λ j. record { number = done; place = ez j; left = left - 1; work = (ev ∙ ap (λ (i : ℕ). put w 0 (part i r.words f)) es) j } in
+          d ∙ ap (get_told l q left f w) e
 
-    -- the workspace has room for it
-    fits : (r : Row) → s ≡ At r → r.words ≤ length w
-    fits r h =
-        let (sz, fr, lf, qb, e₁) = get_tests q left f (length w) r (sym e ∙ ap as_spot h) in
-        let (bl, low, rm, er) = row-tests q left f (length w) (get_place l q f) r e₁ in
-        subst (λ (x : Row). x.words ≤ length w) er (go l.kind refl sz (room_fits (get_place l q f).at (size l.kind (word_of l (get_place l q f)) f) rm))
-      where
-        go : (k : Kind) → l.kind ≡ k → sized l (length f) (length w) ≡ true
-            → (get_place l q f).at + size l.kind (word_of l (get_place l q f)) f ≤ area l → size l.kind (word_of l (get_place l q f)) f ≤ length w
-        go (Fixed n) ek sz rm =
-            let x : length w ≡ n = sized-work l (length f) (length w) sz ∙ ap (λ (k : Kind). work_of k (area l)) ek in
-            rw ek (omega arith)
-        go Variable ek sz rm =
-            let x : length w ≡ area l = sized-work l (length f) (length w) sz ∙ ap (λ (k : Kind). work_of k (area l)) ek in
-            omega arith
+      -- the workspace has room for it
+      fits : r.words ≤ length w
+      fits =
+          let (sz, fr, lf, qb, e₁) = get_tests q left f (length w) r (sym e) in
+          let (bl, low, rm, er) = row-tests q left f (length w) (get_place l q f) r e₁ in
+          subst (λ (x : Row). x.words ≤ length w) er (go l.kind refl sz (room_fits (get_place l q f).at (size l.kind (word_of l (get_place l q f)) f) rm))
+        where
+          go : (k : Kind) → l.kind ≡ k → sized l (length f) (length w) ≡ true
+              → (get_place l q f).at + size l.kind (word_of l (get_place l q f)) f ≤ area l → size l.kind (word_of l (get_place l q f)) f ≤ length w
+          go (Fixed n) ek sz rm =
+              let x : length w ≡ n = sized-work l (length f) (length w) sz ∙ ap (λ (k : Kind). work_of k (area l)) ek in
+              rw ek (omega arith)
+          go Variable ek sz rm =
+              let x : length w ≡ area l = sized-work l (length f) (length w) sz ∙ ap (λ (k : Kind). work_of k (area l)) ek in
+              omega arith
 
-    pub get-fits : (r : Row) → s ≡ At r → 0 + r.words ≤ length w
-    get-fits r h = let z = fits r h in omega arith
+      pub get-fits : 0 + r.words ≤ length w
+      get-fits = let z = fits in omega arith

@@ -2,7 +2,7 @@
 -- block left, all unchanged; end of data is 030002."
 use Rattle.std.specs.Prelude.{ℕ, ◌-◌, Bool, true, not, ◌&&◌, List, leb, ltb, eqb, length}
 use Rattle.numbers.specs.Numbers.{wrong_size, wrong_length, no_room, at_end, done}
-use Rattle.numbers.specs.Checked.{Checked, passed, refused, ◌>>=◌, ◌>>◌, require}
+use Rattle.numbers.specs.Checked.{Checked, passed, refused, ◌>>◌, require}
 use Rattle.words.specs.Words.{part, put}
 use Rattle.sequential.specs.declared.Kind.{Kind}
 use Rattle.sequential.specs.declared.Kind.TheVariants.{Fixed, Variable}

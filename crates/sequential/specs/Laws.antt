@@ -1,7 +1,7 @@
 -- What is claimed of PUT and GET, for both kinds of records alike.
 use Rattle.std.specs.Prelude.{◌≡◌, ◌⊎◌, true, cond, List, [], ◌∷◌, ℕ, ◌+◌, ◌*◌, ◌-◌, ◌/◌, ◌%◌, ◌≤◌, ◌<◌, ltb, length, get_or}
 use Rattle.numbers.specs.Numbers.{at_end, no_room, done}
-use Rattle.numbers.specs.Checked.{Checked, passed, refused, ◌>>=◌, ◌>>◌}
+use Rattle.numbers.specs.Checked.{Checked, passed, refused, ◌>>=◌}
 use Rattle.words.specs.Words.{part, put}
 use Rattle.sequential.specs.declared.Kind.TheVariants.{Fixed, Variable}
 use Rattle.sequential.specs.declared.Layout.{Layout}

@@ -1,18 +1,9 @@
--- For the code's contracts: what is decided, as the definitions say it; and where a record lies that is to be written or read.
+-- For the code's contracts: where a record lies that is to be written or read.
 use Rattle.std.specs.Prelude.{◌≡◌, true, ℕ, ◌+◌, ◌≤◌, ◌<◌}
-use Rattle.numbers.specs.Checked.{Checked, passed, refused}
 use Rattle.sequential.specs.declared.Layout.{Layout}
 use Rattle.sequential.specs.declared.Place.{Place}
 use Rattle.sequential.specs.declared.Row.{Row}
-use Rattle.sequential.specs.declared.Spot.{Spot}
-use Rattle.sequential.specs.declared.Spot.TheVariants.{No, At}
 use Rattle.sequential.specs.Rows.{area, good_layout, whole, blocks}
-use Rattle.sequential.specs.Calls.{fixed_right}
-
--- a decision as a step's answer
-abbrev pub as_spot : Spot → Checked Row
-as_spot (No n) = refused n
-as_spot (At r) = passed r
 
 -- a good layout
 pub record Fine (l : Layout) : Type 0 where
@@ -33,12 +24,6 @@ pub record Inside (l : Layout) (q : Place) (file : ℕ) : Type 0 where
   pub sized : whole l file ≡ true
   pub block : q.block < blocks l file
   pub word : q.at < area l
-
--- a place from which a record is read: in a block of a file of so many words
-pub record Reading (l : Layout) (q : Place) (file : ℕ) : Type 0 where
-  pub sized : whole l file ≡ true
-  pub block : q.block < blocks l file
-  pub right : fixed_right l ≡ true
 
 -- a record that lies in the data area of a block of a file of so many words
 pub record LiesIn (l : Layout) (r : Row) (file : ℕ) : Type 0 where

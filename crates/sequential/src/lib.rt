@@ -41,13 +41,6 @@ pub struct Row {
     pub words: usize,
 }
 
-// What is decided before a word moves: a refusal, or where the record lies.
-#[derive(Clone, Copy)]
-pub enum Spot {
-    No(u32),
-    At(Row),
-}
-
 // PUT's number, and the place behind what is put so far.
 #[derive(Clone, Copy)]
 pub struct PutAnswer {
@@ -68,10 +61,9 @@ fn behind_row(row: Row) -> Place
     requires { row.place.at + row.words ≤ 4096 }
     ensures { result ≡ behind row }
 {
-    let q = row.place;
     Place {
-        block: q.block,
-        at: q.at + row.words,
+        block: row.place.block,
+        at: row.place.at + row.words,
     }
 }
 
@@ -80,11 +72,9 @@ fn closes(l: Layout, row: Row) -> bool
     requires { Fine l × (row.place.at + row.words ≤ 4096) }
     ensures { result ≡ closed l row }
 {
-    let kind = l.kind;
-    let q = row.place;
-    match kind {
+    match l.kind {
         Kind::Fixed(_) => false,
-        Kind::Variable => q.at + row.words < l.wpb - l.leaders,
+        Kind::Variable => row.place.at + row.words < l.wpb - l.leaders,
     }
 }
 
@@ -93,9 +83,8 @@ fn lay(l: Layout, row: Row, file: &mut [u32], work: &[u32])
     requires { LiesIn l row (length file.old) × (row.words ≤ length work.now) }
     ensures { file.new ≡ laid l row work.now file.old }
 {
-    let q = row.place;
     let n = row.words;
-    let start = word_of(l, q, file);
+    let start = word_of(l, row.place, file);
     words::copy_words(file, start, work, 0, n);
     if closes(l, row) {
         words::zero_words(file, start + n, 1);
@@ -106,16 +95,18 @@ fn lay(l: Layout, row: Row, file: &mut [u32], work: &[u32])
 pub fn put(l: Layout, place: Place, file: &mut [u32], work: &[u32]) -> PutAnswer
     ensures { put_gave result file.new ≡ put_row l place file.old work.now }
 {
-    let spot = plan_put(l, place, file.len(), work);
-    match spot {
-        Spot::No(number) => PutAnswer { number, place },
-        Spot::At(row) => {
+    match plan_put(l, place, file.len(), work) {
+        Ok(row) => {
             lay(l, row, file, work);
             PutAnswer {
                 number: DONE,
                 place: behind_row(row),
             }
         }
+        Err(refusal) => PutAnswer {
+            number: u32::from(refusal),
+            place,
+        },
     }
 }
 
@@ -123,16 +114,9 @@ pub fn put(l: Layout, place: Place, file: &mut [u32], work: &[u32]) -> PutAnswer
 pub fn get(l: Layout, place: Place, left: usize, file: &[u32], work: &mut [u32]) -> GetAnswer
     ensures { get_gave result work.new ≡ get_row l place left file.now work.old }
 {
-    let spot = plan_get(l, place, left, file, work.len());
-    match spot {
-        Spot::No(number) => GetAnswer {
-            number,
-            place,
-            left,
-        },
-        Spot::At(row) => {
-            let q = row.place;
-            let start = word_of(l, q, file);
+    match plan_get(l, place, left, file, work.len()) {
+        Ok(row) => {
+            let start = word_of(l, row.place, file);
             words::copy_words(work, 0, file, start, row.words);
             GetAnswer {
                 number: DONE,
@@ -140,5 +124,10 @@ pub fn get(l: Layout, place: Place, left: usize, file: &[u32], work: &mut [u32])
                 left: left - 1,
             }
         }
+        Err(refusal) => GetAnswer {
+            number: u32::from(refusal),
+            place,
+            left,
+        },
     }
 }

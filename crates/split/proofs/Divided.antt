@@ -22,23 +22,23 @@ use Rattle.split.specs.Cuts.{Shares, Divides, DividesIn}
 use Rattle.split.proofs.Halves.{full-most, halved-by, low-entry-by}
 
 -- the lower half of the rows and one more
-pub rows-most : (x : Cut) (f b : List ℕ) → Divides x f b → x.rows ≤ 4096
-rows-most x f b h = full-most x.desc x.shape x.rows x.place h.fitting.good h.full
+pub rows-most : (x : Cut) (f b row entry : List ℕ) → Divides x f b row entry → x.rows ≤ 4096
+rows-most x f b row entry h = full-most x.desc x.shape x.rows x.place h.fitting.good x.full
 
-pub shares-low : (x : Cut) (low : ℕ) (f b : List ℕ) → low ≡ low_count x.rows → Divides x f b → Shares x low f b
-shares-low x low f b e h =
-    let two = h.full.rows-least in
+pub shares-low : (x : Cut) (low : ℕ) (f b row entry : List ℕ) → low ≡ low_count x.rows → Divides x f b row entry → Shares x low f b row
+shares-low x low f b row entry e h =
+    let two = x.full.rows-least in
     record {
       fitting = h.fitting;
       new-least = h.new-least;
       new-most = h.new-most;
-      full = h.full;
       low-least = rw e (low-least x.rows);
       low-most = rw e (low-most x.rows (omega arith));
+      row-long = h.row-long;
     }
 
-pub old-small : (x : Cut) (f b : List ℕ) → Divides x f b → x.old ≤ 262143
-old-small x f b h =
+pub old-small : (x : Cut) (f b row entry : List ℕ) → Divides x f b row entry → x.old ≤ 262143
+old-small x f b row entry h =
     let g = caps x.desc h.fitting.good in
     let q = g.facts in
     let m = h.old-most in
@@ -95,9 +95,9 @@ module _ (p : Description) (h : Shape) (n i low : ℕ) (f b : List ℕ) (full : 
         low-entry-by p h n i full b r fit.buffer-is hr low e b₁ eb s old q
 
 -- an entry of a full block, which is then divided
-pub cut-entry-end : (x : Cut) (b : ℕ) (f t : List ℕ) → DividesIn x b f t → place x.shape x.place + x.shape.width < length t
-cut-entry-end x b f t h =
-    let full = h.divides.full in
+pub cut-entry-end : (x : Cut) (b : ℕ) (f t row entry : List ℕ) → DividesIn x b f t row entry → place x.shape x.place + x.shape.width < length t
+cut-entry-end x b f t row entry h =
+    let full = x.full in
     let fit = h.divides.fitting in
     let r = row_lt x.place x.rows x.shape.stride h.below in
     let o = full.base-one in
@@ -106,8 +106,9 @@ cut-entry-end x b f t h =
     let k = h.named in
     omega arith
 
-pub divides-still : (x : Cut) (b : ℕ) (f t t₁ t₂ : List ℕ) → length t₂ ≡ length t₁ → length t₁ ≡ length t → DividesIn x b f t → Divides x f t₂
-divides-still x b f t t₁ t₂ e₂ e₁ h =
+pub divides-still : (x : Cut) (b : ℕ) (f t t₁ t₂ row entry : List ℕ) → length t₂ ≡ length t₁ → length t₁ ≡ length t → DividesIn x b f t row entry
+    → Divides x f t₂ row entry
+divides-still x b f t t₁ t₂ row entry e₂ e₁ h =
     let d = h.divides in
     record {
       fitting = still-fits x.desc f f t t₂ (omega arith) (e₂ ∙ e₁) d.fitting;
@@ -116,8 +117,9 @@ divides-still x b f t t₁ t₂ e₂ e₁ h =
       new-least = d.new-least;
       new-most = d.new-most;
       apart = d.apart;
-      full = d.full;
       key-within = d.key-within;
+      row-long = d.row-long;
+      entry-long = d.entry-long;
     }
 
 module _ (p : Description) (h : Shape) (n i b old : ℕ) (f t₁ t₂ r : List ℕ) (e₂ : t₂ ≡ renamed h i b t₁) (e₁ : t₁ ≡ block_at p f old) where

@@ -19,7 +19,7 @@ use Rattle.drum.proofs.Forms.{index-tag}
 use Rattle.drum.proofs.Good.{caps}
 use Rattle.drum.proofs.Blocks.{length-block, block_same}
 use Rattle.drum.proofs.Lent.{held-still, changed-twice}
-use Rattle.split.specs.Cuts.{Enters, EntersIn}
+use Rattle.split.specs.Enters.{Enters, EntersIn}
 
 -- the entry lies in the table, and what names its block too
 pub entry-end : (h : Shape) (i : ℕ) (t : List ℕ) → Enters h i t → place h i + h.width < length t

@@ -35,8 +35,7 @@ with_new x f u = put_block x.desc f x.new u
 -- the rows from row j on are where they go: those from row `low` on in the new block, the others in the buffer
 pub record Moved (x : Cut) (low : ℕ) (row f₀ t₀ : List ℕ) (j : ℕ) (f t : List ℕ) : Type 0 where
   pub most : j ≤ x.rows + 1
-  pub shares : Shares x low f₀ t₀
-  pub row-long : wide x ≤ length row
+  pub shares : Shares x low f₀ t₀ row
   pub file-is : f ≡ with_new x f₀ (laying (block_at x.desc f₀ x.new) ((j - low) * wide x) (leave x low row t₀))
   pub text-is : t ≡ laying t₀ (j * wide x) (stay x low row t₀)
   pub file-kept : length f ≡ length f₀
@@ -54,36 +53,36 @@ record Spans (x : Cut) (low : ℕ) (row f t : List ℕ) : Type 0 where
   leaving : length (leave x low row t) ≡ x.rows * wide x + wide x - low * wide x
 
 -- another file as long shares as well
-shares-still : (x : Cut) (low : ℕ) (f g t : List ℕ) → length g ≡ length f → Shares x low f t → Shares x low g t
-shares-still x low f g t e sh =
+shares-still : (x : Cut) (low : ℕ) (row f g t : List ℕ) → length g ≡ length f → Shares x low f t row → Shares x low g t row
+shares-still x low row f g t e sh =
     record {
       fitting = record { good = sh.fitting.good; file-is = e ∙ sh.fitting.file-is; buffer-is = sh.fitting.buffer-is };
       new-least = sh.new-least;
       new-most = sh.new-most;
-      full = sh.full;
       low-least = sh.low-least;
       low-most = sh.low-most;
+      row-long = sh.row-long;
     }
 
-module _ (x : Cut) (low : ℕ) (f t : List ℕ) (sh : Shares x low f t) where
+module _ (x : Cut) (low : ℕ) (row f t : List ℕ) (sh : Shares x low f t row) where
   pub rows-most : x.rows ≤ 4096
-  rows-most = full-most x.desc x.shape x.rows x.place sh.fitting.good sh.full
+  rows-most = full-most x.desc x.shape x.rows x.place sh.fitting.good x.full
 
   pub tag-few : x.shape.tag ≤ 8192
-  tag-few = sh.full.tag-most
+  tag-few = x.full.tag-most
 
   pub new-held : HasBlock x.desc f x.new
   new-held = held x.desc f t x.new sh.fitting sh.new-least sh.new-most
 
-  spans : (row : List ℕ) → wide x ≤ length row → Spans x low row f t
-  spans row long =
+  spans : Spans x low row f t
+  spans =
       let e = sh.fitting.buffer-is in
-      let fit = sh.full.rows_fit in
-      let h : HasRow x 0 t row = record { good = sh.fitting.good; full = sh.full; text-is = e; row-long = long; row-most = omega arith } in
+      let fit = x.full.rows_fit in
+      let h : HasRow x 0 t row = record { good = sh.fitting.good; text-is = e; row-long = sh.row-long; row-most = omega arith } in
       let l = all_words_lem x 0 t row h in
       let m = row-le low x.rows (wide x) sh.low-most in
       record {
-        base-one = sh.full.base-one;
+        base-one = x.full.base-one;
         room = omega arith;
         text-words = e;
         block_words = length-block x.desc f sh.fitting.file-is x.new (sh.new-least, sh.new-most);
@@ -110,17 +109,17 @@ module _ (x : Cut) (low : ℕ) (row t : List ℕ) (j : ℕ) where
 -- at row j, the one before it is next
 module _ (x : Cut) (low : ℕ) (row f₀ t₀ : List ℕ) (j : ℕ) (f t : List ℕ) (m : Moved x low row f₀ t₀ j f t) where
   z : Spans x low row f₀ t₀
-  z = spans x low f₀ t₀ m.shares row m.row-long
+  z = spans x low row f₀ t₀ m.shares
 
   pub moved-held : HasBlock x.desc f x.new
   moved-held =
-      let h = new-held x low f₀ t₀ m.shares in
+      let h = new-held x low row f₀ t₀ m.shares in
       record { good = h.good; file-is = m.file-kept ∙ h.file-is; least = h.least; most = h.most }
 
   next_row_lem : (u : List ℕ) → length u ≡ x.desc.wpb → HasRow x (j - 1) u row
   next_row_lem u e =
       let k = m.most in
-      record { good = m.shares.fitting.good; full = m.shares.full; text-is = e; row-long = m.row-long; row-most = omega arith }
+      record { good = m.shares.fitting.good; text-is = e; row-long = m.shares.row-long; row-most = omega arith }
 
   pub moved_row : HasRow x (j - 1) t row
   moved_row = next_row_lem t (m.text-kept ∙ z.text-words)
@@ -166,9 +165,8 @@ module _ (x : Cut) (low : ℕ) (row f₀ t₀ : List ℕ) (j : ℕ) (f t : List 
       record {
         most = omega arith;
         shares = m.shares;
-        row-long = m.row-long;
         file-is =
-            changed-twice x.desc f₀ f g x.new (laying old ((j - low) * s) up) (laying old ((j - 1 - low) * s) up) (new-held x low f₀ t₀ m.shares)
+            changed-twice x.desc f₀ f g x.new (laying old ((j - low) * s) up) (laying old ((j - 1 - low) * s) up) (new-held x low row f₀ t₀ m.shares)
             (length-laying old up ((j - low) * s) (omega arith) (omega arith) ∙ q.block_words)
             (length-laying old up ((j - 1 - low) * s) (omega arith) (omega arith) ∙ q.block_words)
             m.file-is (λ (u : List ℕ). put u (x.shape.base + (j - 1 - low) * s) (part 0 s src)) eg
@@ -210,7 +208,6 @@ module _ (x : Cut) (low : ℕ) (row f₀ t₀ : List ℕ) (j : ℕ) (f t : List 
       record {
         most = omega arith;
         shares = m.shares;
-        row-long = m.row-long;
         file-is = m.file-is ∙ ap (λ (y : ℕ). with_new x f₀ (laying (block_at x.desc f₀ x.new) (y * s) (leave x low row t₀))) none;
         text-is = eu ∙ ap (λ (y : List ℕ). put y (x.shape.base + (j - 1) * s) (more_row x (j - 1) row t)) m.text-is
             ∙ laying-row t₀ (stay x low row t₀) (more_row x (j - 1) row t) x.shape.base s j (j - 1) q.base-one (omega arith) row_is
@@ -247,24 +244,23 @@ module _ (x : Cut) (low : ℕ) (row f₀ t₀ : List ℕ) (j : ℕ) (f t : List 
       let fits : 1 + length up ≤ w = omega arith in
       let none : j - low ≡ 0 = omega arith in
       let zero : (j - low) * wide x ≡ 0 = ap (λ (y : ℕ). y * wide x) none ∙ omega arith in
-      changed-twice x.desc f₁ f₀ f x.new (laid w c []) (laid w c up) (new-held x low f₁ t₀ (shares-still x low f₀ f₁ t₀ k m.shares))
+      changed-twice x.desc f₁ f₀ f x.new (laid w c []) (laid w c up) (new-held x low row f₁ t₀ (shares-still x low row f₀ f₁ t₀ k m.shares))
       (length-laid w c [] (omega arith)) (length-laid w c up fits) e (λ (u : List ℕ). laying u ((j - low) * wide x) up) m.file-is
       (ap (λ (y : ℕ). laying (laid w c []) y up) zero ∙ laying-laid w c up fits)
 
 -- no row has moved yet
-pub moved-start : (x : Cut) (low : ℕ) (row f t g : List ℕ) → Shares x low f t → wide x ≤ length row → length g ≡ length f
+pub moved-start : (x : Cut) (low : ℕ) (row f t g : List ℕ) → Shares x low f t row → length g ≡ length f
     → Moved x low row g t (x.rows + 1) g t
-moved-start x low row f t g from long e =
+moved-start x low row f t g from e =
     let s : ℕ = wide x in
-    let new = shares-still x low f g t e from in
-    let q = spans x low g t new row long in
+    let new = shares-still x low row f g t e from in
+    let q = spans x low row g t new in
     let n = row_next x.rows s in
     let m = from.low-most in
     let o = rows-off (x.rows + 1) low s (omega arith) in
     record {
       most = omega arith;
       shares = new;
-      row-long = long;
       file-is =
           sym
           (ap (with_new x g) (laying-none (block_at x.desc g x.new) (leave x low row t) ((x.rows + 1 - low) * s) (omega arith))

@@ -32,10 +32,10 @@ module _ (x : Cut) (j : ℕ) (t row : List ℕ) where
     row_words_lem = let l = has.row-long in length_part 0 (wide x) row (omega arith)
 
     room : 1 + x.rows * wide x ≤ length t
-    room = let e = has.text-is in let f = has.full.rows_fit in omega arith
+    room = let e = has.text-is in let f = x.full.rows_fit in omega arith
 
     before-rows : before x ≤ x.rows * wide x
-    before-rows = row-le x.place x.rows (wide x) has.full.place-most
+    before-rows = row-le x.place x.rows (wide x) x.full.place-most
 
     low-words : length (part 1 (before x) t) ≡ before x
     low-words = length_part 1 (before x) t (omega (arith, before-rows, room))
@@ -47,7 +47,7 @@ module _ (x : Cut) (j : ℕ) (t row : List ℕ) where
     unfolding one_more
     all-is =
         ap (λ (b : ℕ). take (before x) (part b (x.rows * wide x) t) ++ part 0 (wide x) row ++ drop (before x) (part b (x.rows * wide x) t))
-        has.full.base-one
+        x.full.base-one
         ∙ rw (take_part 1 (before x) (x.rows * wide x) t before-rows, drop-part 1 (before x) (x.rows * wide x) t before-rows)
 
     pub all_words_lem : length (all_rows x row t) ≡ x.rows * wide x + wide x
@@ -80,13 +80,13 @@ module _ (x : Cut) (j : ℕ) (t row : List ℕ) where
         ∙ part-part (1 + before x) (x.rows * wide x - before x) z m t (omega arith) ∙ ap (λ (i : ℕ). part i m t) d
 
     pub row-start : at ≤ length t
-    row-start = let o = has.full.base-one in omega (arith, room, row-le j x.rows (wide x) has.row-most)
+    row-start = let o = x.full.base-one in omega (arith, room, row-le j x.rows (wide x) has.row-most)
 
     pub row-end : j < x.rows → at + wide x ≤ length t
-    row-end l = let o = has.full.base-one in omega (arith, room, row_lt j x.rows (wide x) l)
+    row-end l = let o = x.full.base-one in omega (arith, room, row_lt j x.rows (wide x) l)
 
     pub before-end : j < x.place → at + wide x ≤ length t
-    before-end l = let p = has.full.place-most in row-end (omega arith)
+    before-end l = let p = x.full.place-most in row-end (omega arith)
 
     pub before-fits : j < x.place → Fits w64 (at + wide x)
     before-fits l =
@@ -111,11 +111,11 @@ module _ (x : Cut) (j : ℕ) (t row : List ℕ) where
     taken-behind l =
         let k = row_lt x.place j (wide x) l in
         let m = row-le j x.rows (wide x) has.row-most in
-        ap (λ (b : ℕ). part (b + j * wide x - wide x) (wide x) t) has.full.base-one ∙ sym (words-behind (j * wide x) (wide x) (omega arith) (omega arith))
+        ap (λ (b : ℕ). part (b + j * wide x - wide x) (wide x) t) x.full.base-one ∙ sym (words-behind (j * wide x) (wide x) (omega arith) (omega arith))
 
     taken-before : j < x.place → part at (wide x) t ≡ more_row x j row t
     taken-before l =
-        ap (λ (b : ℕ). part (b + j * wide x) (wide x) t) has.full.base-one
+        ap (λ (b : ℕ). part (b + j * wide x) (wide x) t) x.full.base-one
         ∙ sym (words-before (j * wide x) (wide x) (omega (arith, row_lt j x.place (wide x) l)))
 
     -- as words lent

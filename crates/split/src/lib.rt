@@ -2,13 +2,14 @@
 // alike.
 #![tactic(auto)]
 
-ghost use Rattle.std.specs.Prelude.{◌≡◌, [], ◌∷◌, ◌++◌, ◌+◌, ◌-◌, ◌≤◌, ◌<◌, length};
+ghost use Rattle.std.specs.Prelude.{◌≡◌, [], ◌∷◌, ◌++◌, ◌+◌, ◌≤◌, ◌<◌, length};
 ghost use Rattle.words.specs.Words.{part};
-ghost use Rattle.table.specs.Tables.{place, replaced, laid};
+ghost use Rattle.table.specs.Tables.{place, laid};
 ghost use Rattle.table.specs.Splits.{low_count, renamed, entered};
 ghost use Rattle.drum.specs.Params.{index_shape};
 ghost use Rattle.drum.specs.Blocks.{block_at, put_block};
-ghost use Rattle.split.specs.Cuts.{EntersIn, Enters, HasRow, more_row, Shares, Divides, DividesIn, lower, upper, halved_by, entry_by};
+ghost use Rattle.split.specs.Halves.{FullTable};
+ghost use Rattle.split.specs.Enters.{EntersIn, Enters};
 
 use drum::Description;
 use table::Shape;
@@ -22,6 +23,7 @@ pub struct Cut {
     pub place: usize,
     pub old: usize,
     pub new: usize,
+    pub ghost full: { FullTable desc shape rows place },
 }
 
 // Of n rows and one more, how many stay in the old block.
@@ -80,138 +82,117 @@ pub fn enter_in(p: Description, file: &mut [u32], x: usize, i: usize, entry: &[u
     drum::inside::insert_in(p, file, x, h, i, entry);
 }
 
-// Row j of the full buffer's rows with the row put in: the row itself, or one of the buffer's, which stand one lower behind the row.
-fn row_of<'a>(cut: Cut, j: usize, buffer: &'a [u32], row: &'a [u32]) -> &'a [u32]
-    requires { HasRow cut j buffer.now row.now }
-    ensures { result.now ≡ more_row cut j row.now buffer.now }
-{
-    let h = cut.shape;
-    let stride = h.stride;
-    let at = h.base + j * stride;
-    if cut.place < j {
-        let below = at - stride;
-        return &buffer[below..at];
-    }
-    if j < cut.place {
-        let end = at + stride;
-        return &buffer[at..end];
-    }
-    &row[0..stride]
-}
+impl Cut {
+    ghost use Rattle.std.specs.Prelude.{◌≡◌, ◌+◌, ◌≤◌, ◌<◌, length};
+    ghost use Rattle.words.specs.Words.{part};
+    ghost use Rattle.table.specs.Tables.{replaced};
+    ghost use Rattle.table.specs.Splits.{renamed};
+    ghost use Rattle.drum.specs.Blocks.{block_at, put_block};
+    ghost use Rattle.split.specs.Cuts.{HasRow, more_row, Shares, Divides, DividesIn, lower, upper, halved_by, entry_by};
 
-// Lays row j of them where it goes in the buffer: the row itself, or the one before row j, which moves up.
-fn raise_row(cut: Cut, j: usize, buffer: &mut [u32], row: &[u32])
-    requires { HasRow cut j buffer.old row.now × (cut.place ≤ j) × (j < cut.rows) }
-    ensures { buffer.new ≡ replaced cut.shape j (more_row cut j row.now buffer.old) buffer.old }
-{
-    let h = cut.shape;
-    if cut.place < j {
-        let at = h.base + j * h.stride;
-        words::move_up(buffer, at - h.stride, at, h.stride);
-        return;
-    }
-    table::replace_row(h, buffer, j, row, 0, h.stride);
-}
-
-// The lesser of two numbers.
-fn lesser(a: usize, b: usize) -> usize
-    ensures { result ≡ a - (a - b) }
-{
-    if a < b {
-        return a;
-    }
-    b
-}
-
-// Of a full buffer and a row put in, the lower `low` rows stay, and the others go to the new block: one row after the other, from the top
-// down, so that none is written over before it has moved. Rows below the row that stay are where they were. All that moves words in a split
-// is behind this promise.
-fn share_rows(cut: Cut, low: usize, file: &mut [u32], buffer: &mut [u32], row: &[u32])
-    requires { Shares cut low file.old buffer.old × (cut.shape.stride ≤ length row.now) }
-    ensures { (file.new
-        ≡ put_block cut.desc file.old cut.new
-        (upper cut low (part 0 cut.shape.stride row.now) buffer.old))
-        × (buffer.new ≡ lower cut low (part 0 cut.shape.stride row.now) buffer.old) }
-{
-    let h = cut.shape;
-    // rows that are all key: a row is laid into a block as its key would be
-    let whole = Shape {
-        base: h.base,
-        stride: h.stride,
-        width: h.stride,
-        tag: h.tag,
-    };
-    drum::inside::lay_block(
-        cut.desc,
-        file,
-        cut.new,
-        h.tag + (cut.rows + 1 - low),
-        &row[0..0],
-    );
-    let stop = lesser(cut.place, low);
-    let mut j = cut.rows + 1;
-    while stop < j {
-        j -= 1;
-        if low <= j {
-            drum::inside::set_key_in(
-                cut.desc,
-                file,
-                cut.new,
-                whole,
-                j - low,
-                row_of(cut, j, buffer, row),
-            );
-            continue;
+    // Row j of the full buffer's rows with the row put in: the row itself, or one of the buffer's, which stand one lower behind the row.
+    fn row_of<'a>(self, j: usize, buffer: &'a [u32], row: &'a [u32]) -> &'a [u32]
+        requires { HasRow self j buffer.now row.now }
+        ensures { result.now ≡ more_row self j row.now buffer.now }
+    {
+        let h = self.shape;
+        let stride = h.stride;
+        let at = h.base + j * stride;
+        if self.place < j {
+            let below = at - stride;
+            return &buffer[below..at];
         }
-        raise_row(cut, j, buffer, row);
+        if j < self.place {
+            let end = at + stride;
+            return &buffer[at..end];
+        }
+        &row[0..stride]
     }
-    keep(buffer, h.tag + low, low * h.stride);
-}
 
-// Splits the full block in the buffer, a row put in: the halves are written to their blocks, and the entry of the old one is made, its
-// bound the highest key that stays.
-pub fn divide(cut: Cut, file: &mut [u32], buffer: &mut [u32], entry: &mut [u32], row: &[u32])
-    requires { Divides cut file.old buffer.old
-        × (cut.shape.stride ≤ length row.now)
-        × (cut.shape.width + 1 ≤ length entry.old) }
-    ensures { (file.new ≡ halved_by cut (part 0 cut.shape.stride row.now) buffer.old file.old)
-        × (part 0 (cut.shape.width + 1) entry.new
-        ≡ entry_by cut (part 0 cut.shape.stride row.now) buffer.old) }
-{
-    let h = cut.shape;
-    let low = low_count(cut.rows);
-    share_rows(cut, low, file, buffer, row);
-    drum::write_block(cut.desc, file, buffer, cut.old);
-    make_entry(
-        entry,
-        buffer,
-        h.base + (low - 1) * h.stride,
-        h.width,
-        cut.old,
-    );
-}
+    // Lays row j of them where it goes in the buffer: the row itself, or the one before row j, which moves up.
+    fn raise_row(self, j: usize, buffer: &mut [u32], row: &[u32])
+        requires { HasRow self j buffer.old row.now × (self.place ≤ j) × (j < self.rows) }
+        ensures { buffer.new ≡ replaced self.shape j (more_row self j row.now buffer.old) buffer.old }
+    {
+        let h = self.shape;
+        if self.place < j {
+            let at = h.base + j * h.stride;
+            words::move_words(buffer, at - h.stride, at, h.stride);
+        } else {
+            table::replace_row(h, buffer, j, row, 0, h.stride);
+        }
+    }
 
-// Splits the full block old of the file, whose entry at the place becomes two, as for `enter`; and its own entry is made.
-pub fn divide_in(
-    cut: Cut,
-    file: &mut [u32],
-    buffer: &mut [u32],
-    above: &mut [u32],
-    entry: &[u32],
-    b: usize,
-)
-    requires { DividesIn cut b file.old buffer.old
-        × (cut.shape.stride ≤ length entry.now)
-        × (cut.shape.width + 1 ≤ length above.old) }
-    ensures { (file.new
-        ≡ halved_by cut (part 0 cut.shape.stride entry.now)
-        (renamed cut.shape cut.place b (block_at cut.desc file.old cut.old))
-        file.old)
-        × (part 0 (cut.shape.width + 1) above.new
-        ≡ entry_by cut (part 0 cut.shape.stride entry.now)
-        (renamed cut.shape cut.place b (block_at cut.desc file.old cut.old))) }
-{
-    drum::read_block(cut.desc, file, buffer, cut.old);
-    rename(cut.shape, buffer, cut.place, b);
-    divide(cut, file, buffer, above, entry);
+    // Of a full buffer and a row put in, the lower `low` rows stay, and the others go to the new block: one row after the other, from the top
+    // down, so that none is written over before it has moved. Rows below the row that stay are where they were. All that moves words in a split
+    // is behind this promise.
+    fn share_rows(self, low: usize, file: &mut [u32], buffer: &mut [u32], row: &[u32])
+        requires { Shares self low file.old buffer.old row.now }
+        ensures { (file.new
+            ≡ put_block self.desc file.old self.new
+            (upper self low (part 0 self.shape.stride row.now) buffer.old))
+            × (buffer.new ≡ lower self low (part 0 self.shape.stride row.now) buffer.old) }
+    {
+        let h = self.shape;
+        // rows that are all key: a row is laid into a block as its key would be
+        let whole = Shape {
+            width: h.stride,
+            ..h
+        };
+        let count = h.tag + (self.rows + 1 - low);
+        drum::inside::lay_block(self.desc, file, self.new, count, &[]);
+        for j in (self.place.min(low)..self.rows + 1).rev() {
+            if low <= j {
+                let moved = self.row_of(j, buffer, row);
+                drum::inside::set_key_in(self.desc, file, self.new, whole, j - low, moved);
+            } else {
+                self.raise_row(j, buffer, row);
+            }
+        }
+        keep(buffer, h.tag + low, low * h.stride);
+    }
+
+    // Splits the full block in the buffer, a row put in: the halves are written to their blocks, and the entry of the old one is made, its
+    // bound the highest key that stays.
+    pub fn divide(self, file: &mut [u32], buffer: &mut [u32], entry: &mut [u32], row: &[u32])
+        requires { Divides self file.old buffer.old row.now entry.old }
+        ensures { (file.new ≡ halved_by self (part 0 self.shape.stride row.now) buffer.old file.old)
+            × (part 0 (self.shape.width + 1) entry.new
+            ≡ entry_by self (part 0 self.shape.stride row.now) buffer.old) }
+    {
+        let h = self.shape;
+        let low = low_count(self.rows);
+        self.share_rows(low, file, buffer, row);
+        drum::write_block(self.desc, file, buffer, self.old);
+        make_entry(
+            entry,
+            buffer,
+            h.base + (low - 1) * h.stride,
+            h.width,
+            self.old,
+        );
+    }
+
+    // Splits the full block old of the file, whose entry at the place becomes two, as for `enter`; and its own entry is made.
+    pub fn divide_in(
+        self,
+        file: &mut [u32],
+        buffer: &mut [u32],
+        above: &mut [u32],
+        entry: &[u32],
+        b: usize,
+    )
+        requires { DividesIn self b file.old buffer.old entry.now above.old }
+        ensures { (file.new
+            ≡ halved_by self (part 0 self.shape.stride entry.now)
+            (renamed self.shape self.place b (block_at self.desc file.old self.old))
+            file.old)
+            × (part 0 (self.shape.width + 1) above.new
+            ≡ entry_by self (part 0 self.shape.stride entry.now)
+            (renamed self.shape self.place b (block_at self.desc file.old self.old))) }
+    {
+        drum::read_block(self.desc, file, buffer, self.old);
+        rename(self.shape, buffer, self.place, b);
+        self.divide(file, buffer, above, entry);
+    }
 }

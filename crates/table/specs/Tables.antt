@@ -3,8 +3,8 @@
 use Rattle.std.specs.Prelude.{ℕ, zero, suc, ◌+◌, ◌*◌, ◌-◌, ◌<◌, ◌≡◌, Bool, true, false, not, eqb, List, ◌∷◌, ◌++◌, length, get_or, set}
 use Rattle.words.specs.Words.{part, put, zeros}
 use Rattle.words.specs.Keys.{key_lt, key_le, same_key}
-use Rattle.words.specs.declared.Order.{Order}
-use Rattle.words.specs.declared.Order.TheVariants.{Below, Same, Above}
+use Rattle.std.specs.declared.cmp.Ordering.{Ordering}
+use Rattle.std.specs.Ordering.{is_eq, is_ge, is_gt}
 use Rattle.table.specs.declared.Shape.{Shape}
 use Rattle.table.specs.declared.Want.{Want}
 use Rattle.table.specs.declared.Want.TheVariants.{Equal, NotBelow, Over}
@@ -42,16 +42,10 @@ wanted NotBelow key x = key_le key x
 wanted Over key x = key_lt key x
 
 -- the same, by how x stands to the key
-abbrev pub asked : Want → Order → Bool
-asked Equal Below = false
-asked Equal Same = true
-asked Equal Above = false
-asked NotBelow Below = false
-asked NotBelow Same = true
-asked NotBelow Above = true
-asked Over Below = false
-asked Over Same = false
-asked Over Above = true
+abbrev pub asked : Want → Ordering → Bool
+asked Equal o = is_eq o
+asked NotBelow o = is_ge o
+asked Over o = is_gt o
 
 -- whether row i is one that a search for the key wants [W5]
 unfoldable pub fits : Want → Shape → List ℕ → List ℕ → ℕ → Bool

@@ -2,12 +2,12 @@
 // word 0 after the tag of their kind. Master, index block and detail block are such tables, so one function serves all three.
 #![tactic(auto)]
 
-ghost use Rattle.std.specs.Prelude.{◌≡◌, ◌+◌, ◌*◌, ◌≤◌, ◌<◌, length};
+ghost use Rattle.std.specs.Prelude.{◌≡◌, ◌+◌, ◌*◌, ◌^◌, ◌≤◌, ◌<◌, length};
 ghost use Rattle.words.specs.Words.{part};
 ghost use Rattle.table.specs.declared.Want.TheVariants.{Equal};
 ghost use Rattle.table.specs.Tables.{count, place, first_where, asked, fits, AllBelow, Pair, differs, opened, closed, inserted, removed, replaced};
 
-use words::Order;
+use std::cmp::Ordering;
 
 #[derive(Clone, Copy)]
 pub struct Shape {
@@ -15,6 +15,16 @@ pub struct Shape {
     pub stride: usize,
     pub width: usize,
     pub tag: usize,
+}
+
+impl Shape {
+    // Where row i begins.
+    fn place(self, i: usize) -> usize
+        requires { place self i < 2 ^ 64 }
+        ensures { result ≡ place self i }
+    {
+        self.base + i * self.stride
+    }
 }
 
 // What a search looks for: a row whose key equals the one sought, is not below it, or is above it.
@@ -26,25 +36,13 @@ pub enum Want {
 }
 
 // Whether a row is wanted whose key stands so to the one sought.
-fn is_wanted(w: Want, o: Order) -> bool
+fn is_wanted(w: Want, o: Ordering) -> bool
     ensures { result ≡ asked w o }
 {
     match w {
-        Want::Equal => match o {
-            Order::Below => false,
-            Order::Same => true,
-            Order::Above => false,
-        },
-        Want::NotBelow => match o {
-            Order::Below => false,
-            Order::Same => true,
-            Order::Above => true,
-        },
-        Want::Over => match o {
-            Order::Below => false,
-            Order::Same => false,
-            Order::Above => true,
-        },
+        Want::Equal => o.is_eq(),
+        Want::NotBelow => o.is_ge(),
+        Want::Over => o.is_gt(),
     }
 }
 
@@ -54,21 +52,14 @@ fn low_rows(h: Shape, t: &[u32], n: usize, key: &[u32], at: usize) -> usize
     requires { (place h n ≤ length t.now) × (h.width ≤ h.stride) × (at + h.width ≤ length key.now) }
     ensures { (result ≤ n) × AllBelow h (part at h.width key.now) t.now result }
 {
-    let base = h.base;
-    let stride = h.stride;
-    let width = h.width;
-    if width == 0 {
+    if h.width == 0 {
         return 0;
     }
     let first = key[at];
-    let mut i = 0;
-    let mut word = base;
-    while i < n {
-        if first <= t[word] {
+    for i in 0..n {
+        if first <= t[h.place(i)] {
             return i;
         }
-        word += stride;
-        i += 1;
     }
     n
 }
@@ -77,7 +68,7 @@ fn low_rows(h: Shape, t: &[u32], n: usize, key: &[u32], at: usize) -> usize
 fn pair(a: u32, b: u32) -> u64
     ensures { result ≡ a * 4294967296 + b }
 {
-    (a as u64) * 4294967296 + (b as u64)
+    u64::from(a) * 4294967296 + u64::from(b)
 }
 
 // The words i and i + 1 of t as one such number.
@@ -98,25 +89,16 @@ fn low_after(h: Shape, t: &[u32], from: usize, n: usize, key: &[u32], at: usize)
         × AllBelow h (part at h.width key.now) t.now from }
     ensures { (result ≤ n) × AllBelow h (part at h.width key.now) t.now result }
 {
-    let base = h.base;
-    let stride = h.stride;
-    let width = h.width;
-    if width < 3 {
+    if h.width < 3 {
         return from;
     }
     let first = key[at];
     let next = pair_at(key, at + 1);
-    let mut i = from;
-    let mut word = base + from * stride;
-    while i < n {
-        if t[word] != first {
+    for i in from..n {
+        let word = h.place(i);
+        if t[word] != first || next <= pair_at(t, word + 1) {
             return i;
         }
-        if next <= pair_at(t, word + 1) {
-            return i;
-        }
-        word += stride;
-        i += 1;
     }
     n
 }
@@ -126,19 +108,11 @@ fn find_row(w: Want, h: Shape, t: &[u32], n: usize, key: &[u32], at: usize) -> u
     requires { (place h n ≤ length t.now) × (h.width ≤ h.stride) × (at + h.width ≤ length key.now) }
     ensures { result ≡ first_where (fits w h (part at h.width key.now) t.now) n }
 {
-    let base = h.base;
-    let stride = h.stride;
-    let width = h.width;
     let low = low_rows(h, t, n, key, at);
-    let mut i = low_after(h, t, low, n, key, at);
-    let mut place = base + i * stride;
-    while i < n {
-        let o = words::compare_keys(t, place, key, at, width);
-        if is_wanted(w, o) {
+    for i in low_after(h, t, low, n, key, at)..n {
+        if is_wanted(w, words::compare_keys(t, h.place(i), key, at, h.width)) {
             return i;
         }
-        place += stride;
-        i += 1;
     }
     n
 }
@@ -148,12 +122,10 @@ fn same_words(t: &[u32], place: usize, key: &[u32], at: usize, width: usize) -> 
     requires { (place + width ≤ length t.now) × (at + width ≤ length key.now) }
     ensures { result ≡ first_where (differs t.now place key.now at) width }
 {
-    let mut m = 0;
-    while m < width {
+    for m in 0..width {
         if t[place + m] != key[at + m] {
             return m;
         }
-        m += 1;
     }
     width
 }
@@ -164,26 +136,20 @@ fn same_row(h: Shape, t: &[u32], n: usize, key: &[u32], at: usize) -> usize
     requires { (place h n ≤ length t.now) × (h.width ≤ h.stride) × (at + h.width ≤ length key.now) }
     ensures { result ≡ first_where (fits Equal h (part at h.width key.now) t.now) n }
 {
-    let base = h.base;
-    let stride = h.stride;
-    let width = h.width;
-    if width == 0 {
+    if h.width == 0 {
         return 0;
     }
-    let mut i = 0;
-    let mut row = base;
     let mut m = 0;
     let mut word = key[at];
-    while i < n {
+    for i in 0..n {
+        let row = h.place(i);
         if t[row + m] == word {
-            m = same_words(t, row, key, at, width);
-            if m == width {
+            m = same_words(t, row, key, at, h.width);
+            if m == h.width {
                 return i;
             }
             word = key[at + m];
         }
-        row += stride;
-        i += 1;
     }
     n
 }
@@ -195,8 +161,7 @@ pub fn find(w: Want, h: Shape, t: &[u32], n: usize, key: &[u32], at: usize) -> u
 {
     match w {
         Want::Equal => same_row(h, t, n, key, at),
-        Want::NotBelow => find_row(w, h, t, n, key, at),
-        Want::Over => find_row(w, h, t, n, key, at),
+        Want::NotBelow | Want::Over => find_row(w, h, t, n, key, at),
     }
 }
 
@@ -205,7 +170,7 @@ pub fn open_words(t: &mut [u32], a: usize, e: usize, row: &[u32], from: usize, n
     requires { (a ≤ e) × (e + n ≤ length t.old) × (from + n ≤ length row.now) }
     ensures { t.new ≡ opened t.old a e (part from n row.now) }
 {
-    words::move_up(t, a, a + n, e - a);
+    words::move_words(t, a, a + n, e - a);
     words::copy_words(t, a, row, from, n);
 }
 
@@ -214,7 +179,7 @@ pub fn close_words(t: &mut [u32], a: usize, e: usize, n: usize)
     requires { (a + n ≤ e) × (e ≤ length t.old) }
     ensures { t.new ≡ closed t.old a e n }
 {
-    words::move_down(t, a + n, a, e - a - n);
+    words::move_words(t, a + n, a, e - a - n);
     words::zero_words(t, e - n, n);
 }
 
@@ -223,12 +188,7 @@ pub fn count_of(h: Shape, t: &[u32]) -> usize
     requires { 1 ≤ length t.now }
     ensures { result ≡ count h t.now }
 {
-    let word = words::word_at(t, 0);
-    let tag = h.tag;
-    if word < tag {
-        return 0;
-    }
-    word - tag
+    words::word_at(t, 0).saturating_sub(h.tag)
 }
 
 // Puts the row at word `from` of `row` in before row i, and counts it.
@@ -240,10 +200,8 @@ pub fn insert_row(h: Shape, t: &mut [u32], i: usize, row: &[u32], from: usize)
         × (from + h.stride ≤ length row.now) }
     ensures { t.new ≡ inserted h i (part from h.stride row.now) t.old }
 {
-    let base = h.base;
-    let stride = h.stride;
     let n = count_of(h, t);
-    open_words(t, base + i * stride, base + n * stride, row, from, stride);
+    open_words(t, h.place(i), h.place(n), row, from, h.stride);
     words::put_word(t, 0, h.tag + (n + 1));
 }
 
@@ -252,10 +210,8 @@ pub fn remove_row(h: Shape, t: &mut [u32], i: usize)
     requires { (1 ≤ h.base) × (place h (count h t.old) ≤ length t.old) × (i < count h t.old) × (h.tag + count h t.old ≤ 262143) }
     ensures { t.new ≡ removed h i t.old }
 {
-    let base = h.base;
-    let stride = h.stride;
     let n = count_of(h, t);
-    close_words(t, base + i * stride, base + n * stride, stride);
+    close_words(t, h.place(i), h.place(n), h.stride);
     words::put_word(t, 0, h.tag + (n - 1));
 }
 
@@ -264,6 +220,5 @@ pub fn replace_row(h: Shape, t: &mut [u32], i: usize, row: &[u32], from: usize, 
     requires { (place h i + n ≤ length t.old) × (from + n ≤ length row.now) }
     ensures { t.new ≡ replaced h i (part from n row.now) t.old }
 {
-    let at = h.base + i * h.stride;
-    words::copy_words(t, at, row, from, n);
+    words::copy_words(t, h.place(i), row, from, n);
 }

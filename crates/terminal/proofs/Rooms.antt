@@ -5,7 +5,7 @@ use native.Mathlib.Omega.{arith}
 use mathlib.Core.Path.{◌≡◌, refl, sym, ap, subst, ◌∙◌}
 use mathlib.Core.Bool.{Bool, true, false, cond}
 use mathlib.Core.List.{List}
-use mathlib.Core.Option.{Option, none, some}
+use Rattle.std.proofs.Common.{Option, None, Some, Result, Ok, Err, IfOk, MatchResult}
 use borrow.Author.Tests.{ltb-false}
 use lib.Dec.{ltb}
 use lib.ListN.{length, take, length-take}
@@ -14,6 +14,9 @@ use Rattle.drum.specs.Params.{D, good_params, file_size, size_if}
 use Rattle.drum.proofs.Good.{good-facts, caps}
 use Rattle.printed.specs.declared.Start.{Start}
 use Rattle.printed.specs.declared.Start.TheVariants.{BadLine, OutOfRange, TooLarge, Good}
+use Rattle.printed.specs.declared.Over.{Over}
+use Rattle.printed.specs.declared.Turn.{Turn}
+use Rattle.printed.specs.Promise.{turn_end}
 use Rattle.printed.specs.Output.{most_words, start_with, start_of}
 use Rattle.rules.specs.State.{Session}
 use Rattle.searchfile.specs.declared.Session as code
@@ -81,13 +84,20 @@ pub out-room : (p : Description) (file buffer work out : List ℕ) (filled : ℕ
 out-room p file buffer work out filled r h f e = omega (arith, work-long p file buffer work r h, record-most p h)
 
 -- what a line printed ends within the output
-pub printed-within : (p : Description) (file buffer work : List ℕ) (at filled : ℕ) → at ≤ filled + 35 + 21 * length (take p.wpr work)
+printed-within : (p : Description) (file buffer work : List ℕ) (at filled : ℕ) → at ≤ filled + 35 + 21 * length (take p.wpr work)
     → Roomy file buffer work → Playable p → filled ≤ 16384 → at ≤ 65536
 printed-within p file buffer work at filled l r h f = omega (arith, work-long p file buffer work r h, record-most p h)
 
 -- a description that is another one serves as that one did
 pub still-playable : (d e : Description) → d ≡ e → Playable e → Playable d
 still-playable d e q h = subst Playable (sym q) h
+
+-- the same of what came of a line: a session of the same parameters, or the end
+pub turned-within : (r : Result Turn Over) (p : Description) (file buffer work : List ℕ) (filled : ℕ) → IfOk r (λ t. t.session.desc ≡ p)
+    → turn_end r ≤ filled + 35 + 21 * length (take p.wpr work) → Roomy file buffer work → Playable p → filled ≤ 16384
+    → MatchResult r (λ t. Playable t.session.desc × (t.at ≤ 65536)) (λ e. e.at ≤ 65536)
+turned-within (Ok t) p file buffer work filled e l r h f = (still-playable _ _ e h, printed-within p file buffer work t.at filled l r h f)
+turned-within (Err x) p file buffer work filled e l r h f = printed-within p file buffer work x.at filled l r h f
 
 -- a place that is ready leaves room for a line
 pub room-left : (p : Place) → Ready p → p.filled ≤ 16384
@@ -96,17 +106,6 @@ room-left p r = r.room
 -- arrays for the largest file, block and record have room
 pub roomy : (file buffer work : List ℕ) → length file ≡ 8192 → length buffer ≡ 4096 → length work ≡ 2048 → Roomy file buffer work
 roomy file buffer work f b w = record { file-room = omega arith; block_room = omega arith; record-room = omega arith }
-
--- ---- a line that follows parameters out of range
-pub refusal-room : (p : Place) (out : List ℕ) → Ready p → length out ≡ 65536 → p.filled + 16 ≤ length out
-refusal-room p out r e =
-    let f = r.room in
-    omega arith
-
-pub refusal-within : (p : Place) (at : ℕ) → at ≤ p.filled + 16 → Ready p → at ≤ 65536
-refusal-within p at l r =
-    let f = r.room in
-    omega arith
 
 -- ---- the first line
 -- a start that is good has parameters with which calls are played
@@ -118,8 +117,8 @@ Fit (Good p) = Playable p
 
 fit : (o : Option Description) → Fit (start_of o)
 unfolding start_of start_with
-fit none = tt
-fit (some p) = go (good_params p) refl (ltb most_words (file_size p)) refl
+fit None = tt
+fit (Some p) = go (good_params p) refl (ltb most_words (file_size p)) refl
   where
     go : (g : Bool) → good_params p ≡ g → (l : Bool) → ltb most_words (file_size p) ≡ l → Fit (cond g (cond l TooLarge (Good p)) OutOfRange)
     go false e l m = tt

@@ -14,25 +14,10 @@ use Rattle.terminal.specs.Places.{Ready}
 -- bytes taken off those that are here end where these end
 pub taken-ready : (p : Place) (t : Taken) (input name numbers : List ℕ) (s : Read)
     → took t name numbers ≡ to_line_feed s p.at (drop p.at (take p.end input)) → Ready p → 65536 ≤ length input
-    → Ready (record { at = t.at; end = p.end; filled = p.filled; line = p.line; failed = p.failed })
+    → Ready (record { at = t.at; end = p.end; filled = p.filled; line = p.line })
 taken-ready p t input name numbers s e r h =
     let b = r.behind in
     let w = r.within in
     let n : length (take p.end input) ≡ p.end = simp length-take (omega arith) in
     let x = taken-within t name numbers s p.at (take p.end input) (omega arith) e in
     record { behind = omega arith; within = r.within; room = r.room }
-
--- a place that is another one is ready as that one was
-pub same-ready : (p q : Place) → p ≡ q → Ready q → Ready p
-same-ready p q e r = subst Ready (sym e) r
-
--- no more bytes of a first word are kept than there is room for
-pub within-name : (n : ℕ) (name : List ℕ) → length name ≡ 8 → n ≤ 8 → n ≤ length name
-within-name n name e h = omega arith
-
--- the part that is kept is as long as it says, and no longer than eight bytes
-pub name-part : (n : ℕ) (name : List ℕ) → length name ≡ 8 → n ≤ 8 → length (take n name) ≡ n
-name-part n name e h = simp length-take (omega arith)
-
-pub name-few : (n : ℕ) (name : List ℕ) → n ≤ 8 → length (take n name) ≤ 8
-name-few n name h = simp length-take (omega arith)

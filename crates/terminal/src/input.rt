@@ -1,7 +1,8 @@
 // Lines taken off the input: what is to be written goes out before more input is waited for.
-ghost use Rattle.std.specs.Prelude.{◌≡◌, ◌≤◌, length, IfSome};
+ghost use Rattle.std.specs.Prelude.{◌≤◌, length, IfOk, IfSome};
 ghost use Rattle.terminal.specs.Places.{Ready};
 
+use super::Stop;
 use super::output::{say, write_filled};
 use super::streams::Streams;
 use faults::Watch;
@@ -9,24 +10,22 @@ use lines::Reading;
 use std::io::{IsTerminal, Read, Write};
 
 // The bytes of the input from `at` to `end` are here and not read yet; `filled` bytes of the output are not written yet; so many lines
-// were read; whether reading or writing failed.
+// were read.
 #[derive(Clone, Copy)]
 pub struct Place {
     pub at: usize,
     pub end: usize,
     pub filled: usize,
     pub line: usize,
-    pub failed: bool,
 }
 
-// A line as far as it is read, with the first bytes of its first word; whether there is one.
+// A line as far as it is read, with the first bytes of its first word.
 #[derive(Clone, Copy)]
-pub struct Found {
+pub struct Line {
     pub place: Place,
     pub reading: Reading,
     pub watch: Watch,
     pub name: [u8; 8],
-    pub is_line: bool,
 }
 
 // Whoever types is told what is expected: this is the number of the line.
@@ -34,141 +33,121 @@ fn prompt<R: IsTerminal, W, E: Write>(streams: &mut Streams<R, W, E>, line: usiz
     if !streams.input.is_terminal() {
         return;
     }
-    if line == 1 {
-        say(&mut streams.errors, b"WPB WPR K SPACE CONTROL N? ");
-        return;
+    match line {
+        1 => say(&mut streams.errors, b"WPB WPR K SPACE CONTROL N? "),
+        _ => say(&mut streams.errors, b"call? "),
     }
-    say(&mut streams.errors, b"call? ");
 }
 
 // Reads, and returns how many bytes it read; what can't be read is told.
 fn read_some<R: Read, W, E: Write>(
     streams: &mut Streams<R, W, E>,
     input: &mut [u8; 65536],
-) -> Option<usize>
-    ensures { IfSome result (λ n. n ≤ 65536) }
+) -> Result<usize, Stop>
+    ensures { IfOk result (λ n. n ≤ 65536) }
 {
     match streams.input.read(input) {
-        Ok(n) => Some(n),
+        Ok(n) => Ok(n),
         Err(_) => {
             say(&mut streams.errors, b"the input can't be read\n");
-            None
+            Err(Stop::Failed)
         }
     }
 }
 
 // Writes what is to be written, and then reads: whoever waits for an answer has it before the next line is waited for. None is here where the
-// input ended or something failed.
+// input ended.
 fn fetch<R: Read + IsTerminal, W: Write, E: Write>(
     place: Place,
     streams: &mut Streams<R, W, E>,
     input: &mut [u8; 65536],
     out: &[u8; 65536],
-) -> Place
+) -> Result<Place, Stop>
     requires { Ready place }
-    ensures { Ready result }
+    ensures { IfOk result Ready }
 {
-    let mut next = place;
-    next.at = 0;
-    next.end = 0;
-    next.filled = 0;
-    if !write_filled(streams, out, place.filled) {
-        next.failed = true;
-        return next;
-    }
+    write_filled(streams, out, place.filled)?;
     prompt(streams, place.line);
-    match read_some(streams, input) {
-        Some(n) => {
-            next.end = n;
-            next.failed = false;
-        }
-        None => next.failed = true,
-    }
-    next
-}
-
-// One line more.
-fn next_number(line: usize) -> usize {
-    if line < usize::MAX {
-        return line + 1;
-    }
-    line
+    let end = read_some(streams, input)?;
+    Ok(Place {
+        at: 0,
+        end,
+        filled: 0,
+        line: place.line,
+    })
 }
 
 // The next line, nothing of it read.
-fn unread(start: Place) -> Found
+pub fn unread(start: Place) -> Line
     requires { Ready start }
     ensures { Ready result.place }
 {
-    let mut place = start;
-    place.line = next_number(start.line);
-    place.failed = false;
-    Found {
-        place,
+    Line {
+        place: Place {
+            line: start.line.saturating_add(1),
+            ..start
+        },
         reading: Reading::new(),
         watch: Watch::new(start.line != 0),
         name: [0; 8],
-        is_line: false,
     }
 }
 
-// The line's bytes that are here.
-fn take_here(line: Found, input: &[u8], numbers: &mut [u32; 2048]) -> Found
-    requires { (Ready line.place) × (65536 ≤ length input.now) }
-    ensures { Ready result.place }
+// Takes the line's bytes that are here; whether the line ended there.
+fn take_here(line: &mut Line, input: &[u8], numbers: &mut [u32; 2048]) -> bool
+    requires { (Ready line.old.place) × (65536 ≤ length input.now) }
+    ensures { Ready line.new.place }
 {
-    let mut place = line.place;
     let mut name = line.name;
-    let at = place.at;
-    let end = place.end;
-    let watch = faults::look(line.watch, &input[..end], at);
+    let at = line.place.at;
+    let end = line.place.end;
     let taken = lines::take(line.reading, &input[..end], at, &mut name, numbers);
-    let reading = taken.reading;
-    place.at = taken.at;
-    Found {
-        place,
-        reading,
-        watch,
+    *line = Line {
+        place: Place {
+            at: taken.at,
+            ..line.place
+        },
+        reading: taken.reading,
+        watch: faults::look(line.watch, &input[..end], at),
         name,
-        is_line: taken.ended,
-    }
+    };
+    taken.ended
 }
 
-// What was read of a line when the input ended: a line if there were any bytes of it, and nothing failed.
-fn last_line(line: Found, numbers: &mut [u32; 2048]) -> Found
-    ensures { result.place ≡ line.place }
+// What was read of a line when the input ended: a line if there were any bytes of it.
+fn last_line(line: Line, numbers: &mut [u32; 2048]) -> Option<Line>
+    requires { Ready line.place }
+    ensures { IfSome result (λ l. Ready l.place) }
 {
-    let begun = line.reading;
-    let place = line.place;
-    let mut next = line;
-    let over = begun.rest(numbers);
-    next.reading = over;
-    next.is_line = begun.begun && !place.failed;
-    next
+    if !line.reading.begun {
+        return None;
+    }
+    Some(Line {
+        reading: line.reading.rest(numbers),
+        ..line
+    })
 }
 
-// The next line: bytes that are here, then more of the input until a line or the input ends.
+// The next line: bytes that are here, then more of the input until a line or the input ends. After the input's end nothing is left to be written.
 pub fn next_line<R: Read + IsTerminal, W: Write, E: Write>(
     start: Place,
     streams: &mut Streams<R, W, E>,
     input: &mut [u8; 65536],
     numbers: &mut [u32; 2048],
     out: &[u8; 65536],
-) -> Found
+) -> Result<Option<Line>, Stop>
     requires { Ready start }
-    ensures { Ready result.place }
+    ensures { IfOk result (λ o. IfSome o (λ l. Ready l.place)) }
 {
     let mut line = unread(start);
     for _ in 0..u64::MAX {
-        line = take_here(line, input, numbers);
-        if line.is_line {
-            return line;
+        if take_here(&mut line, input, numbers) {
+            return Ok(Some(line));
         }
-        let place = fetch(line.place, streams, input, out);
-        line.place = place;
-        if place.end == 0 {
-            return last_line(line, numbers);
+        line.place = fetch(line.place, streams, input, out)?;
+        if line.place.end == 0 {
+            return Ok(last_line(line, numbers));
         }
     }
-    last_line(line, numbers)
+    Ok(last_line(line, numbers))
 }

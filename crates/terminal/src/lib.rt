@@ -10,11 +10,12 @@ mod streams;
 mod told;
 mod turns;
 
-ghost use Rattle.std.specs.Prelude.{◌≡◌};
+ghost use Rattle.std.specs.Prelude.{◌≡◌, IfOk};
 ghost use Rattle.lines.specs.Reading.{parameters_in};
 ghost use Rattle.printed.specs.Output.{start_of};
+ghost use Rattle.terminal.specs.Places.{Ready};
 
-use input::{Found, Place, next_line};
+use input::{Line, Place, next_line, unread};
 use printed::Start;
 use refused::refuse_lines;
 use searchfile::Session;
@@ -23,46 +24,55 @@ pub use streams::Streams;
 use told::tell_first;
 use turns::play_calls;
 
-// How a session ended: the input ended; a line was bad or the file too large; reading or writing failed.
-#[derive(Clone, Copy)]
-pub enum Ending {
-    Well,
+// Why a session stops before its input ends: a line was bad or the file too large; reading or writing failed.
+#[derive(Clone, Copy, Debug, PartialEq, Eq)]
+pub enum Stop {
     Wrong,
     Failed,
 }
 
 // What the first line makes of the program.
-fn start_of(line: Found, numbers: &[u32; 2048]) -> Start
+fn start_of(line: Line, numbers: &[u32; 2048]) -> Start
     ensures { result ≡ start_of (parameters_in line.reading numbers.now) }
 {
     printed::start_of(line.reading, numbers)
 }
 
-// Plays the session that a file holds, or what is typed.
-pub fn play<R: Read + IsTerminal + Drop, W: Write + Drop, E: Write + Drop>(
-    mut streams: Streams<R, W, E>,
-) -> Ending {
-    let mut input = [0; 65536];
-    let mut numbers = [0; 2048];
-    let mut out = [0; 65536];
+// The first line; no line at all is an empty one.
+fn first_line<R: Read + IsTerminal, W: Write, E: Write>(
+    streams: &mut Streams<R, W, E>,
+    input: &mut [u8; 65536],
+    numbers: &mut [u32; 2048],
+    out: &[u8; 65536],
+) -> Result<Line, Stop>
+    ensures { IfOk result (λ l. Ready l.place) }
+{
     let start = Place {
         at: 0,
         end: 0,
         filled: 0,
         line: 0,
-        failed: false,
     };
-    let line = next_line(start, &mut streams, &mut input, &mut numbers, &out);
-    let place = line.place;
-    if place.failed {
-        return Ending::Failed;
+    match next_line(start, streams, input, numbers, out)? {
+        Some(line) => Ok(line),
+        None => Ok(unread(start)),
     }
+}
+
+// Plays the session that a file holds, or what is typed.
+pub fn play<R: Read + IsTerminal + Drop, W: Write + Drop, E: Write + Drop>(
+    mut streams: Streams<R, W, E>,
+) -> Result<(), Stop> {
+    let mut input = [0; 65536];
+    let mut numbers = [0; 2048];
+    let mut out = [0; 65536];
+    let line = first_line(&mut streams, &mut input, &mut numbers, &out)?;
+    let place = line.place;
     let begun = start_of(line, &numbers);
     if let Start::Good { p } = begun {
-        let opening = Session::new(p);
         return play_calls(
             place,
-            opening,
+            Session::new(p),
             &mut streams,
             &mut input,
             &mut numbers,
@@ -70,13 +80,11 @@ pub fn play<R: Read + IsTerminal + Drop, W: Write + Drop, E: Write + Drop>(
         );
     }
     let filled = printed::put_start(begun, &mut out, 0);
-    let ending = tell_first(line, filled, &mut streams, &numbers, &mut out);
+    let stop = tell_first(line, filled, &mut streams, &numbers, &mut out);
     match begun {
         Start::OutOfRange => {
             refuse_lines(place, &mut streams, &mut input, &mut numbers, &mut out)
         }
-        Start::BadLine => ending,
-        Start::TooLarge => ending,
-        Start::Good { p: _ } => ending,
+        _ => Err(stop),
     }
 }

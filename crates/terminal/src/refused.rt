@@ -1,23 +1,22 @@
 // The lines that follow parameters out of range.
 ghost use Rattle.std.specs.Prelude.{◌≤◌};
+ghost use Rattle.printed.specs.Promise.{said_end};
 ghost use Rattle.terminal.specs.Places.{Ready};
 
-use super::Ending;
-use super::input::{Found, Place, next_line};
-use super::output::{ended, with_room};
+use super::Stop;
+use super::input::{Line, Place, next_line};
+use super::output::{with_room, write_filled};
 use super::streams::Streams;
 use super::told::tell_name;
-use printed::Told;
+use printed::Over;
 use std::io::{IsTerminal, Read, Write};
 
 // A line with parameters out of range of which everything was read.
-fn refuse_read(line: Found, out: &mut [u8; 65536]) -> Told
+fn refuse_read(line: Line, out: &mut [u8; 65536]) -> Result<usize, Over>
     requires { Ready line.place }
-    ensures { result.at ≤ 65536 }
+    ensures { said_end result ≤ 65536 }
 {
-    let place = line.place;
-    let name = line.name;
-    printed::refuse_line(line.reading, &name, out, place.filled)
+    printed::refuse_line(line.reading, &line.name, out, line.place.filled)
 }
 
 // All lines with parameters out of range.
@@ -27,24 +26,18 @@ pub fn refuse_lines<R: Read + IsTerminal, W: Write, E: Write>(
     input: &mut [u8; 65536],
     numbers: &mut [u32; 2048],
     out: &mut [u8; 65536],
-) -> Ending
+) -> Result<(), Stop>
     requires { Ready start }
 {
     let mut place = start;
     for _ in 0..u64::MAX {
-        let line = next_line(place, streams, input, numbers, out);
-        place = line.place;
-        if !line.is_line {
-            return ended(place, streams, out);
-        }
-        let told = refuse_read(line, out);
-        if told.over {
-            return tell_name(line, told.at, streams, out);
-        }
-        place = with_room(place, told.at, streams, out);
-        if place.failed {
-            return Ending::Failed;
+        let Some(line) = next_line(place, streams, input, numbers, out)? else {
+            return Ok(());
+        };
+        match refuse_read(line, out) {
+            Ok(at) => place = with_room(line.place, at, streams, out)?,
+            Err(over) => return Err(tell_name(line, over.at, streams, out)),
         }
     }
-    ended(place, streams, out)
+    write_filled(streams, out, place.filled)
 }

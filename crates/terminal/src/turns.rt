@@ -1,23 +1,20 @@
 // The lines of calls.
-ghost use Rattle.std.specs.Prelude.{◌≤◌};
+ghost use Rattle.std.specs.Prelude.{◌≤◌, MatchResult};
 ghost use Rattle.terminal.specs.Places.{Ready, Playable, Roomy};
 
-use super::Ending;
-use super::input::{Place, next_line};
-use super::output::{ended, with_room};
+use super::Stop;
+use super::input::{Line, Place, next_line};
+use super::output::{with_room, write_filled};
 use super::streams::Streams;
 use super::told::tell_call;
-use lines::Reading;
-use printed::Turn;
+use printed::{Over, Turn};
 use searchfile::Session;
 use std::io::{IsTerminal, Read, Write};
 
-// What was kept of a line of calls; `filled` bytes are not written yet; and the session that it is played in.
+// A line of calls, and the session that it is played in.
 #[derive(Clone, Copy)]
 struct Here {
-    name: [u8; 8],
-    filled: usize,
-    reading: Reading,
+    line: Line,
     session: Session,
 }
 
@@ -30,29 +27,25 @@ fn call_cut(
     work: &mut [u32],
     numbers: &[u32; 2048],
     out: &mut [u8; 65536],
-) -> Turn
-    requires { (here.filled ≤ 16384) × (Playable here.session.desc) × (Roomy file.old buffer.old work.old) }
-    ensures { (Playable result.session.desc) × (result.at ≤ 65536) }
+) -> Result<Turn, Over>
+    requires { (here.line.place.filled ≤ 16384) × (Playable here.session.desc) × (Roomy file.old buffer.old work.old) }
+    ensures { MatchResult result (λ t. (Playable t.session.desc) × (t.at ≤ 65536)) (λ e. e.at ≤ 65536) }
 {
     let mut marks = [0; 4096];
-    let name = here.name;
-    let session = here.session;
-    let p = session.desc;
+    let line = here.line;
+    let p = here.session.desc;
     let size = p.file_size();
-    let wpb = p.wpb;
-    let wpr = p.wpr;
-    let n = p.n;
     printed::call_line(
-        here.reading,
-        &name,
+        line.reading,
+        &line.name,
         numbers,
-        session,
+        here.session,
         &mut file[..size],
-        &mut buffer[..wpb],
-        &mut work[..wpr],
-        &mut marks[..n],
+        &mut buffer[..p.wpb],
+        &mut work[..p.wpr],
+        &mut marks[..p.n],
         out,
-        here.filled,
+        line.place.filled,
     )
 }
 
@@ -64,9 +57,9 @@ fn call_read(
     work: &mut [u32; 2048],
     numbers: &[u32; 2048],
     out: &mut [u8; 65536],
-) -> Turn
-    requires { (here.filled ≤ 16384) × (Playable here.session.desc) }
-    ensures { (Playable result.session.desc) × (result.at ≤ 65536) }
+) -> Result<Turn, Over>
+    requires { (here.line.place.filled ≤ 16384) × (Playable here.session.desc) }
+    ensures { MatchResult result (λ t. (Playable t.session.desc) × (t.at ≤ 65536)) (λ e. e.at ≤ 65536) }
 {
     call_cut(here, file, buffer, work, numbers, out)
 }
@@ -79,7 +72,7 @@ pub fn play_calls<R: Read + IsTerminal, W: Write, E: Write>(
     input: &mut [u8; 65536],
     numbers: &mut [u32; 2048],
     out: &mut [u8; 65536],
-) -> Ending
+) -> Result<(), Stop>
     requires { (Ready start) × (Playable opening.desc) }
 {
     let mut file = [0; 8192];
@@ -88,28 +81,17 @@ pub fn play_calls<R: Read + IsTerminal, W: Write, E: Write>(
     let mut place = start;
     let mut session = opening;
     for _ in 0..u64::MAX {
-        let line = next_line(place, streams, input, numbers, out);
-        place = line.place;
-        if !line.is_line {
-            return ended(place, streams, out);
-        }
-        let name = line.name;
-        let reading = line.reading;
-        let here = Here {
-            name,
-            filled: place.filled,
-            reading,
-            session,
+        let Some(line) = next_line(place, streams, input, numbers, out)? else {
+            return Ok(());
         };
-        let turn = call_read(here, &mut file, &mut buffer, &mut work, numbers, out);
-        session = turn.session;
-        if turn.over {
-            return tell_call(line, session.desc, turn.at, streams, out);
-        }
-        place = with_room(place, turn.at, streams, out);
-        if place.failed {
-            return Ending::Failed;
+        let here = Here { line, session };
+        match call_read(here, &mut file, &mut buffer, &mut work, numbers, out) {
+            Ok(turn) => {
+                session = turn.session;
+                place = with_room(line.place, turn.at, streams, out)?;
+            }
+            Err(over) => return Err(tell_call(line, session.desc, over.at, streams, out)),
         }
     }
-    ended(place, streams, out)
+    write_filled(streams, out, place.filled)
 }

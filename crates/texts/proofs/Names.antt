@@ -1,15 +1,20 @@
--- A call's name, where it is known which call it is.
-use Prim.Native.Nat.{ℕ, ◌+◌}
-use mathlib.Core.Path.{◌≡◌}
-use mathlib.Core.List.{List}
+-- A call's name has at most six bytes.
+use Prim.Native.Nat.{◌≤◌}
+use native.Mathlib.Omega.{arith}
 use lib.ListN.{length}
-use Rattle.words.specs.Words.{put}
 use Rattle.rules.specs.declared.Call.{Call}
+use Rattle.rules.specs.declared.Call.TheVariants.{Create, Open, Close, Seek, Adv, Nsert, Dlete, Updat, Xtend}
+use Rattle.texts.specs.Texts.{bytes}
 use Rattle.texts.specs.Results.{spelling}
 
-module _ (call c : Call) (e : call ≡ c) (at : ℕ) where
-  pub name-put : (out out' : List ℕ) → out' ≡ put out at (spelling c) → out' ≡ put out at (spelling call)
-  name-put out out' h = rw e h
-
-  pub name-end : (r : ℕ) → r ≡ at + length (spelling c) → r ≡ at + length (spelling call)
-  name-end r h = rw e h
+pub spelling-short : (c : Call) → length (spelling c) ≤ 6
+unfolding spelling bytes
+spelling-short Create = omega arith
+spelling-short Open = omega arith
+spelling-short Close = omega arith
+spelling-short (Seek at) = omega arith
+spelling-short Adv = omega arith
+spelling-short (Nsert at) = omega arith
+spelling-short (Dlete at) = omega arith
+spelling-short (Updat at) = omega arith
+spelling-short (Xtend at) = omega arith

@@ -3,16 +3,9 @@ use mathlib.Core.Path.{◌≡◌, refl, sym, ◌∙◌}
 use mathlib.Core.List.{List, [], ◌∷◌, ◌++◌}
 use Prim.Native.Nat.{ℕ, ◌+◌, ◌≤◌, ◌<◌}
 use native.Mathlib.Omega.{arith}
-use lib.ListN.{length, get_or, set, length-append}
-use Rattle.words.specs.Words.{part, put}
+use lib.ListN.{length, set, length-append}
+use Rattle.words.specs.Words.{put}
 use Rattle.words.proofs.Parts.{put-after, put-before, set-put, length-put}
-use Rattle.words.proofs.Turns.{copy-turn}
-
--- a turn of the loop that copies a whole list
-pub bytes-turn : (d d₀ s : List ℕ) (at i : ℕ) → d ≡ put d₀ at (part 0 i s) → at + i < length d₀ → i < length s → set d (at + i) (get_or s i 0) ≡ put d₀ at (part 0 (i + 1) s)
-bytes-turn d d₀ s at i e hd hs =
-    let z : 0 + i ≡ i = omega arith in
-    rw z at (copy-turn d d₀ s at 0 i e hd (omega arith))
 
 -- a byte stored behind the place of what is written next
 pub put_last : (l : List ℕ) (a : ℕ) (s : List ℕ) (x : ℕ) → a + length s < length l → put (set l (a + length s) x) a s ≡ put l a (s ++ (x ∷ []))

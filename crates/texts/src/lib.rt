@@ -1,5 +1,6 @@
 // What the printed session writes, as bytes put into a lent slice one after the other. Each function writes from byte `at` on and answers
 // the place behind what it wrote.
+// Bytes and place stay two parameters: callers keep the place from line to line and lend the bytes anew, so a struct of both is no plainer.
 #![tactic(auto)]
 
 ghost use Rattle.std.specs.Prelude.{◌≡◌, ◌+◌, ◌*◌, ◌≤◌, ◌<◌, ◌∷◌, length};
@@ -14,12 +15,9 @@ pub fn put_bytes(out: &mut [u8], at: usize, text: &[u8]) -> usize
     requires { at + length text.now ≤ length out.old }
     ensures { (out.new ≡ put out.old at text.now) × (result ≡ at + length text.now) }
 {
-    let mut i = 0;
-    while i < text.len() {
-        out[at + i] = text[i];
-        i += 1;
-    }
-    at + text.len()
+    let end = at + text.len();
+    out[at..end].copy_from_slice(text);
+    end
 }
 
 // How many decimal digits n has.
@@ -40,20 +38,12 @@ fn put_digits(out: &mut [u8], at: usize, base: u64, k: usize, n: u64) -> usize
     requires { (at + k ≤ length out.old) × (2 ≤ base) × (base ≤ 10) }
     ensures { (out.new ≡ put out.old at (digits base k n)) × (result ≡ at + k) }
 {
-    let mut i = k;
     let mut rest = n;
-    while 0 < i {
-        i -= 1;
-        out[at + i] = 48 + (rest % base) as u8;
+    for i in (0..k).rev() {
+        out[at + i] = b'0' + (rest % base) as u8;
         rest /= base;
     }
     at + k
-}
-
-fn long(x: u32) -> u64
-    ensures { result ≡ x }
-{
-    x as u64
 }
 
 pub fn count(x: usize) -> u64
@@ -68,7 +58,7 @@ fn put_number(out: &mut [u8], at: usize, n: u32) -> usize
     ensures { (out.new ≡ put out.old at (32 ∷ octal n)) × (result ≡ at + length (32 ∷ octal n)) × (result ≤ at + 7) }
 {
     out[at] = b' ';
-    put_digits(out, at + 1, 8, 6, long(n))
+    put_digits(out, at + 1, 8, 6, u64::from(n))
 }
 
 // A number in decimal, after a space.
@@ -89,30 +79,36 @@ fn put_listed(out: &mut [u8], at: usize, words: &[u32]) -> usize
         × (result ≤ at + 21 * length words.now) }
 {
     let mut end = at;
-    let mut i = 0;
-    while i < words.len() {
-        end = put_decimal(out, end, long(words[i]));
-        i += 1;
+    for word in words {
+        end = put_decimal(out, end, u64::from(*word));
     }
     end
 }
 
 // A call's name.
+#[tactic(auto, unfolding(crate::specs::Results::spelling, crate::specs::Texts::bytes))]
+pub fn spelling(call: Call) -> &'static [u8]
+    ensures { result.now ≡ spelling call }
+{
+    match call {
+        Call::Create => b"CREATE",
+        Call::Open => b"OPEN",
+        Call::Close => b"CLOSE",
+        Call::Seek { .. } => b"SEEK",
+        Call::Adv => b"ADV",
+        Call::Nsert { .. } => b"NSERT",
+        Call::Dlete { .. } => b"DLETE",
+        Call::Updat { .. } => b"UPDAT",
+        Call::Xtend { .. } => b"XTEND",
+    }
+}
+
+// The same, written.
 pub fn put_name(out: &mut [u8], at: usize, call: Call) -> usize
     requires { at + 6 ≤ length out.old }
     ensures { (out.new ≡ put out.old at (spelling call)) × (result ≡ at + length (spelling call)) × (result ≤ at + 6) }
 {
-    match call {
-        Call::Create => put_bytes(out, at, b"CREATE"),
-        Call::Open => put_bytes(out, at, b"OPEN"),
-        Call::Close => put_bytes(out, at, b"CLOSE"),
-        Call::Seek { at: _ } => put_bytes(out, at, b"SEEK"),
-        Call::Adv => put_bytes(out, at, b"ADV"),
-        Call::Nsert { at: _ } => put_bytes(out, at, b"NSERT"),
-        Call::Dlete { at: _ } => put_bytes(out, at, b"DLETE"),
-        Call::Updat { at: _ } => put_bytes(out, at, b"UPDAT"),
-        Call::Xtend { at: _ } => put_bytes(out, at, b"XTEND"),
-    }
+    put_bytes(out, at, spelling(call))
 }
 
 // The line of a call that was performed; `shown` is the workspace, or no word where it is not asked for.

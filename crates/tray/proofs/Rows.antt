@@ -1,11 +1,12 @@
 -- The records of a tray, one after the other; how long it is.
-use mathlib.Core.Path.{◌≡◌, sym, ap, ◌∙◌}
-use mathlib.Core.Bool.{true, false}
+use mathlib.Core.Path.{◌≡◌, refl, sym, ap, ◌∙◌}
+use mathlib.Core.Bool.{Bool, true, false, not}
 use mathlib.Core.List.{List, [], ◌∷◌}
-use Prim.Native.Nat.{ℕ, suc, ◌+◌, ◌*◌, ◌-◌, ◌≤◌, ◌<◌}
+use Prim.Native.Nat.{ℕ, zero, suc, ◌+◌, ◌*◌, ◌-◌, ◌≤◌, ◌<◌}
 use native.Mathlib.Nat.{mul-le-mul}
 use native.Mathlib.Omega.{arith}
 use borrow.Author.Tests.{eqb-true, lt-ltb}
+use Rattle.std.proofs.lemmas.Bool.{eqb-false}
 use mir.Syntax.{w32, w64}
 use mir.Val.{Fits}
 use lib.Dec.{ltb, eqb}
@@ -37,7 +38,7 @@ record-lent at w t =
     let m : at + w - at ≡ w = omega arith in
     ap (λ (k : ℕ). take k (drop at t)) m
 
-one-row : (n w : ℕ) → (n + 1) * w ≡ w + n * w
+pub one-row : (n w : ℕ) → (n + 1) * w ≡ w + n * w
 one-row n w = omega arith
 
 -- one record fewer is left
@@ -45,26 +46,6 @@ pub words_left : (n i w : ℕ) → i < n → (n - i) * w ≡ w + (n - (i + 1)) *
 words_left n i w l =
     let m : n - i ≡ n - (i + 1) + 1 = omega arith in
     ap (λ (k : ℕ). k * w) m ∙ one-row (n - (i + 1)) w
-
--- the count word is a 32-bit one
-pub count_most : (count : ℕ) (t : List ℕ) → count ≡ get_or t 0 0 → ((i : ℕ) → Fits w32 (get_or t i 0)) → count ≤ 4294967295
-count_most count t e word = let h = word 0 in omega arith
-
--- the words of the records that are left: at first, at the next record, and after it
-module _ (count k w at : ℕ) (t : List ℕ) where
-  pub left-at-first : length t ≡ 1 + count_of t * w → count ≡ count_of t → 1 + (count - 0) * w ≡ length t
-  left-at-first e c =
-      let z : count - 0 ≡ count_of t = omega arith in
-      ap (λ (n : ℕ). 1 + n * w) z ∙ sym e
-
-  pub next-end : at + (count - k) * w ≡ length t → k < count → at + w ≤ length t
-  next-end e l = omega (arith, words_left count k w l)
-
-  pub end_fits : at + (count - k) * w ≡ length t → k < count → Fits w64 (length t) → Fits w64 (at + w)
-  end_fits e l h = omega (arith, next-end e l)
-
-  pub left_after : at + (count - k) * w ≡ length t → k < count → at + w + (count - (k + 1)) * w ≡ length t
-  left_after e l = omega (arith, words_left count k w l)
 
 module _ (p : Description) (t : List ℕ) where
   -- the product of the count and WPR fits: it is taken in full
@@ -85,13 +66,20 @@ module _ (p : Description) (t : List ℕ) where
     length-fits = omega (arith, product-most)
 
   -- the tests of a tray's length
-  pub matches-empty : length t ≡ 0 → false ≡ matches p t
-  unfolding matches
-  matches-empty e = simp e
+  pub some-words : (x : Bool) → x ≡ eqb (length t) 0 → x ≡ false → 0 < length t
+  some-words x e h = let z = eqb-false (length t) 0 (sym e ∙ h) in go (length t) z
+    where
+      go : (n : ℕ) → (n ≡ 0 → ⊥) → 0 < n
+      go zero z = absurd (z refl)
+      go (suc n) z = omega arith
 
-  pub matches-some : (n : ℕ) → n ≡ get_or t 0 0 → (length t ≡ 0 → ⊥) → eqb (length t) (1 + n * p.wpr) ≡ matches p t
+  pub matches-empty : (x : Bool) → x ≡ eqb (length t) 0 → x ≡ true → not x ≡ matches p t
   unfolding matches
-  matches-some n e h = ap (λ (k : ℕ). eqb (length t) (1 + k * p.wpr)) e ∙ simp (lt-ltb 0 (length t) (omega arith))
+  matches-empty x e h = let z = eqb-true (length t) 0 (sym e ∙ h) in simp (h, z)
+
+  pub matches-some : (n : ℕ) → n ≡ get_or t 0 0 → 0 < length t → eqb (length t) (1 + n * p.wpr) ≡ matches p t
+  unfolding matches
+  matches-some n e h = ap (λ (k : ℕ). eqb (length t) (1 + k * p.wpr)) e ∙ simp (lt-ltb 0 (length t) h)
 
   pub matches-long : matches p t ≡ true → length t ≡ 1 + count_of t * p.wpr
   unfolding matches

@@ -10,16 +10,16 @@ use mir.Val.{Fits}
 use lib.ListN.{length, length-append, take, drop}
 use Rattle.numbers.specs.Numbers.{accepted}
 use Rattle.words.specs.Words.{part}
-use Rattle.rules.specs.State.{State, Outcome, lent}
+use Rattle.rules.specs.State.{Outcome, lent}
 use Rattle.rules.specs.NsertDone.{nsert}
 use Rattle.rules.specs.Requests.{lending, answer, inserting}
 use Rattle.searchfile.specs.declared.Session as code
-use Rattle.searchfile.specs.declared.Answer.{Answer}
+use Rattle.searchfile.specs.Answers.{Answer}
 use Rattle.searchfile.specs.Promise.{Counted, given, counted, answered}
 use Rattle.demands.proofs.Costs.{few-transfers}
-use Rattle.tray.specs.Tray.{TrayOutcome, count_of, records_at, nsert_one, stopped_by, stored_before, inserts}
-use Rattle.tray.specs.Promise.{CountedTray, counted_tray, answered_tray}
-use Rattle.tray.proofs.Rows.{records-next, records-none, record-lent}
+use Rattle.tray.specs.Tray.{TrayOutcome, records_at, nsert_one, stopped_by, stored_before, inserts}
+use Rattle.tray.specs.Promise.{CountedTray, answered_tray}
+use Rattle.tray.proofs.Rows.{records-next, records-none, record-lent, one-row}
 
 -- an outcome as a caller sees it, with k records stored and n transfers made before it
 abbrev pub behind : ℕ → ℕ → TrayOutcome → CountedTray
@@ -86,22 +86,12 @@ module _ (s : code.Session) (f b r : List ℕ) (a : Answer) (g d : List ℕ) (e 
 abbrev pub Reached : CountedTray → code.Session → ℕ → ℕ → ℕ → List ℕ → List ℕ → ℕ → ℕ → ℕ → List ℕ → Type 0
 Reached whole s k m n f b count w at t = whole ≡ behind k n (inserts (given s f b []) (records_at (count - k) w at t) m)
 
--- at first
-pub tray-starts : (st : State) (count w : ℕ) (t : List ℕ) (n : ℕ) → count ≡ count_of t
-    → counted_tray (inserts st (records_at (count_of t) w 1 t) n) ≡ behind 0 0 (inserts st (records_at (count - 0) w 1 t) n)
-tray-starts st count w t n e =
-    let z : count_of t ≡ count - 0 = omega arith in
-    ap (λ (k : ℕ). counted_tray (inserts st (records_at k w 1 t) n)) z
-    ∙ (let o = inserts st (records_at (count - 0) w 1 t) n in
-    let u : o.stored ≡ 0 + o.stored = omega arith in
-    let v : length o.transfers ≡ 0 + length o.transfers = omega arith in
-    λ j. record { stored = u j; number = o.number; transfers = v j; after = o.after })
-
 module _ (whole : CountedTray) (s : code.Session) (k m n : ℕ) (f b : List ℕ) (count w at : ℕ) (t : List ℕ) (here : Reached whole s k m n f b count w at t) where
-  -- at last: nothing is left
-  pub tray-ends : count ≤ k → answered_tray (record { stored = k; number = m; transfers = n; session = s }) f b ≡ whole
+  -- at last: nothing is left; i counts the turns, as many as records are stored
+  pub tray-ends : (i : ℕ) → k ≡ i → count ≤ i → answered_tray (record { stored = k; number = m; transfers = n; session = s }) f b ≡ whole
   unfolding inserts
-  tray-ends l =
+  tray-ends i c h =
+      let l : count ≤ k = omega arith in
       let u : k + 0 ≡ k = omega arith in
       let v : n + 0 ≡ n = omega arith in
       sym (here
@@ -122,10 +112,17 @@ module _ (whole : CountedTray) (s : code.Session) (k m n : ℕ) (f b : List ℕ)
     next-is : k < count → whole ≡ behind k n (inserts (given s f b []) (part at w t ∷ behind-it) m)
     next-is l = here ∙ ap (λ (rs : List (List ℕ)). behind k n (inserts (given s f b []) rs m)) (records-next count k w at t l)
 
-    pub turn-stops : (x : Bool) → k < count → x ≡ accepted a.number → not x ≡ true
+    pub turn-stops : (i : ℕ) (x : Bool) → k ≡ i → i < count → x ≡ accepted a.number → not x ≡ true
         → answered_tray (record { stored = k; number = a.number; transfers = n + a.transfers; session = a.session }) g d ≡ whole
-    turn-stops x l q h = tray-stops s f b (part at w t) a g d lent_is behind-it k n m x q h ∙ sym (next-is l)
+    turn-stops i x c u q h =
+        let l : k < count = omega arith in
+        tray-stops s f b (part at w t) a g d lent_is behind-it k n m x q h ∙ sym (next-is l)
 
-    pub turn-goes : (x : Bool) → k < count → x ≡ accepted a.number → not x ≡ false
-        → Reached whole a.session (k + 1) a.number (n + a.transfers) g d count w (at + w) t
-    turn-goes x l q h = next-is l ∙ tray-goes s f b (part at w t) a g d lent_is behind-it k n m x q h
+    pub turn-goes : (i : ℕ) (x : Bool) → at ≡ 1 + i * w → k ≡ i → i < count → x ≡ accepted a.number → not x ≡ false
+        → Reached whole a.session (k + 1) a.number (n + a.transfers) g d count w (1 + (i + 1) * w) t
+    turn-goes i x p c u q h =
+        let l : k < count = omega arith in
+        let o = one-row i w in
+        let z : at + w ≡ 1 + (i + 1) * w = omega arith in
+        next-is l ∙ tray-goes s f b (part at w t) a g d lent_is behind-it k n m x q h
+        ∙ ap (λ (j : ℕ). behind (k + 1) (n + a.transfers) (inserts (given a.session g d []) (records_at (count - (k + 1)) w j t) a.number)) z

@@ -1,11 +1,12 @@
 // Trays played: a file of four blocks filled by one call, trays that are stopped or refused, and trays on a closed session.
 #![tactic(auto)]
 
-mod said;
+mod shown;
 
 use drum::Description;
-use said::{print_words, show, told, told_tray};
+use said::told;
 use searchfile::Session;
+use shown::{show, told_tray};
 use std::io;
 
 fn put_in(
@@ -15,8 +16,7 @@ fn put_in(
     buffer: &mut [u32; 8],
     words: &[u32],
 ) -> io::Result<Session> {
-    print_words(out, b"TRAY", words)?;
-    told_tray(out, tray::nsert_tray(s, file, buffer, words))
+    told_tray(out, words, tray::nsert_tray(s, file, buffer, words))
 }
 
 fn dlete(
@@ -27,7 +27,7 @@ fn dlete(
     key: u32,
 ) -> io::Result<Session> {
     let work = [key, 0, 0];
-    told(out, b"DLETE", s.dlete(file, buffer, &work))
+    told(out, "DLETE", &[], s.dlete(file, buffer, &work))
 }
 
 // The last of the first four takes the last block; then there is no room.
@@ -56,8 +56,7 @@ fn stopped(
     s = put_in(out, s, file, buffer, &[1, 20, 9, 9])?;
     s = put_in(out, s, file, buffer, &[1, 262143, 0, 0])?;
     s = put_in(out, s, file, buffer, &[2, 1, 2, 3])?;
-    let none = [0u32; 1];
-    put_in(out, s, file, buffer, &none[..0])
+    put_in(out, s, file, buffer, &[])
 }
 
 // Two records are taken out, and the second of three is refused: the first stays, the third is not tried.
@@ -86,7 +85,7 @@ fn closed(
     file: &mut [u32; 40],
     buffer: &mut [u32; 8],
 ) -> io::Result<()> {
-    let mut s = told(out, b"CLOSE", start.close(file, buffer))?;
+    let mut s = told(out, "CLOSE", &[], start.close(file, buffer))?;
     s = put_in(out, s, file, buffer, &[0])?;
     s = put_in(out, s, file, buffer, &[1, 1, 1, 1])?;
     put_in(out, s, file, buffer, &[1])?;
@@ -108,10 +107,16 @@ fn main(rt: HostRuntime) -> io::Result<()> {
     let mut marks = [9u8; 4];
     let begun = told(
         &rt,
-        b"CREATE",
+        "CREATE",
+        &[],
         Session::new(description()).create(&mut file),
     )?;
-    let opened = told(&rt, b"OPEN", begun.open_file(&file, &buffer, &mut marks))?;
+    let opened = told(
+        &rt,
+        "OPEN",
+        &[],
+        begun.open_file(&file, &buffer, &mut marks),
+    )?;
     let full = filled(&rt, opened, &mut file, &mut buffer)?;
     let same = stopped(&rt, full, &mut file, &mut buffer)?;
     let last = again(&rt, same, &mut file, &mut buffer)?;

@@ -1,6 +1,6 @@
 -- One block turned where it lies: the count, the link, and each text by its mark.
 use Prim.Native.Nat.{ℕ, suc, ◌+◌, ◌-◌, ◌≤◌, ◌<◌}
-use mathlib.Core.Path.{◌≡◌, sym, ap, ◌∙◌}
+use mathlib.Core.Path.{◌≡◌, refl, sym, ap, ◌∙◌}
 use mathlib.Core.List.{List, ◌∷◌}
 use native.Mathlib.Omega.{arith}
 use mir.Syntax.{w64}
@@ -109,15 +109,15 @@ module _ (p : Description) (f : List ℕ) (b m : ℕ) where
   unfolding turned_text turned_index count index_shape
   index-turns r er e = er ∙ sym (rw (eq-eqb m 3 e))
 
-  pub detail-turns : (r : List ℕ) → r ≡ put_block p f b (recounted p 8192 (block_at p f b)) → (m ≡ 3 → ⊥) → m ≡ 1
+  pub detail-turns : (r : List ℕ) → r ≡ put_block p f b (recounted p 8192 (block_at p f b)) → m ≡ 1
       → r ≡ put_block p f b (turned_text p m (block_at p f b))
   unfolding turned_text turned_detail count detail_shape
-  detail-turns r er n e = er ∙ sym (rw (ne_eqb m 3 n, eq-eqb m 1 e))
+  detail-turns r er e = er ∙ sym (rw e refl)
 
-  pub link-turns : (r : List ℕ) → r ≡ put_block p f b (turned_free p (block_at p f b)) → (m ≡ 3 → ⊥) → (m ≡ 1 → ⊥) → m ≡ 2
+  pub link-turns : (r : List ℕ) → r ≡ put_block p f b (turned_free p (block_at p f b)) → m ≡ 2
       → r ≡ put_block p f b (turned_text p m (block_at p f b))
   unfolding turned_text
-  link-turns r er n k e = er ∙ sym (rw (ne_eqb m 3 n, ne_eqb m 1 k, eq-eqb m 2 e))
+  link-turns r er e = er ∙ sym (rw e refl)
 
   pub none-turns : Turnable p f b → (m ≡ 3 → ⊥) → (m ≡ 1 → ⊥) → (m ≡ 2 → ⊥) → f ≡ put_block p f b (turned_text p m (block_at p f b))
   unfolding turned_text put_block block_at

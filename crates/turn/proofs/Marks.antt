@@ -89,17 +89,6 @@ module _ (p : Description) (f marks : List ℕ) where
       let s : i ≡ sections f = omega arith in
       em ∙ ap (λ (x : ℕ). index_marked p f x marks) s
 
--- one mark
-pub index-mark : (m : ℕ) → m ≡ 3 → 1 ≡ open_mark m
-index-mark m e = sym (rw (eq-eqb m 3 e))
-
-pub other-mark : (m : ℕ) → (m ≡ 3 → ⊥) → m ≡ open_mark m
-other-mark m n = sym (rw (ne_eqb m 3 n))
-
--- the loop over the marks: those given back and what the others give are all
-pub unmark-none : (m : List ℕ) → index_unmarked m ≡ take 0 m ++ index_unmarked (drop 0 m)
-unmark-none m = refl
-
 pub unmark-next : (m₀ m : List ℕ) (i x : ℕ) → index_unmarked m₀ ≡ take i m ++ index_unmarked (drop i m) → x ≡ open_mark (get_or m i 0) → i < length m
     → index_unmarked m₀ ≡ take (i + 1) (set m i x) ++ index_unmarked (drop (i + 1) (set m i x))
 unfolding index_unmarked

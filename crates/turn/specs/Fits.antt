@@ -1,5 +1,6 @@
 -- What the turning functions may rely on once the sizes are right and the file was found to be as under Layout; and what each makes of words and marks.
-use Rattle.std.specs.Prelude.{ℕ, ◌+◌, ◌-◌, ◌≤◌, ◌<◌, ◌≡◌, true, cond, List, ◌++◌, eqb, length, get_or, set, take, drop}
+use Rattle.std.specs.Prelude.{ℕ, ◌+◌, ◌-◌, ◌≤◌, ◌<◌, ◌≡◌, true, cond, Result, Ok, Err, List, ◌++◌, eqb, length, get_or, set, take, drop}
+use Rattle.numbers.specs.declared.Refusal.{Refusal}
 use Rattle.words.specs.Words.{all_words}
 use Rattle.table.specs.Tables.{block_in}
 use Rattle.drum.specs.declared.Description.{Description}
@@ -35,3 +36,8 @@ blocks_turned p marks f = take (master_size p) f ++ turned_blocks p marks (drop 
 -- OPEN's mark of a block that is marked for turning: "1 for a block reached from the master" is an index block's too [S6]
 abbrev pub open_mark : ℕ → ℕ
 open_mark m = cond (eqb m 3) 1 m
+
+-- the parameters that the session has after the call: those of the other form, or its own where the call is refused [K6]
+abbrev pub described : Description → Result Description Refusal → Description
+described p (Ok q) = q
+described p (Err r) = p

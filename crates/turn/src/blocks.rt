@@ -43,16 +43,11 @@ fn turn_block(p: Description, file: &mut [u32], b: usize, mark: u8)
     requires { Turnable p file.old b }
     ensures { file.new ≡ put_block p file.old b (turned_text p mark (block_at p file.old b)) }
 {
-    if mark == marking::INDEX {
-        turn_count(p, file, b, Description::INDEX);
-        return;
-    }
-    if mark == marking::REACHED {
-        turn_count(p, file, b, Description::DETAIL);
-        return;
-    }
-    if mark == marking::CHAINED {
-        turn_link(p, file, b);
+    match mark {
+        marking::INDEX => turn_count(p, file, b, Description::INDEX),
+        marking::REACHED => turn_count(p, file, b, Description::DETAIL),
+        marking::CHAINED => turn_link(p, file, b),
+        _ => {}
     }
 }
 
@@ -61,9 +56,7 @@ pub fn turn_blocks(p: Description, file: &mut [u32], marks: &[u8])
     requires { Fit p file.old × (all_words file.old ≡ true) × (length marks.now ≡ p.n) }
     ensures { file.new ≡ blocks_turned p marks.now file.old }
 {
-    let mut b = 0;
-    while b < marks.len() {
-        turn_block(p, file, b + 1, marks[b]);
-        b += 1;
+    for (b, mark) in marks.iter().enumerate() {
+        turn_block(p, file, b + 1, *mark);
     }
 }

@@ -6,24 +6,18 @@ mod blocks;
 mod marking;
 
 ghost use Rattle.std.specs.Prelude.{◌≡◌, true, length};
+ghost use Rattle.numbers.specs.Refused.{number};
 ghost use Rattle.drum.specs.Params.{good_params};
 ghost use Rattle.layout.specs.Inspect.{layout_marks};
 ghost use Rattle.layout.specs.Inspected.{Fit};
 ghost use Rattle.layout.specs.Turned.{other_form, turned};
 ghost use Rattle.rules.specs.Turning.{turn_left, turn_sizes, turn_layout, turning};
-ghost use Rattle.turn.specs.Fits.{TurnFits};
+ghost use Rattle.turn.specs.Fits.{TurnFits, described};
 
 use blocks::turn_blocks;
 use drum::Description;
 use marking::{mark_indexes, restore};
-use numbers::{ALREADY_OPEN, BAD_FILE, DONE, WRONG_SIZE};
-
-// What the call answers: its number, and the parameters that its session then has.
-#[derive(Clone, Copy)]
-pub struct Turned {
-    pub number: u32,
-    pub desc: Description,
-}
+use numbers::{Refusal, require};
 
 // The parameters of the file in the other form.
 fn other(p: Description) -> Description
@@ -37,13 +31,7 @@ fn other(p: Description) -> Description
 fn is_sized(p: Description, file: usize, marks: usize) -> bool
     ensures { result ≡ turn_sizes p file marks }
 {
-    if !p.is_good() {
-        return false;
-    }
-    if file != p.file_size() {
-        return false;
-    }
-    marks == p.n
+    p.is_good() && file == p.file_size() && marks == p.n
 }
 
 // Turns each block that is in use or chained; the marks are OPEN's again when all is done.
@@ -57,39 +45,25 @@ fn turn_file(p: Description, file: &mut [u32], marks: &mut [u8])
 }
 
 // Turns a file of the right length if it is as under Layout.
-fn turn_closed(p: Description, file: &mut [u32], marks: &mut [u8]) -> Turned
+fn turn_closed(p: Description, file: &mut [u32], marks: &mut [u8]) -> Result<Description, Refusal>
     requires { Fit p file.old × (length marks.old ≡ p.n) }
-    ensures { turn_left result.number result.desc file.new marks.new ≡ turn_layout p file.old (layout_marks p file.old) }
+    ensures { turn_left (number result) (described p result) file.new marks.new ≡ turn_layout p file.old (layout_marks p file.old) }
 {
-    if !layout::inspect(p, file, marks) {
-        return Turned {
-            number: BAD_FILE,
-            desc: p,
-        };
-    }
+    require(layout::inspect(p, file, marks), Refusal::BadFile)?;
     turn_file(p, file, marks);
-    let q = other(p);
-    Turned {
-        number: DONE,
-        desc: q,
-    }
+    Ok(other(p))
 }
 
-// Turns the file of a session with these parameters, open or not.
-pub fn turn(p: Description, opened: bool, file: &mut [u32], marks: &mut [u8]) -> Turned
-    ensures { turn_left result.number result.desc file.new marks.new ≡ turning p opened file.old marks.old }
+// Turns the file of a session with these parameters, open or not; gives the parameters that the session then has.
+pub fn turn(
+    p: Description,
+    opened: bool,
+    file: &mut [u32],
+    marks: &mut [u8],
+) -> Result<Description, Refusal>
+    ensures { turn_left (number result) (described p result) file.new marks.new ≡ turning p opened file.old marks.old }
 {
-    if !is_sized(p, file.len(), marks.len()) {
-        return Turned {
-            number: WRONG_SIZE,
-            desc: p,
-        };
-    }
-    if opened {
-        return Turned {
-            number: ALREADY_OPEN,
-            desc: p,
-        };
-    }
+    require(is_sized(p, file.len(), marks.len()), Refusal::WrongSize)?;
+    require(!opened, Refusal::AlreadyOpen)?;
     turn_closed(p, file, marks)
 }

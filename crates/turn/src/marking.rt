@@ -9,7 +9,8 @@ ghost use Rattle.turn.specs.Fits.{TurnFits, open_mark};
 
 use drum::Description;
 
-// OPEN's marks of a block that is reached and of a chained one, and the mark of an index block while the file is turned.
+// OPEN's marks of a block that is reached and of a chained one, and the mark of an index block while the file is turned: words and no enum, as the marks are
+// the caller's bytes (the C interface).
 pub const REACHED: u8 = 1;
 
 pub const CHAINED: u8 = 2;
@@ -30,11 +31,9 @@ pub fn mark_indexes(p: Description, f: &[u32], marks: &mut [u8])
     ensures { marks.new ≡ index_marked p f.now (sections f.now) marks.old }
 {
     let n = words::word_at(f, 0);
-    let mut i = 0;
-    while i < n {
+    for i in 0..n {
         let b = named(p, f, i);
         marks[b - 1] = INDEX;
-        i += 1;
     }
 }
 
@@ -42,19 +41,14 @@ pub fn mark_indexes(p: Description, f: &[u32], marks: &mut [u8])
 fn open_mark(m: u8) -> u8
     ensures { result ≡ open_mark m }
 {
-    if m == INDEX {
-        return REACHED;
-    }
-    m
+    if m == INDEX { REACHED } else { m }
 }
 
 // Gives each block OPEN's mark again.
 pub fn restore(marks: &mut [u8])
     ensures { marks.new ≡ index_unmarked marks.old }
 {
-    let mut i = 0;
-    while i < marks.len() {
-        marks[i] = open_mark(marks[i]);
-        i += 1;
+    for m in marks.iter_mut() {
+        *m = open_mark(*m);
     }
 }

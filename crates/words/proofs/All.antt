@@ -1,5 +1,5 @@
 -- Laws of tests of every word: each is x, each is a word; and of ONES.
-use Prim.Native.Nat.{ℕ, zero, suc, ◌+◌, ◌≤◌, ◌<◌}
+use Prim.Native.Nat.{ℕ, zero, suc, ◌+◌, ◌-◌, ◌≤◌, ◌<◌}
 use mathlib.Core.Bool.{Bool, true, false, ◌&&◌}
 use mathlib.Core.Path.{◌≡◌, refl, sym, ap, ◌∙◌}
 use mathlib.Core.List.{List, [], ◌∷◌, ◌++◌}
@@ -7,6 +7,7 @@ use native.Mathlib.Omega.{arith}
 use lib.Dec.{leb, eqb}
 use lib.ListN.{length, take, drop, get_or, set, replicate}
 use borrow.Author.Tests.{leb-true, eqb-true, le-leb, eq-eqb}
+use Rattle.std.specs.List.{list_all}
 use Rattle.words.specs.Words.{part, put, top_word, all_are, all_words}
 use Rattle.words.specs.Keys.{ones, is_ones, key_lt}
 use Rattle.words.proofs.Keys.{clash, Tri, lt, eq, gt, tri, Stands, below, same, above, stands, key_lt-over, key_lt-tail}
@@ -22,6 +23,26 @@ both-and s t p q = rw (p, q)
 and_assoc : (r s t : Bool) → (r && (s && t)) ≡ ((r && s) && t)
 and_assoc true s t = refl
 and_assoc false s t = refl
+
+-- the two tests as those that the library makes of every word of a range
+all_are-listed : (x : ℕ) (l : List ℕ) → list_all (λ y. eqb y x) l ≡ all_are x l
+unfolding all_are
+all_are-listed x [] = refl
+all_are-listed x (y ∷ l) = ap (λ (t : Bool). eqb y x && t) (all_are-listed x l)
+
+all_words-listed : (l : List ℕ) → list_all (λ x. leb x top_word) l ≡ all_words l
+unfolding all_words
+all_words-listed [] = refl
+all_words-listed (x ∷ l) = ap (λ (t : Bool). leb x top_word && t) (all_words-listed l)
+
+module _ (a n : ℕ) (t : List ℕ) where
+  pub all_are-range : (x : ℕ) → list_all (λ y. eqb y x) (take (a + n - a) (drop a t)) ≡ all_are x (part a n t)
+  unfolding part
+  all_are-range x = let e : a + n - a ≡ n = omega arith in rw e (all_are-listed x (part a n t))
+
+  pub all_words-range : list_all (λ x. leb x top_word) (take (a + n - a) (drop a t)) ≡ all_words (part a n t)
+  unfolding part
+  all_words-range = let e : a + n - a ≡ n = omega arith in rw e (all_words-listed (part a n t))
 
 -- each word is x
 pub all_are-append : (x : ℕ) (l r : List ℕ) → all_are x (l ++ r) ≡ (all_are x l && all_are x r)

@@ -8,9 +8,9 @@ use native.Mathlib.Omega.{arith}
 use native.Mathlib.Decide.{dec_lt}
 use lib.Dec.{eqb}
 use borrow.Author.Tests.{lt-ltb, le-ltb, eq-eqb, ne_eqb, eqb-true, not-true, not-false}
+use Rattle.std.specs.Ordering.{is_lt, is_eq}
 use Rattle.words.specs.Keys.{key_lt, key_le, same_key, order}
-use Rattle.words.specs.declared.Order.{Order}
-use Rattle.words.specs.declared.Order.TheVariants.{Below, Same, Above}
+use Rattle.std.specs.declared.cmp.Ordering.TheVariants.{Less, Equal, Greater}
 
 pub clash : ◌≡◌ {A = Bool} true false → ⊥
 clash z = let n : ◌≡◌ {A = ℕ} 0 1 = cc in omega arith
@@ -152,52 +152,36 @@ module _ (a b : List ℕ) where
       go (same e) = absurd (same_key-false q e)
       go (above g) = g
 
-  -- the three answers of `order`, each from its case and back
-  pub order_lt : key_lt a b ≡ true → order a b ≡ Below
+  -- the three answers of `order`, each from its case
+  pub order_lt : key_lt a b ≡ true → order a b ≡ Less
   unfolding order
   order_lt p = simp p
 
-  pub order-eq : a ≡ b → order a b ≡ Same
+  pub order-eq : a ≡ b → order a b ≡ Equal
   unfolding order
   order-eq e = simp (same-not-lt e, same_key-eq a b e)
 
-pub order-gt : (a b : List ℕ) → key_lt b a ≡ true → order a b ≡ Above
+pub order-gt : (a b : List ℕ) → key_lt b a ≡ true → order a b ≡ Greater
 unfolding order
 order-gt a b p = simp (key_lt-asym b a p, same_key-ne a b (λ e. key_lt-ne b a p (sym e)))
 
-abbrev code : Order → ℕ
-code Below = 0
-code Same = 1
-code Above = 2
-
-apart : (x y : Order) → x ≡ y → code x < code y ⊎ code y < code x → ⊥
-apart x y e (inl l) = let n : code x ≡ code y = ap code e in omega arith
-apart x y e (inr l) = let n : code x ≡ code y = ap code e in omega arith
-
+-- how a stands to b decides both tests
 module _ (a b : List ℕ) where
-  pub order-lt-of : order a b ≡ Below → key_lt a b ≡ true
-  order-lt-of h = go (stands a b)
+  pub order-is_lt : is_lt (order a b) ≡ key_lt a b
+  order-is_lt = go (stands a b)
     where
-      go : Stands a b → key_lt a b ≡ true
-      go (below p) = p
-      go (same e) = absurd (apart Below Same (sym h ∙ order-eq a b e) (inl (omega arith)))
-      go (above p) = absurd (apart Below Above (sym h ∙ order-gt a b p) (inl (omega arith)))
+      go : Stands a b → is_lt (order a b) ≡ key_lt a b
+      go (below p) = rw (order_lt a b p, p)
+      go (same e) = rw (order-eq a b e, same-not-lt a b e)
+      go (above p) = rw (order-gt a b p, key_lt-asym b a p)
 
-  pub order-eq-of : order a b ≡ Same → a ≡ b
-  order-eq-of h = go (stands a b)
+  pub order-is_eq : is_eq (order a b) ≡ same_key a b
+  order-is_eq = go (stands a b)
     where
-      go : Stands a b → a ≡ b
-      go (below p) = absurd (apart Same Below (sym h ∙ order_lt a b p) (inr (omega arith)))
-      go (same e) = e
-      go (above p) = absurd (apart Same Above (sym h ∙ order-gt a b p) (inl (omega arith)))
-
-  pub order-gt-of : order a b ≡ Above → key_lt b a ≡ true
-  order-gt-of h = go (stands a b)
-    where
-      go : Stands a b → key_lt b a ≡ true
-      go (below p) = absurd (apart Above Below (sym h ∙ order_lt a b p) (inr (omega arith)))
-      go (same e) = absurd (apart Above Same (sym h ∙ order-eq a b e) (inr (omega arith)))
-      go (above p) = p
+      go : Stands a b → is_eq (order a b) ≡ same_key a b
+      go (below p) = rw (order_lt a b p, key_lt-not-same a b p)
+      go (same e) = rw (order-eq a b e, same_key-eq a b e)
+      go (above p) = rw (order-gt a b p, same_key-ne a b (λ e. key_lt-ne b a p (sym e)))
 
 -- not above
 module _ (a b : List ℕ) where

@@ -6,10 +6,11 @@ use native.Mathlib.Nat.{add-zero, sub-zero, not-suc-le-zero}
 use native.Mathlib.Numerals.{add-one}
 use native.Mathlib.Omega.{arith}
 use native.Mathlib.Decide.{dec_lt}
-use lib.ListN.{length, take, drop, get_or, set, replicate, length-append, length-take, length-drop, take-append-drop, get_or-append}
+use lib.ListN.{length, take, drop, get_or, set, replicate, length-append, length-replicate, length-take, length-drop, take-append-drop, get_or-append}
 use lib.Seq.{length-take-le, take-suc, drop-cons, set_at, get_or-drop, get_or-take, get_or-append-add, drop-append-add, drop-append-le, drop-drop, drop_at, take_at}
 use lib.Seq.{take-append-le, take-take, take-add, take_all, take-nil, drop-length, drop-set-lt, ext_get_or, take-append_seam}
 use borrow.Rule.Slice.PartMut.{put_mid, mid_of}
+use Rattle.std.specs.List.{copy_within}
 use Rattle.words.specs.Words.{part, put}
 
 pub length_part : (a n : ℕ) (l : List ℕ) → a + n ≤ length l → length (part a n l) ≡ n
@@ -284,3 +285,29 @@ part-set-before l i x a n h = ap (take n) (drop-set-lt a l i x h)
 
 pub part-set-after : (l : List ℕ) (i x a n : ℕ) → a + n ≤ i → i < length l → part a n (set l i x) ≡ part a n l
 part-set-after l i x a n h k = rw (set-put l i x k) (part-put-before l i (x ∷ []) a n h (omega arith))
+
+-- what the library writes over a range of a slice: a part of another, a part of its own, one word again and again
+pub copied_over : (l s r : List ℕ) (at from n : ℕ) → r ≡ mid_of from (from + n - from) s → from + n ≤ length s
+    → put_mid at (at + n - at) l r ≡ put l at (part from n s)
+unfolding part
+copied_over l s r at from n e h =
+    let k : from + n - from ≡ n = omega arith in
+    let m : at + n - at ≡ n = omega arith in
+    let p : r ≡ part from n s = rw k at e in
+    rw (m, p) (mid-put at n l (part from n s) (length_part from n s h))
+
+pub moved_within : (l : List ℕ) (from to n : ℕ) → from + n ≤ length l → copy_within l from (from + n) to ≡ put l to (part from n l)
+unfolding part put
+moved_within l from to n h =
+    let k : from + n - from ≡ n = omega arith in
+    let m : length (part from n l) ≡ n = length_part from n l h in
+    rw (k, m) refl
+
+pub filled_over : (l r : List ℕ) (at n x : ℕ) → r ≡ replicate (length (mid_of at (at + n - at) l)) x → at + n ≤ length l
+    → put_mid at (at + n - at) l r ≡ put l at (replicate n x)
+unfolding part
+filled_over l r at n x e h =
+    let m : at + n - at ≡ n = omega arith in
+    let k : length (part at n l) ≡ n = length_part at n l h in
+    let p : r ≡ replicate n x = rw (m, k) at e in
+    rw (m, p) (mid-put at n l (replicate n x) (length-replicate n x))

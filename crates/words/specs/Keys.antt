@@ -1,7 +1,7 @@
 -- Keys and their order. Document 01, "What is built" and "Layout". All that is above compares keys through key_lt and same_key alone.
 use Rattle.std.specs.Prelude.{ℕ, ◌+◌, ◌*◌, ◌^◌, Bool, true, false, not, ◌&&◌, ◌||◌, List, [], ◌∷◌, ltb, eqb, length, replicate}
-use Rattle.words.specs.declared.Order.{Order}
-use Rattle.words.specs.declared.Order.TheVariants.{Below, Same, Above}
+use Rattle.std.specs.declared.cmp.Ordering.{Ordering}
+use Rattle.std.specs.declared.cmp.Ordering.TheVariants.{Less, Equal, Greater}
 use Rattle.words.specs.Words.{top_word, all_are}
 
 -- "ONES is a key whose words are all 262143": the key ONES of k words [W3]
@@ -31,13 +31,13 @@ same_key (x ∷ a) [] = false
 same_key (x ∷ a) (y ∷ b) = eqb x y && same_key a b
 
 -- the one where the test holds, else the other
-abbrev pub pick : Bool → Order → Order → Order
+abbrev pub pick : Bool → Ordering → Ordering → Ordering
 pick true a b = a
 pick false a b = b
 
 -- how a stands to b [W4]
-unfoldable pub order : List ℕ → List ℕ → Order
-order a b = pick (key_lt a b) Below (pick (same_key a b) Same Above)
+unfoldable pub order : List ℕ → List ℕ → Ordering
+order a b = pick (key_lt a b) Less (pick (same_key a b) Equal Greater)
 
 -- a key as one number, its words the digits: of keys of one length the one below has the smaller number
 unfoldable pub val : List ℕ → ℕ

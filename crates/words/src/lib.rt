@@ -5,24 +5,14 @@ ghost use Rattle.std.specs.Prelude.{◌≡◌, ◌+◌, ◌≤◌, ◌<◌, leng
 ghost use Rattle.words.specs.Words.{part, put, zeros, all_are, all_words};
 ghost use Rattle.words.specs.Keys.{order, key_lt, same_key};
 
-// How one key stands to another.
-#[derive(Clone, Copy)]
-pub enum Order {
-    Below,
-    Same,
-    Above,
-}
+use std::cmp::Ordering;
 
 // Writes the n words of src from word `from` on over those of dst from word `at` on.
 pub fn copy_words(dst: &mut [u32], at: usize, src: &[u32], from: usize, n: usize)
     requires { (at + n ≤ length dst.old) × (from + n ≤ length src.now) }
     ensures { dst.new ≡ put dst.old at (part from n src.now) }
 {
-    let mut i = 0;
-    while i < n {
-        dst[at + i] = src[from + i];
-        i += 1;
-    }
+    dst[at..at + n].copy_from_slice(&src[from..from + n]);
 }
 
 // Writes zeros over the n words of t from word `at` on.
@@ -30,55 +20,29 @@ pub fn zero_words(t: &mut [u32], at: usize, n: usize)
     requires { at + n ≤ length t.old }
     ensures { t.new ≡ put t.old at (zeros n) }
 {
-    let mut i = 0;
-    while i < n {
-        t[at + i] = 0;
-        i += 1;
-    }
+    t[at..at + n].fill(0);
 }
 
-// Moves n words of t from word `from` on to word `to` on, the last one first: for a move upwards.
-pub fn move_up(t: &mut [u32], from: usize, to: usize, n: usize)
-    requires { (from ≤ to) × (to + n ≤ length t.old) }
+// Moves n words of t from word `from` on to word `to` on: the two places may overlap.
+pub fn move_words(t: &mut [u32], from: usize, to: usize, n: usize)
+    requires { (from + n ≤ length t.old) × (to + n ≤ length t.old) }
     ensures { t.new ≡ put t.old to (part from n t.old) }
 {
-    let mut i = n;
-    while 0 < i {
-        i -= 1;
-        t[to + i] = t[from + i];
-    }
-}
-
-// Moves n words of t from word `from` on to word `to` on, the first one first: for a move downwards.
-pub fn move_down(t: &mut [u32], from: usize, to: usize, n: usize)
-    requires { (to ≤ from) × (from + n ≤ length t.old) }
-    ensures { t.new ≡ put t.old to (part from n t.old) }
-{
-    let mut i = 0;
-    while i < n {
-        t[to + i] = t[from + i];
-        i += 1;
-    }
+    t.copy_within(from..from + n, to);
 }
 
 // How the key of k words at word i of a stands to the one at word j of b.
-pub fn compare_keys(a: &[u32], i: usize, b: &[u32], j: usize, k: usize) -> Order
+pub fn compare_keys(a: &[u32], i: usize, b: &[u32], j: usize, k: usize) -> Ordering
     requires { (i + k ≤ length a.now) × (j + k ≤ length b.now) }
     ensures { result ≡ order (part i k a.now) (part j k b.now) }
 {
-    let mut m = 0;
-    while m < k {
-        let x = a[i + m];
-        let y = b[j + m];
-        if x < y {
-            return Order::Below;
+    for m in 0..k {
+        let stands = a[i + m].cmp(&b[j + m]);
+        if stands.is_ne() {
+            return stands;
         }
-        if y < x {
-            return Order::Above;
-        }
-        m += 1;
     }
-    Order::Same
+    Ordering::Equal
 }
 
 // Whether the key of k words at word i of a is below the one at word j of b.
@@ -86,12 +50,7 @@ pub fn key_below(a: &[u32], i: usize, b: &[u32], j: usize, k: usize) -> bool
     requires { (i + k ≤ length a.now) × (j + k ≤ length b.now) }
     ensures { result ≡ key_lt (part i k a.now) (part j k b.now) }
 {
-    let o = compare_keys(a, i, b, j, k);
-    match o {
-        Order::Below => true,
-        Order::Same => false,
-        Order::Above => false,
-    }
+    compare_keys(a, i, b, j, k).is_lt()
 }
 
 // Whether the key of k words at word i of a is the one at word j of b.
@@ -99,12 +58,7 @@ pub fn same_key(a: &[u32], i: usize, b: &[u32], j: usize, k: usize) -> bool
     requires { (i + k ≤ length a.now) × (j + k ≤ length b.now) }
     ensures { result ≡ same_key (part i k a.now) (part j k b.now) }
 {
-    let o = compare_keys(a, i, b, j, k);
-    match o {
-        Order::Below => false,
-        Order::Same => true,
-        Order::Above => false,
-    }
+    compare_keys(a, i, b, j, k).is_eq()
 }
 
 // Whether each of the n words of t from word a on is x.
@@ -112,14 +66,7 @@ pub fn all_are(t: &[u32], a: usize, n: usize, x: u32) -> bool
     requires { a + n ≤ length t.now }
     ensures { result ≡ all_are x (part a n t.now) }
 {
-    let mut i = 0;
-    while i < n {
-        if t[a + i] != x {
-            return false;
-        }
-        i += 1;
-    }
-    true
+    t[a..a + n].iter().all(|word| *word == x)
 }
 
 // Whether none of the n words of t from word a on is above 262143.
@@ -127,14 +74,7 @@ pub fn all_words(t: &[u32], a: usize, n: usize) -> bool
     requires { a + n ≤ length t.now }
     ensures { result ≡ all_words (part a n t.now) }
 {
-    let mut i = 0;
-    while i < n {
-        if 262143 < t[a + i] {
-            return false;
-        }
-        i += 1;
-    }
-    true
+    t[a..a + n].iter().all(|word| *word <= 262143)
 }
 
 // The word of t at word i, as a number to count or to reach a place with.

@@ -15,7 +15,7 @@ use Rattle.table.proofs.Places.{row_lt}
 use Rattle.drum.specs.declared.Description.{Description}
 use Rattle.drum.proofs.Good.{good-facts}
 use Rattle.rules.specs.XtendDone.{ones_entry, bounded, extended}
-use Rattle.rules.proofs.XtendKept.{bounded-length, bounded-count, extended-length}
+use Rattle.rules.proofs.XtendKept.{bounded-length, bounded-count}
 use Rattle.xtend.specs.Fits.{LastIn, LastRoomIn}
 
 -- the first words of many that are one
@@ -81,11 +81,6 @@ module _ (p : Description) (h : Shape) (t key : List ℕ) (b : ℕ) (room : Last
       let m = key-most in
       let s = room.last.stride in
       omega arith
-
-  pub length-extended : length (extended p h (part 0 p.k key) b t) ≡ length t
-  length-extended =
-      let l = room.last in
-      extended-length p h l.stride l.base t (part 0 p.k key) (key-length p h t key l) l.least l.within b room.room
 
   -- the table once its last bound is the key
   module _ (u : List ℕ) (e : u ≡ bounded h (part 0 p.k key) t) where

@@ -4,8 +4,6 @@ use mathlib.Core.Path.{◌≡◌, sym, ap, ◌∙◌}
 use mathlib.Core.Bool.{Bool}
 use mathlib.Core.List.{List, ◌++◌}
 use native.Mathlib.Omega.{arith}
-use mir.Syntax.{w64}
-use mir.Val.{Fits}
 use lib.ListN.{length}
 use Rattle.numbers.specs.Checked.{passed}
 use Rattle.drum.specs.Blocks.{Texts}
@@ -20,9 +18,9 @@ use Rattle.rules.specs.Lookup.{reached}
 use Rattle.rules.specs.NsertDone.{insert_done}
 use Rattle.rules.specs.XtendDone.{reading, listed, extend_done}
 use Rattle.rules.specs.Fits.{Outside}
-use Rattle.rules.specs.Told.{Told, gave, told}
+use Rattle.rules.specs.Told.{gave, told}
 use Rattle.rules.proofs.Before.{insert-done, before_here, before-by}
-use Rattle.xtend.specs.Steps.{lead, led}
+use Rattle.xtend.specs.Steps.{lead, besides}
 
 -- the list of the whole call is longer than NSERT's
 longer : (v : Texts) (flag : Bool) (work : List ℕ) (way : Way) (x : ℕ) (d : Insert) (e t : Effect) → 1 ≤ x → Outside d
@@ -31,41 +29,26 @@ longer : (v : Texts) (flag : Bool) (work : List ℕ) (way : Way) (x : ℕ) (d : 
 longer v flag work Here x d e t least out h k = before_here v work x d e t out flag least h k
 longer v flag work (By w) x d e t least out h k = before-by v work x d e t out flag w least h k
 
--- one way or the other
+-- a way has few transfers
 module _ (way : Way) where
-  pub lead-here : way ≡ Here → 1 ≡ lead way
-  lead-here e = rw e
-
-  pub lead-by : (w : Path) → way ≡ By w → 3 ≡ lead way
-  lead-by w e = rw e
-
-  lead-most : lead way ≤ 3
-  lead-most = go way
+  pub lead_most : (m : ℕ) → m ≡ lead way → m ≤ 3
+  lead_most m e = go way e
     where
-      go : (x : Way) → lead x ≤ 3
-      go Here = omega arith
-      go (By w) = omega arith
+      go : (x : Way) → m ≡ lead x → m ≤ 3
+      go Here h = omega arith
+      go (By w) h = omega arith
 
-  pub lead-fits : (n m : ℕ) → m ≡ lead way → n ≤ 8 → Fits w64 (n + m)
-  lead-fits n m e l =
-      let q = lead-most in
-      record { fits = omega arith }
-
-  pub led-told : (d : Done) (m : ℕ) → m ≡ lead way
-      → record { number = d.number; transfers = d.transfers + m; current = d.current; flag = d.flag; keyed = d.keyed } ≡ led way d
-  unfolding led
-  led-told d m e = rw e
-
-module _ (v : Texts) (flag : Bool) (work : List ℕ) (way : Way) (w : Path) (d : Insert) (x : Done) (g t : List ℕ) where
+module _ (v : Texts) (flag : Bool) (work : List ℕ) (way : Way) (w : Path) (d : Insert) (x : Done) (m : ℕ) (g t : List ℕ) where
   -- NSERT's effect under that list
-  pub before-led : 1 ≤ w.index → Outside d → gave x g t work ≡ told v flag work (insert_done v flag work d)
-      → gave (led way x) g t work ≡ told v flag work (extend_done v flag work (Before way w d))
-  unfolding extend_done listed led
-  before-led least out h =
+  pub before-led : 1 ≤ w.index → Outside d → gave x g t work ≡ told v flag work (insert_done v flag work d) → m ≡ lead way
+      → gave (besides m x) g t work ≡ told v flag work (extend_done v flag work (Before way w d))
+  unfolding extend_done listed
+  before-led least out h r =
       let a = insert-done v work flag d out in
       let b = insert-done v work (reached v flag way).flag d out in
       let e = h ∙ ap (told v flag work) a.1 in
-      let c = ap (λ (z : Told). z.transfers + lead way) e ∙ sym (longer v flag work way w.index d a.0 b.0 least out a.1 b.1) in
+      let c : x.transfers + m ≡ length ((reading w.index (reached v flag way)).moves ++ b.0.transfers) =
+      (λ j. (e j).transfers + r j) ∙ sym (longer v flag work way w.index d a.0 b.0 least out a.1 b.1) in
       let l : extend_done v flag work (Before way w d) ≡ passed (listed ((reading w.index (reached v flag way)).moves ++ b.0.transfers) a.0) =
       rw (a.1, b.1)
       in

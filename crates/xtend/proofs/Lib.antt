@@ -6,7 +6,5 @@ pub mod Started
 pub mod Entered
 pub mod Planned
 pub mod Ways
-pub mod Decided
-pub mod Behind
 pub mod Led
 pub mod Ended

@@ -25,7 +25,6 @@ use Rattle.rules.specs.declared.Pair.{Pair}
 use Rattle.rules.specs.declared.Insert.{Insert}
 use Rattle.rules.specs.declared.Insert.TheVariants as insert-is
 use Rattle.rules.specs.declared.Extend.{Extend}
-use Rattle.rules.specs.declared.Extend.TheVariants.{Bad, Stop, Room, New, Both, Before}
 use Rattle.rules.specs.Paths.{path_to, last_path}
 use Rattle.rules.specs.Lookup.{text_at}
 use Rattle.rules.specs.Free.{take_one, take_two}
@@ -37,7 +36,6 @@ use Rattle.rules.proofs.Fits.{path-fits, flush-of, last-passed}
 use Rattle.rules.proofs.Takes.{one-new, two-new}
 use Rattle.rules.proofs.Before.{insert-outside}
 use Rattle.nsert.proofs.Fits.{place-fits}
-use Rattle.xtend.specs.Answers.{as_extend}
 use Rattle.xtend.specs.Fits.{AtFits, LastTakes, NewFits, SectionFits, BeforeFits, ExtendFits}
 use Rattle.xtend.specs.Steps.{starting}
 
@@ -171,16 +169,7 @@ module _ (v : Texts) (good : good_params v.desc ≡ true) (flag : Bool) (key : L
       arm : (way : Way) → last_way v flag ≡ passed way → Passed (ExtendFits v flag) (extend_at v flag key way)
       arm way e = at-passed way (way-fits v flag way e)
 
-  -- the same of the code's answer
-  extend_fits : (d : Extend) → as_extend d ≡ extend_deed v flag key → ExtendFits v flag d
-  extend_fits Bad e = tt
-  extend_fits (Stop way x n) e = deed-passed.holds (Stop way x n) (sym e)
-  extend_fits (Room way x n) e = deed-passed.holds (Room way x n) (sym e)
-  extend_fits (New way w d n) e = deed-passed.holds (New way w d n) (sym e)
-  extend_fits (Both way w b x n) e = deed-passed.holds (Both way w b x n) (sym e)
-  extend_fits (Before way w d) e = deed-passed.holds (Before way w d) (sym e)
-
 -- and of the texts that the code has, with the key in its workspace
 pub plan-fits : (p : Description) (cur : ℕ) (f b : List ℕ) (flag : Bool) (work : List ℕ) (d : Extend)
-    → as_extend d ≡ extend_deed (seen p cur f b) flag (part 0 p.k work) → Fitting p f b → ExtendFits (seen p cur f b) flag d
-plan-fits p cur f b flag work d e fit = extend_fits (seen p cur f b) fit.good flag (part 0 p.k work) d e
+    → passed d ≡ extend_deed (seen p cur f b) flag (part 0 p.k work) → Fitting p f b → ExtendFits (seen p cur f b) flag d
+plan-fits p cur f b flag work d e fit = (deed-passed (seen p cur f b) fit.good flag (part 0 p.k work)).holds d (sym e)

@@ -120,29 +120,30 @@ module _ (p : Description) (t : List ℕ) (n : ℕ) (en : n ≡ count (detail_sh
   unfolding is_ones key_at detail_shape
   ends-told r e = rw en at e
 
-  -- the one before it
-  module _ (has : RecordsIn p t 2) where
-    before-row : RowIn p t (n - 2)
-    before-row =
-        let a = has.least in
-        let b = has.most in
-        row_in p t (n - 2) has.good has.text-is (omega arith)
+  -- a record counted from the last, which is 1
+  module _ (back : ℕ) where
+    module _ (has : RecordsIn p t back) (some : 1 ≤ back) where
+      back-row : RowIn p t (n - back)
+      back-row =
+          let a = has.least in
+          let b = has.most in
+          row_in p t (n - back) has.good has.text-is (omega arith)
 
-    pub before-key : 1 + (n - 2) * p.wpr + p.k ≤ length t
-    before-key =
-        let r = before-row in
-        omega arith
+      pub back-key : 1 + (n - back) * p.wpr + p.k ≤ length t
+      back-key =
+          let r = back-row in
+          omega arith
 
-    pub before-times : Fits w64 ((n - 2) * p.wpr)
-    before-times = before-row.times
+      pub back-times : Fits w64 ((n - back) * p.wpr)
+      back-times = back-row.times
 
-    pub before-start : Fits w64 (1 + (n - 2) * p.wpr)
-    before-start = before-row.start
+      pub back-start : Fits w64 (1 + (n - back) * p.wpr)
+      back-start = back-row.start
 
-  pub above-told : (r : Bool) (key : List ℕ) → r ≡ key_lt (part (1 + (n - 2) * p.wpr) p.k t) (part 0 p.k key)
-      → r ≡ key_lt (key_at (detail_shape p) t (count (detail_shape p) t - 2)) (part 0 p.k key)
-  unfolding key_at detail_shape
-  above-told r key e = rw en at e
+    pub above-told : (r : Bool) (key : List ℕ) → r ≡ key_lt (part (1 + (n - back) * p.wpr) p.k t) (part 0 p.k key)
+        → r ≡ key_lt (key_at (detail_shape p) t (count (detail_shape p) t - back)) (part 0 p.k key)
+    unfolding key_at detail_shape
+    above-told r key e = rw en at e
 
 -- the bound before the path's entry: of the section before, or of the entry before
 module _ (p : Description) (cur : ℕ) (f b : List ℕ) (w : Path) where
@@ -150,6 +151,14 @@ module _ (p : Description) (cur : ℕ) (f b : List ℕ) (w : Path) where
   v = seen p cur f b
 
   module _ (path : PathFits v w) (fit : Fitting p f b) where
+    -- places are small numbers
+    pub entry_next : Fits w64 (w.entry + 1)
+    entry_next =
+        let g = caps p fit.good in
+        let l = path.entry-below in
+        let m = path.entries-most in
+        record { fits = omega arith }
+
     section-row : 3 + (w.section - 1) * (p.k + 1) + (p.k + 1) ≤ length f
     unfolding master_shape
     section-row =

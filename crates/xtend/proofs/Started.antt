@@ -13,7 +13,7 @@ use Rattle.drum.specs.Params.{file_size, detail_shape}
 use Rattle.drum.specs.Blocks.{Fitting, Block, block_at, put_block, Texts, seen, text_of, sections}
 use Rattle.drum.proofs.Good.{caps}
 use Rattle.drum.proofs.Blocks.{length-put_block, length-text_of, block_same, block-other, block-over, block-swap, master-word}
-use Rattle.rules.specs.Lookup.{reached, text_at}
+use Rattle.rules.specs.Lookup.{text_at}
 use Rattle.rules.specs.XtendDone.{old_text, end_text}
 use Rattle.rules.proofs.Kept.{index-block, detail-block}
 use Rattle.rules.proofs.XtendKept.{old-length as length-old, end-length as length-end}

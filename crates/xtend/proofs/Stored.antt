@@ -1,10 +1,9 @@
 -- The record put in before the end record of the last block, which was reached; and an index block's read counted besides.
 use mathlib.Core.Path.{◌≡◌, sym, ap, ◌∙◌}
-use mathlib.Core.Bool.{Bool, true, cond}
+use mathlib.Core.Bool.{Bool, true, false, cond}
 use mathlib.Core.List.{List, [], ◌∷◌, ◌++◌}
 use Prim.Native.Nat.{ℕ, ◌+◌, ◌-◌, ◌≤◌, ◌<◌}
 use native.Mathlib.Omega.{arith}
-use borrow.Author.Tests.{eq-eqb, ne_eqb}
 use lib.Dec.{eqb}
 use lib.ListN.{length, length-append}
 use Rattle.numbers.specs.Checked.{passed}
@@ -28,31 +27,16 @@ use Rattle.acts.specs.Reach.{Come, came, come}
 use Rattle.acts.proofs.Moves.{reached-fits, reached-text, way-counts}
 use Rattle.acts.proofs.Ways.{moves-most}
 use Rattle.xtend.specs.Fits.{LastTakes}
-use Rattle.xtend.specs.Steps.{besides, room_done}
+use Rattle.xtend.specs.Steps.{read_of, besides, room_done}
 
--- block 0 is not read, another is
-module _ (x : ℕ) where
-  reads_none : x ≡ 0 → length (cond (eqb x 0) [] (Read x ∷ [])) ≡ 0
-  reads_none e = simp (eq-eqb _ _ e)
-
-  reads-one : (x ≡ 0 → ⊥) → length (cond (eqb x 0) [] (Read x ∷ [])) ≡ 1
-  reads-one e = simp (ne_eqb _ _ e)
-
-  module _ (d : Done) where
-    pub read_none : x ≡ 0 → d ≡ besides x d
-    unfolding besides
-    read_none e =
-        let q = reads_none e in
-        let n : d.transfers ≡ d.transfers + length (cond (eqb x 0) [] (Read x ∷ [])) = omega arith in
-        λ j. record { number = d.number; transfers = n j; current = d.current; flag = d.flag; keyed = d.keyed }
-
-    pub read_one : (x ≡ 0 → ⊥)
-        → record { number = d.number; transfers = d.transfers + 1; current = d.current; flag = d.flag; keyed = d.keyed } ≡ besides x d
-    unfolding besides
-    read_one e =
-        let q = reads-one e in
-        let n : d.transfers + 1 ≡ d.transfers + length (cond (eqb x 0) [] (Read x ∷ [])) = omega arith in
-        λ j. record { number = d.number; transfers = n j; current = d.current; flag = d.flag; keyed = d.keyed }
+-- one block at most is read besides
+pub reads_most : (x m : ℕ) → m ≡ length (read_of x) → m ≤ 3
+unfolding read_of
+reads_most x m e = go (eqb x 0) e
+  where
+    go : (t : Bool) → m ≡ length (cond t [] (Read x ∷ [])) → m ≤ 3
+    go true h = omega arith
+    go false h = omega arith
 
 -- the block reached, and its text in the buffer
 module _ (p : Description) (cur : ℕ) (f b : List ℕ) (flag : Bool) (way : Way) (a : Arrived) (g t : List ℕ) where
@@ -96,17 +80,18 @@ module _ (p : Description) (cur : ℕ) (f b : List ℕ) (flag : Bool) (way : Way
   pub insert-place : (h : Shape) (n : ℕ) → n ≡ count (detail_shape p) t → h ≡ detail_shape p → n - 1 ≤ count h t
   insert-place h n en eh = rw (eh, ← en) (omega arith)
 
-  pub stored-told : (h : Shape) (n number : ℕ) (u work : List ℕ) → came a g t ≡ come (reached v flag way)
+  pub stored-told : (h : Shape) (n number : ℕ) (r : Done) (u work : List ℕ) → came a g t ≡ come (reached v flag way)
+      → r ≡ record { number = number; transfers = a.transfers; current = a.current; flag = true; keyed = true }
       → u ≡ inserted h (n - 1) (part 0 h.stride work) t → n ≡ count (detail_shape p) t → h ≡ detail_shape p
-      → gave (record { number = number; transfers = a.transfers; current = a.current; flag = true; keyed = true }) g u work
-      ≡ told v flag work (room_done v flag work way number)
+      → gave r g u work ≡ told v flag work (room_done v flag work way number)
   unfolding room_done storing detail_shape
-  stored-told h n number u work e eu en eh =
+  stored-told h n number r u work e er eu en eh =
       let et : t ≡ (reached v flag way).buffer = ap (λ (z : Come). z.buffer) e in
       let s : List ℕ → List ℕ = λ z. inserted (detail_shape p) (count (detail_shape p) z - 1) (record_in p work) z in
       let x : u ≡ s t = rw (eu, en, eh) in
       let y : u ≡ s (reached v flag way).buffer = x ∙ ap s et in
-      λ j. record {
+      ap (λ (z : Done). gave z g u work) er
+      ∙ (λ j. record {
         number = number;
         transfers = (e j).transfers;
         current = (e j).current;
@@ -115,7 +100,7 @@ module _ (p : Description) (cur : ℕ) (f b : List ℕ) (flag : Bool) (way : Way
         file = (e j).file;
         buffer = y j;
         work = work;
-      }
+      })
 
 -- the rows of a detail block begin behind its count, and a record has the workspace's words
 pub detail-base : (p : Description) (h : Shape) → h ≡ detail_shape p → 1 ≤ h.base
@@ -127,33 +112,30 @@ unfolding detail_shape
 record-given p h work e l = rw e (omega arith)
 
 -- few transfers are made before an index block's read is counted besides; and then they are those of the list
-module _ (v : Texts) (flag : Bool) (way : Way) (n x : ℕ) (work : List ℕ) (d : Done) (g t : List ℕ) where
-  pub stop-few : gave d g t [] ≡ told v flag [] (passed (stopping n [] (reached v flag way))) → d.transfers ≤ 3
+module _ (v : Texts) (flag : Bool) (way : Way) (n x m : ℕ) (work : List ℕ) (d : Done) (g t : List ℕ) where
+  pub stop-few : gave d g t [] ≡ told v flag [] (passed (stopping n [] (reached v flag way))) → d.transfers ≤ 8
   unfolding stopping
   stop-few e =
       let q : d.transfers ≡ length (reached v flag way).moves = ap (λ (z : Told). z.transfers) e in
       let m = moves-most v flag way in
       omega arith
 
-  pub room-few : gave d g t work ≡ told v flag work (room_done v flag work way n) → d.transfers ≤ 3
+  pub room-few : gave d g t work ≡ told v flag work (room_done v flag work way n) → d.transfers ≤ 8
   unfolding room_done storing
   room-few e =
       let q : d.transfers ≡ length (reached v flag way).moves = ap (λ (z : Told). z.transfers) e in
       let m = moves-most v flag way in
       omega arith
 
-  counted : d.transfers ≡ length (reached v flag way).moves
-      → (besides x d).transfers ≡ length ((reached v flag way).moves ++ cond (eqb x 0) [] (Read x ∷ []))
-  unfolding besides
-  counted e =
-      let more = cond (eqb x 0) [] (Read x ∷ []) in
-      ap (λ (m : ℕ). m + length more) e ∙ sym (length-append (reached v flag way).moves more)
+  counted : m ≡ length (read_of x) → d.transfers ≡ length (reached v flag way).moves
+      → d.transfers + m ≡ length ((reached v flag way).moves ++ read_of x)
+  counted r e = (λ j. e j + r j) ∙ sym (length-append (reached v flag way).moves (read_of x))
 
-  pub stop-besides : gave d g t [] ≡ told v flag [] (passed (stopping n [] (reached v flag way)))
-      → gave (besides x d) g t work ≡ told v flag work (passed (stopping n work (reading x (reached v flag way))))
-  unfolding stopping reading besides
-  stop-besides e =
-      let c = counted (ap (λ (z : Told). z.transfers) e) in
+  pub stop-besides : gave d g t [] ≡ told v flag [] (passed (stopping n [] (reached v flag way))) → m ≡ length (read_of x)
+      → gave (besides m d) g t work ≡ told v flag work (passed (stopping n work (reading x (reached v flag way))))
+  unfolding stopping reading read_of
+  stop-besides e r =
+      let c = counted r (ap (λ (z : Told). z.transfers) e) in
       λ j. record {
         number = (e j).number;
         transfers = c j;
@@ -165,14 +147,14 @@ module _ (v : Texts) (flag : Bool) (way : Way) (n x : ℕ) (work : List ℕ) (d 
         work = work;
       }
 
-  pub room-besides : gave d g t work ≡ told v flag work (room_done v flag work way n)
-      → gave (besides x d) g t work
+  pub room-besides : gave d g t work ≡ told v flag work (room_done v flag work way n) → m ≡ length (read_of x)
+      → gave (besides m d) g t work
       ≡ told v flag work (passed (storing n work (reading x (reached v flag way))
       (inserted (detail_shape v.desc) (count (detail_shape v.desc) (reached v flag way).buffer - 1) (record_in v.desc work)
       (reached v flag way).buffer)))
-  unfolding room_done storing reading besides
-  room-besides e =
-      let c = counted (ap (λ (z : Told). z.transfers) e) in
+  unfolding room_done storing reading read_of
+  room-besides e r =
+      let c = counted r (ap (λ (z : Told). z.transfers) e) in
       λ j. record {
         number = (e j).number;
         transfers = c j;

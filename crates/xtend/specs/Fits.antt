@@ -6,6 +6,7 @@ use Rattle.drum.specs.declared.Description.{Description}
 use Rattle.drum.specs.Params.{D, I, good_params, detail_shape, index_shape}
 use Rattle.drum.specs.Blocks.{Texts, Fitting, text_of, block_at, sections, Block}
 use Rattle.drum.specs.Inside.{HasBlock}
+use Rattle.rules.specs.declared.Held.{Held}
 use Rattle.rules.specs.declared.Path.{Path}
 use Rattle.rules.specs.declared.Way.{Way}
 use Rattle.rules.specs.declared.Way.TheVariants.{Here, By}
@@ -23,6 +24,11 @@ use Rattle.xtend.specs.Steps.{starting}
 abbrev pub AtFits : Texts → Way → Type 0
 AtFits v Here = BufferFits v
 AtFits v (By w) = PathFits v w
+
+-- what a deed is given beside its plan: words that fit the description, and a whole record
+pub record Given (at : Held) (f b work : List ℕ) : Type 0 where
+  pub fit : Fitting at.desc f b
+  pub whole : length work ≡ at.desc.wpr
 
 -- what a plan to insert tells the code that carries it out [C26]
 pub record LastTakes (v : Texts) (flag : Bool) (way : Way) : Type 0 where
@@ -53,7 +59,6 @@ pub record BeforeFits (v : Texts) (flag : Bool) (w : Path) (d : Insert) : Type 0
 
 -- what any plan of XTEND tells it [C23]
 abbrev pub ExtendFits : Texts → Bool → Extend → Type 0
-ExtendFits v flag extend-is.Bad = Unit {0}
 ExtendFits v flag (extend-is.Stop way x n) = WayFits v flag way
 ExtendFits v flag (extend-is.Room way x n) = LastTakes v flag way
 ExtendFits v flag (extend-is.New way w d n) = NewFits v flag (starting way w d)

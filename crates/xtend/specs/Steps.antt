@@ -1,8 +1,7 @@
 -- The file between the steps of XTEND, as the code leaves it. The new block is written before the old one, whose end record it takes; that
 -- makes no difference to the file once the index block is written.
-use Rattle.std.specs.Prelude.{ℕ, ◌+◌, ◌-◌, Bool, cond, List, [], ◌∷◌, ◌++◌, eqb, length}
-use Rattle.numbers.specs.Numbers.{bad_file}
-use Rattle.numbers.specs.Checked.{Checked, passed, ◌>>=◌, ◌>>◌, require}
+use Rattle.std.specs.Prelude.{ℕ, ◌+◌, ◌-◌, Bool, cond, List, [], ◌∷◌, ◌++◌, eqb}
+use Rattle.numbers.specs.Checked.{Checked, passed}
 use Rattle.table.specs.Tables.{count, row, inserted, replaced, laid}
 use Rattle.drum.specs.declared.Description.{Description}
 use Rattle.drum.specs.Params.{master_shape, index_shape, detail_shape}
@@ -12,48 +11,30 @@ use Rattle.rules.specs.declared.Way.{Way}
 use Rattle.rules.specs.declared.Way.TheVariants.{Here, By}
 use Rattle.rules.specs.declared.Taken.{Taken}
 use Rattle.rules.specs.declared.Done.{Done}
-use Rattle.rules.specs.declared.Insert.{Insert}
-use Rattle.rules.specs.declared.Extend.{Extend}
-use Rattle.rules.specs.declared.Extend.TheVariants.{Before}
 use Rattle.rules.specs.State.{Effect, record_in}
 use Rattle.rules.specs.Lookup.{reached, text_at, storing}
-use Rattle.rules.specs.Xtend.{new_apart}
 use Rattle.rules.specs.XtendDone.{ones_entry, bounded, extended, new_moves, section_moves, new_file, section_file}
 use Rattle.free.specs.Readied.{ready_file}
-use Rattle.nsert.specs.Answers.{as_insert}
 use Rattle.xtend.specs.declared.deeds.Start.{Start}
 
--- "read the index (1), buffer kept": that read counted besides, where x is not 0 [C24]
-unfoldable pub besides : ℕ → Done → Done
-besides x d = record {
-  number = d.number;
-  transfers = d.transfers + length (cond (eqb x 0) [] (Read x ∷ []));
-  current = d.current;
-  flag = d.flag;
-  keyed = d.keyed;
-}
+-- "read the index (1), buffer kept": the read of index block x, where it is not 0 [C24]
+unfoldable pub read_of : ℕ → List Transfer
+read_of x = cond (eqb x 0) [] (Read x ∷ [])
 
 -- how many transfers reach the last block and read its index block, a flagged buffer's write apart [C23, C24, E2]
 abbrev pub lead : Way → ℕ
 lead Here = 1
 lead (By w) = 3
 
--- "the last block is reached as now and a lookup for the key follows": that counted besides [E2]
-unfoldable pub led : Way → Done → Done
-led way d = record {
+-- transfers counted besides: that read; or those of "the last block is reached as now and a lookup for the key follows" [C24, E2]
+abbrev pub besides : ℕ → Done → Done
+besides more d = record {
   number = d.number;
-  transfers = d.transfers + lead way;
+  transfers = d.transfers + more;
   current = d.current;
   flag = d.flag;
   keyed = d.keyed;
 }
-
--- NSERT's plan as XTEND's, its new blocks tested [E4, B5]
-unfoldable pub beside_last : Way → Path → Insert → Checked Extend
-beside_last way w d = do
-  x ← as_insert d
-  require (new_apart way w x) bad_file
-  passed (Before way w x)
 
 -- "insert before the end record, flag on", no index block read besides [C26]
 unfoldable pub room_done : Texts → Bool → List ℕ → Way → ℕ → Checked Effect

@@ -1,17 +1,16 @@
 // What XTEND does once it is planned.
 ghost use Rattle.std.specs.Prelude.{◌≡◌, ◌≤◌, length};
-ghost use Rattle.drum.specs.Blocks.{Fitting, Block};
+ghost use Rattle.drum.specs.Blocks.{Block};
 ghost use Rattle.rules.specs.Lookup.{reached};
 ghost use Rattle.rules.specs.Told.{FollowsAt};
 ghost use Rattle.rules.specs.XtendDone.{extend_done};
 ghost use Rattle.acts.specs.Reach.{seen_by};
-ghost use Rattle.xtend.specs.Fits.{EndIn, LastTakes, StartFits, NewFits, SectionFits, ExtendFits};
-ghost use Rattle.xtend.specs.Steps.{besides, lead, led, room_done, swapped, started_file, new_all, new_left, section_all, section_left};
+ghost use Rattle.xtend.specs.Fits.{Given, EndIn, LastTakes, StartFits, NewFits, SectionFits, ExtendFits};
+ghost use Rattle.xtend.specs.Steps.{besides, lead, read_of, room_done, swapped, started_file, new_all, new_left, section_all, section_left};
 
 use super::index::{extend_in, start_section};
 use drum::Description;
 use nsert::deeds::do_nsert;
-use numbers::BAD_FILE;
 use rules::{Done, Extend, Held, Path, Taken, Way};
 
 // A block that the end record starts: the way to the last block, the path to it, and the new block.
@@ -22,21 +21,12 @@ pub struct Start {
     pub new: Taken,
 }
 
-// What was done, with the read of index block x counted besides; 0 is no block.
-fn count_read(d: Done, x: usize) -> Done
-    requires { d.transfers ≤ 3 }
-    ensures { result ≡ besides x d }
+// How many reads an index block is that is read besides: 0 is no block.
+#[tactic(auto, unfolding(crate::specs::Steps::read_of))]
+fn reads_of(x: usize) -> usize
+    ensures { result ≡ length (read_of x) }
 {
-    if x == 0 {
-        return d;
-    }
-    Done {
-        number: d.number,
-        transfers: d.transfers + 1,
-        current: d.current,
-        flag: d.flag,
-        keyed: d.keyed,
-    }
+    usize::from(x != 0)
 }
 
 // How many transfers reach the last block and read its index block, besides the write of a flagged buffer, which NSERT counts.
@@ -49,17 +39,14 @@ fn lead_of(way: Way) -> usize
     }
 }
 
-// What NSERT did, with these counted besides.
-fn count_lead(d: Done, way: Way) -> Done
-    requires { d.transfers ≤ 8 }
-    ensures { result ≡ led way d }
+// What was done, with these transfers counted besides.
+fn count_more(d: Done, more: usize) -> Done
+    requires { (d.transfers ≤ 8) × (more ≤ 3) }
+    ensures { result ≡ besides more d }
 {
     Done {
-        number: d.number,
-        transfers: d.transfers + lead_of(way),
-        current: d.current,
-        flag: d.flag,
-        keyed: d.keyed,
+        transfers: d.transfers + more,
+        ..d
     }
 }
 
@@ -72,22 +59,14 @@ fn store_last(
     way: Way,
     number: u32,
 ) -> Done
-    requires { Fitting at.desc file.old buffer.old
-        × (length work.now ≡ at.desc.wpr)
-        × LastTakes (seen_by at file.old buffer.old) at.flag way }
+    requires { Given at file.old buffer.old work.now × LastTakes (seen_by at file.old buffer.old) at.flag way }
     ensures { FollowsAt result (λ v flag work. room_done v flag work way number) at (file.old, file.new) (buffer.old, buffer.new) (work.now, work.now) }
 {
     let p = at.desc;
     let here = acts::reach(at, file, buffer, way);
     let n = drum::kinds::records_in(p, buffer);
     table::insert_row(p.detail_shape(), buffer, n - 1, work, 0);
-    Done {
-        number,
-        transfers: here.transfers,
-        current: here.current,
-        flag: true,
-        keyed: true,
-    }
+    here.done(number, true, true)
 }
 
 // The end record of the text in the buffer starts block b, and the record takes its place in the old block.
@@ -114,9 +93,7 @@ fn swap_end(
 
 // The last block and the new block after it, both written.
 fn start_block(at: Held, file: &mut [u32], buffer: &mut [u32], work: &[u32], s: Start) -> usize
-    requires { Fitting at.desc file.old buffer.old
-        × (length work.now ≡ at.desc.wpr)
-        × StartFits (seen_by at file.old buffer.old) at.flag s }
+    requires { Given at file.old buffer.old work.now × StartFits (seen_by at file.old buffer.old) at.flag s }
     ensures { (result ≡ length (reached (seen_by at file.old buffer.old) at.flag s.way).moves)
         × (file.new ≡ started_file (seen_by at file.old buffer.old) at.flag s work.now) }
 {
@@ -130,9 +107,7 @@ fn start_block(at: Held, file: &mut [u32], buffer: &mut [u32], work: &[u32], s: 
 
 // All that is stored in the file for a new block whose index block has room.
 fn write_new(at: Held, file: &mut [u32], buffer: &mut [u32], work: &[u32], s: Start) -> usize
-    requires { Fitting at.desc file.old buffer.old
-        × (length work.now ≡ at.desc.wpr)
-        × NewFits (seen_by at file.old buffer.old) at.flag s }
+    requires { Given at file.old buffer.old work.now × NewFits (seen_by at file.old buffer.old) at.flag s }
     ensures { (result ≡ length (new_all (seen_by at file.old buffer.old) at.flag s work.now))
         × (file.new ≡ new_left (seen_by at file.old buffer.old) at.flag s work.now) }
 {
@@ -143,7 +118,7 @@ fn write_new(at: Held, file: &mut [u32], buffer: &mut [u32], work: &[u32], s: St
     moved + 4
 }
 
-// All that is stored in the file for a new block whose index block is full: x is the new index block.
+// All that is stored in the file for a new block whose index block is full: x is the new index block. What it shares with `write_new` is `start_block`.
 fn write_both(
     at: Held,
     file: &mut [u32],
@@ -152,9 +127,7 @@ fn write_both(
     s: Start,
     x: usize,
 ) -> usize
-    requires { Fitting at.desc file.old buffer.old
-        × (length work.now ≡ at.desc.wpr)
-        × SectionFits (seen_by at file.old buffer.old) at.flag s x }
+    requires { Given at file.old buffer.old work.now × SectionFits (seen_by at file.old buffer.old) at.flag s x }
     ensures { (result ≡ length (section_all (seen_by at file.old buffer.old) at.flag s x work.now))
         × (file.new ≡ section_left (seen_by at file.old buffer.old) at.flag s x work.now) }
 {
@@ -167,39 +140,34 @@ fn write_both(
 
 // What was planned is done.
 pub fn do_xtend(deed: Extend, at: Held, file: &mut [u32], buffer: &mut [u32], work: &[u32]) -> Done
-    requires { Fitting at.desc file.old buffer.old
-        × (length work.now ≡ at.desc.wpr)
-        × ExtendFits (seen_by at file.old buffer.old) at.flag deed }
+    requires { Given at file.old buffer.old work.now × ExtendFits (seen_by at file.old buffer.old) at.flag deed }
     ensures { FollowsAt result (λ v flag work. extend_done v flag work deed) at (file.old, file.new) (buffer.old, buffer.new) (work.now, work.now) }
 {
     let p = at.desc;
     match deed {
-        Extend::Bad => Done::refused(BAD_FILE, at.current, at.flag),
-        Extend::Stop(way, x, n) => count_read(acts::stop(at, file, buffer, way, n), x),
-        Extend::Room(way, x, n) => count_read(store_last(at, file, buffer, work, way, n), x),
-        Extend::New(way, w, d, n) => {
-            let s = Start {
-                way,
-                path: w,
-                new: d,
-            };
-            let transfers = write_new(at, file, buffer, work, s);
-            acts::land(p, file, buffer, d.block, n, transfers)
+        Extend::Stop(way, x, number) => {
+            count_more(acts::stop(at, file, buffer, way, number), reads_of(x))
         }
-        Extend::Both(way, w, b, x, n) => {
-            let d = Taken {
-                block: b,
+        Extend::Room(way, x, number) => {
+            count_more(store_last(at, file, buffer, work, way, number), reads_of(x))
+        }
+        Extend::New(way, path, new, number) => {
+            let s = Start { way, path, new };
+            let transfers = write_new(at, file, buffer, work, s);
+            acts::land(p, file, buffer, new.block, number, transfers)
+        }
+        Extend::Both(way, path, block, x, number) => {
+            let new = Taken {
+                block,
                 head: x.head,
                 lowest: x.lowest,
             };
-            let s = Start {
-                way,
-                path: w,
-                new: d,
-            };
+            let s = Start { way, path, new };
             let transfers = write_both(at, file, buffer, work, s, x.block);
-            acts::land(p, file, buffer, b, n, transfers)
+            acts::land(p, file, buffer, block, number, transfers)
         }
-        Extend::Before(way, _, d) => count_lead(do_nsert(d, at, file, buffer, work), way),
+        Extend::Before(way, _, d) => {
+            count_more(do_nsert(d, at, file, buffer, work), lead_of(way))
+        }
     }
 }

@@ -12,7 +12,7 @@ ghost use Rattle.xtend.specs.Steps.{indexed, sectioned};
 use drum::Description;
 use table::Shape;
 
-// The entry with the bound ONES for block b.
+// The entry with the bound ONES for block b. Fixed memory: K + 1 is at most 64, and known only when the program runs.
 fn ones_entry(k: usize, b: usize) -> [u32; 64]
     requires { (k ≤ 63) × (b ≤ 262143) }
     ensures { part 0 (k + 1) result ≡ ones k ++ (b ∷ []) }
@@ -42,26 +42,15 @@ fn extend(p: Description, h: Shape, t: &mut [u32], key: &[u32], b: usize)
     table::insert_row(h, t, n, &entry, 0);
 }
 
-// The last bound of index block i becomes the key, where it lies in the file.
-fn bound_in(p: Description, file: &mut [u32], i: usize, key: &[u32])
-    requires { IndexTakes p file.old i key.now }
-    ensures { file.new
-        ≡ put_block p file.old i (bounded (index_shape p) (part 0 p.k key.now) (block_at p file.old i)) }
-{
-    let n = drum::inside::entries_of(p, file, i);
-    drum::inside::set_key_in(p, file, i, p.index_shape(), n - 1, key);
-}
-
-// The same, and an entry with the bound ONES for block b is put in behind it.
+// The same in index block i, where it lies in the file.
 pub fn extend_in(p: Description, file: &mut [u32], i: usize, key: &[u32], b: usize)
     requires { IndexTakes p file.old i key.now × (count (index_shape p) (block_at p file.old i) < I p) × (b ≤ p.n) }
     ensures { file.new
         ≡ put_block p file.old i (extended p (index_shape p) (part 0 p.k key.now) b (block_at p file.old i)) }
 {
-    let entry = ones_entry(p.k, b);
-    let n = drum::inside::entries_of(p, file, i);
-    bound_in(p, file, i, key);
-    drum::inside::insert_in(p, file, i, p.index_shape(), n, &entry);
+    let start = p.start(i);
+    let end = start + p.wpb;
+    extend(p, p.index_shape(), &mut file[start..end], key, b);
 }
 
 // The entry for block b starts index block x, after index block i.
@@ -70,10 +59,11 @@ fn start_index(p: Description, file: &mut [u32], key: &[u32], i: usize, b: usize
     ensures { file.new ≡ indexed p (part 0 p.k key.now) i b x file.old }
 {
     let entry = ones_entry(p.k, b);
-    let end = p.k + 1;
     let h = p.index_shape();
-    bound_in(p, file, i, key);
-    drum::inside::lay_block(p, file, x, h.tag + 1, &entry[0..end]);
+    let start = p.start(i);
+    let end = start + p.wpb;
+    set_bound(p, h, &mut file[start..end], key);
+    drum::inside::lay_block(p, file, x, h.tag + 1, &entry[..p.k + 1]);
 }
 
 // The same, and index block x starts a section.

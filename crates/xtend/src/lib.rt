@@ -9,29 +9,25 @@ mod plan;
 
 ghost use Rattle.std.specs.Prelude.{◌≡◌, length};
 ghost use Rattle.drum.specs.Blocks.{Fitting};
-ghost use Rattle.rules.specs.Told.{Follows};
+ghost use Rattle.rules.specs.Told.{FollowsAt};
 ghost use Rattle.rules.specs.XtendDone.{xtend_steps};
 
-use drum::Description;
+use drum::Seen;
 use rules::{Done, Held};
 
 // XTEND of the record in the workspace.
-pub fn xtend(
-    p: Description,
-    current: usize,
-    flag: bool,
-    file: &mut [u32],
-    buffer: &mut [u32],
-    work: &[u32],
-) -> Done
-    requires { Fitting p file.old buffer.old × (length work.now ≡ p.wpr) }
-    ensures { Follows result xtend_steps p current flag (file.old, file.new) (buffer.old, buffer.new) (work.now, work.now) }
+pub fn xtend(at: Held, file: &mut [u32], buffer: &mut [u32], work: &[u32]) -> Done
+    requires { Fitting at.desc file.old buffer.old × (length work.now ≡ at.desc.wpr) }
+    ensures { FollowsAt result xtend_steps at (file.old, file.new) (buffer.old, buffer.new) (work.now, work.now) }
 {
-    let at = Held {
-        desc: p,
-        current,
-        flag,
+    let v = Seen {
+        desc: at.desc,
+        current: at.current,
+        file,
+        buffer,
     };
-    let deed = plan::plan_xtend(at, file, buffer, work);
-    deeds::do_xtend(deed, at, file, buffer, work)
+    match plan::plan_xtend(v, at.flag, work) {
+        Err(refusal) => at.refused(refusal),
+        Ok(deed) => deeds::do_xtend(deed, at, file, buffer, work),
+    }
 }

@@ -2,8 +2,8 @@
 use Rattle.acts.proofs.Carried.{loaded-already, loaded-now}
 use Rattle.acts.proofs.load.Goals as goal
 
-pub returns-then-b-current : goal.returns-then-b-current
-returns-then-b-current c = search loaded-already
+pub returns-then-b-at : goal.returns-then-b-at
+returns-then-b-at c = search loaded-now
 
-pub returns : goal.returns
-returns c = search loaded-now
+pub returns-else-b-at : goal.returns-else-b-at
+returns-else-b-at c = search loaded-already

@@ -2,8 +2,8 @@
 use Rattle.acts.proofs.Carried.{stored-already, stored-now}
 use Rattle.acts.proofs.stage.Goals as goal
 
-pub returns-then-b-current : goal.returns-then-b-current
-returns-then-b-current c = search stored-already
+pub returns-then-b-at : goal.returns-then-b-at
+returns-then-b-at c = search stored-now
 
-pub returns : goal.returns
-returns c = search stored-now
+pub returns-else-b-at : goal.returns-else-b-at
+returns-else-b-at c = search stored-already

@@ -1,12 +1,16 @@
--- The step fits what the act requires, and the act is the rest of the steps.
+-- The step fits what the act requires, and the act is the rest of the steps; a refusal is the plan's own.
+use mathlib.Core.Path.{refl}
+use Rattle.rules.specs.Adv.{adv_steps}
 use Rattle.adv.proofs.Fits.{step_fits}
-use Rattle.adv.proofs.Steps.{adv-told}
 use Rattle.adv.proofs.adv.Goals as goal
 
 pub do_adv-requires : goal.do_adv-requires
-do_adv-requires c =
-    let planned = c.plan_adv-s.ensures in
-    (search, search, search (step_fits, planned))
+do_adv-requires c = (search, search, step_fits _ _ _ _ _ c.in-Ok.ensures)
 
-pub returns : goal.returns
-returns c = search adv-told
+pub returns-in-Ok : goal.returns-in-Ok
+unfolding adv_steps
+returns-in-Ok c = rw (← c.in-Ok.ensures) c.do_adv.ensures
+
+pub returns-in-Err : goal.returns-in-Err
+unfolding adv_steps
+returns-in-Err c = rw (c.refused.ensures, ← c.in-Err.ensures) refl

@@ -1,15 +1,12 @@
 -- `capi::nasturakh_create` meets its contract: the words are no session's, or CREATE's promise is told in words.
-use Rattle.capi.proofs.Told.{asked-whole, called-none, create-called, create-few}
+use Rattle.capi.proofs.Told.{called-none, create-called, create-few}
 use Rattle.capi.proofs.nasturakh_create.Goals as goal
 
-pub returns-then-not-is_session : goal.returns-then-not-is_session
-returns-then-not-is_session c = search called-none
+pub returns-in_default : goal.returns-in_default
+returns-in_default c = search (called-none, c.in_default.ensures.no)
 
-pub session_of-requires : goal.session_of-requires
-session_of-requires c = search asked-whole
-
-pub packed-requires-2 : goal.packed-requires-2
-packed-requires-2 c = search create-few
+pub packed-requires : goal.packed-requires
+packed-requires c = search create-few
 
 pub returns : goal.returns
-returns c = search create-called
+returns c = search (create-called, c.in-Some.ensures.yes, c.in-Some.ensures.same)

@@ -1,17 +1,14 @@
 -- `capi::nasturakh_dlete` meets its contract: the words are no session's, or the session call's promise is told in words.
 use Rattle.rules.specs.Dlete.{dlete}
 use Rattle.capi.proofs.Outcomes.{dlete-telling}
-use Rattle.capi.proofs.Told.{asked-whole, called-none, call-called, tellable}
+use Rattle.capi.proofs.Told.{called-none, call-called, tellable}
 use Rattle.capi.proofs.nasturakh_dlete.Goals as goal
 
-pub returns-then-not-is_session : goal.returns-then-not-is_session
-returns-then-not-is_session c = search called-none
-
-pub session_of-requires : goal.session_of-requires
-session_of-requires c = search asked-whole
+pub returns-in_default : goal.returns-in_default
+returns-in_default c = search (called-none, c.in_default.ensures.no)
 
 pub told-requires : goal.told-requires
-told-requires c = search (tellable dlete dlete-telling)
+told-requires c = search (tellable dlete dlete-telling, c.in-Some.ensures.yes, c.in-Some.ensures.same)
 
 pub returns : goal.returns
-returns c = search call-called
+returns c = search (call-called, c.in-Some.ensures.yes, c.in-Some.ensures.same)

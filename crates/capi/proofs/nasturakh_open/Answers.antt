@@ -1,15 +1,12 @@
 -- `capi::nasturakh_open` meets its contract: the words are no session's, or OPEN's promise is told in words, the marks beside.
-use Rattle.capi.proofs.Told.{asked-whole, open_none, open-called, open-tellable}
+use Rattle.capi.proofs.Told.{open_none, open-called, open-tellable}
 use Rattle.capi.proofs.nasturakh_open.Goals as goal
 
-pub returns-then-not-is_session : goal.returns-then-not-is_session
-returns-then-not-is_session c = search open_none
-
-pub session_of-requires : goal.session_of-requires
-session_of-requires c = search asked-whole
+pub returns-in_default : goal.returns-in_default
+returns-in_default c = search (open_none, c.in_default.ensures.no)
 
 pub told-requires : goal.told-requires
-told-requires c = search open-tellable
+told-requires c = search (open-tellable, c.in-Some.ensures.yes, c.in-Some.ensures.same)
 
 pub returns : goal.returns
-returns c = search open-called
+returns c = search (open-called, c.in-Some.ensures.yes, c.in-Some.ensures.same)

@@ -1,15 +1,19 @@
--- `face::refused_plain` meets its contract: each early return is the first line of the chain that refuses.
-use Rattle.face.proofs.Refusing.{plain-sizes, plain-work, plain-shut, plain-none}
+-- `face::refused_plain` meets its contract: each test is the next line of the definition.
+use mathlib.Core.Path.{refl}
+use Rattle.numbers.proofs.Exits.{handed-test}
+use Rattle.face.specs.Checks.{plain_checks}
 use Rattle.face.proofs.refused_plain.Goals as goal
 
-pub returns-then-not-is_sized : goal.returns-then-not-is_sized
-returns-then-not-is_sized c = search plain-sizes
+pub returns-in_err-require : goal.returns-in_err-require
+unfolding plain_checks
+returns-in_err-require c = handed-test _ _ _ c.from_residual.ensures.1 (rw (← c.is_sized.ensures, ← c.in_err-require.ensures) refl)
 
-pub returns-then-work-p : goal.returns-then-work-p
-returns-then-work-p c = search plain-work
-
-pub returns-then-not-opened : goal.returns-then-not-opened
-returns-then-not-opened c = search plain-shut
+pub returns-in_err-require-2 : goal.returns-in_err-require-2
+unfolding plain_checks
+returns-in_err-require-2 c =
+    handed-test _ _ _ c.from_residual-in_err-require-2.ensures.1
+    (rw (← c.is_sized.ensures, ← c.in_ok-require.ensures, ← c.in_err-require-2.ensures) refl)
 
 pub returns : goal.returns
-returns c = search plain-none
+unfolding plain_checks
+returns c = rw (← c.is_sized.ensures, ← c.in_ok-require.ensures, ← c.in_ok-require-2.ensures, ← c.require-3.ensures) refl

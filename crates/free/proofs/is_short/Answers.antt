@@ -1,12 +1,7 @@
--- The two blocks are looked at, and then the sections.
-use Rattle.free.proofs.Taking.{short-first, short-second, short-section}
+-- The master has a word 0.
+use native.Mathlib.Omega.{arith}
+use Rattle.free.proofs.Granting.{master-some}
 use Rattle.free.proofs.is_short.Goals as goal
 
-pub returns-then-d-eq0 : goal.returns-then-d-eq0
-returns-then-d-eq0 c = search short-first
-
-pub returns-then-x-eq0 : goal.returns-then-x-eq0
-returns-then-x-eq0 c = search short-second
-
-pub returns : goal.returns
-returns c = search short-section
+pub word_at-requires : goal.word_at-requires
+word_at-requires c = let m = master-some _ _ _ c.args.v.fits in omega arith

@@ -1,28 +1,23 @@
--- The tests come in the order of the definition, and only where the block then holds D.
-use native.Mathlib.Omega.{arith}
-use Rattle.free.proofs.Granting.{number_small, stored-less, stored-head-bad, stored-chain, stored-zero, stored-over, stored-none, stored_some}
+-- Whether any block is left is asked only where the block then holds D.
+use mathlib.Core.Path.{refl}
+use borrow.Author.Tests.{eq-eqb, ne_eqb}
+use Rattle.numbers.proofs.Exits.{handed}
+use Rattle.rules.specs.Free.{stored_number}
 use Rattle.free.proofs.stored.Goals as goal
 
 pub returns-then-n-d : goal.returns-then-n-d
-returns-then-n-d c = search stored-less
+unfolding stored_number
+returns-then-n-d c = rw (← c.d.ensures, ne_eqb _ _ c.if-n-d.true) refl
 
-pub returns-then-blocks-head : goal.returns-then-blocks-head
-returns-then-blocks-head c = search stored-head-bad
+pub returns-in_err-none_left : goal.returns-in_err-none_left
+unfolding stored_number
+returns-in_err-none_left c =
+    handed _ _ _ c.from_residual.ensures.1 (rw (← c.d.ensures, eq-eqb _ _ c.if-n-d.false, ← c.in_err-none_left.ensures) refl)
 
-pub returns-then-head-ne0 : goal.returns-then-head-ne0
-returns-then-head-ne0 c = search stored-chain
-
-pub returns-then-low-lt1 : goal.returns-then-low-lt1
-returns-then-low-lt1 c = search stored-zero
-
-pub overflow_add-blocks : goal.overflow_add-blocks
-overflow_add-blocks c = omega (arith, number_small)
-
-pub returns-then-blocks-low : goal.returns-then-blocks-low
-returns-then-blocks-low c = search stored-over
-
-pub returns-then-blocks-low-2 : goal.returns-then-blocks-low-2
-returns-then-blocks-low-2 c = search stored-none
+pub returns-then-branch : goal.returns-then-branch
+unfolding stored_number
+returns-then-branch c = rw (← c.d.ensures, eq-eqb _ _ c.if-n-d.false, ← c.in_ok-none_left.ensures, c.if-branch.true) refl
 
 pub returns : goal.returns
-returns c = search stored_some
+unfolding stored_number
+returns c = rw (← c.d.ensures, eq-eqb _ _ c.if-n-d.false, ← c.in_ok-none_left.ensures, c.if-branch.false) refl

@@ -1,13 +1,10 @@
 -- The walk's marks where it came through, else none.
-use Rattle.layout.proofs.CodeMarks.{emptied}
-use Rattle.layout.proofs.CodeWhole.{left-good, left-marks, left-bad, left-none}
+use native.Mathlib.Omega.{arith}
+use Rattle.layout.proofs.CodeWhole.{left-marks, left-none}
 use Rattle.layout.proofs.inspect.Goals as goal
 
-pub walk-requires : goal.walk-requires
-walk-requires c = record { fit = search; marks_value = search emptied }
+pub returns-in-Ok : goal.returns-in-Ok
+returns-in-Ok c = (c.in-Ok.ensures, left-marks _ _ _ c.in-Ok.ensures)
 
-pub returns-then-walk : goal.returns-then-walk
-returns-then-walk c = (search left-good, search left-marks)
-
-pub returns : goal.returns
-returns c = (search left-bad, search left-none)
+pub returns-in-Err : goal.returns-in-Err
+returns-in-Err c = (c.in-Err.ensures, left-none _ _ _ _ c.in-Err.ensures c.clear-in-Err.ensures (omega arith))

@@ -1,11 +1,11 @@
 -- `printed::bad_line` meets its contract.
-use Rattle.std.proofs.Common.{true}
+use native.Mathlib.Omega.{arith}
 use Rattle.texts.specs.Texts.{bytes}
 use Rattle.texts.specs.Results.{bad_line}
-use Rattle.printed.specs.Output.{refusal}
 use Rattle.printed.proofs.bad_line.Goals as goal
 
-pub returns-clause-out_value : goal.returns-clause-out_value
-unfolding refusal bad_line bytes
-returns-clause-out_value c =
-    λ j. record { over = true; out = c.put_bytes-end.ensures.0 j; at = c.put_bytes-end.ensures.1 j }
+pub returns : goal.returns
+unfolding bad_line bytes
+returns c =
+    let w = c.put_bytes.ensures in
+    (w.0, w.1, omega (arith, w.1))

@@ -1,4 +1,5 @@
 -- `printed::put_start` meets its contract: two of the four kinds print their line, and two print nothing.
+use mathlib.Core.Logic.{inl, inr}
 use mathlib.Core.Path.{sym}
 use native.Mathlib.Omega.{arith}
 use Rattle.words.proofs.Parts.{put-none}
@@ -17,8 +18,5 @@ returns-in-TooLarge c = rw c.in-TooLarge.is (c.put_bytes-in-TooLarge.ensures.0, 
 
 pub returns-in-OutOfRange : goal.returns-in-OutOfRange
 unfolding start_text
-returns-in-OutOfRange c = rw c.in-OutOfRange.is (sym (put-none _ _), omega arith, omega arith)
-
-pub returns-in-Good : goal.returns-in-Good
-unfolding start_text
-returns-in-Good c = rw c.in-Good.is (sym (put-none _ _), omega arith, omega arith)
+returns-in-OutOfRange c =
+    elim c.in-OutOfRange.is [ inl e ↦ rw e (sym (put-none _ _), omega arith, omega arith) | inr e ↦ rw e.1 (sym (put-none _ _), omega arith, omega arith) ]

@@ -1,9 +1,12 @@
 -- `printed::refuse_line` meets its contract: the name found in what was kept decides.
-use Rattle.printed.proofs.Telling.{bad-said, refused-said}
+use Rattle.std.proofs.Common.{true, false}
+use Rattle.printed.specs.Output.{refusal}
 use Rattle.printed.proofs.refuse_line.Goals as goal
 
-pub returns-in-Nothing-clause-out_value : goal.returns-in-Nothing-clause-out_value
-returns-in-Nothing-clause-out_value c = search bad-said
+pub returns-in-Some-clause-out_value : goal.returns-in-Some-clause-out_value
+unfolding refusal
+returns-in-Some-clause-out_value c = rw (← c.in-Some.ensures) (λ j. record { over = false; out = c.put_refused.ensures.0 j; at = c.put_refused.ensures.1 j })
 
-pub returns-in-Kind-clause-out_value : goal.returns-in-Kind-clause-out_value
-returns-in-Kind-clause-out_value c = search refused-said
+pub returns-in-None-clause-out_value : goal.returns-in-None-clause-out_value
+unfolding refusal
+returns-in-None-clause-out_value c = rw (← c.in-None.ensures) (λ j. record { over = true; out = c.bad_line.ensures.0 j; at = c.bad_line.ensures.1 j })

@@ -5,15 +5,17 @@ use native.Mathlib.Omega.{arith}
 use Rattle.rules.specs.Run.{shows}
 use Rattle.printed.specs.Promise.{told_line}
 use Rattle.printed.proofs.tell.Goals as goal
-
-pub returns-then-shows : goal.returns-then-shows
-unfolding told_line
-returns-then-shows c =
-    let e : shows c.args.call c.args.number ≡ true = sym c.shows.ensures ∙ c.if-shows.true in
-    rw e c.put_result.ensures
+use Rattle.printed.proofs.tell.Goals.{then-shows, else-shows}
 
 pub returns : goal.returns
 unfolding told_line
 returns c =
-    let e : shows c.args.call c.args.number ≡ false = sym c.shows.ensures ∙ c.if-shows.false in
-    rw e (c.put_result-2.ensures.0, c.put_result-2.ensures.1, omega (arith, c.put_result-2.ensures.2))
+    elim c.if-shows.branch [
+      | then-shows w ↦
+          let e : shows c.args.call c.args.number ≡ true = sym c.shows.ensures ∙ w.if-shows.true in
+          rw e (rw w.shown-is at c.put_result.ensures)
+      | else-shows w ↦
+          let e : shows c.args.call c.args.number ≡ false = sym c.shows.ensures ∙ w.if-shows.false in
+          let p = rw w.shown-is at c.put_result.ensures in
+          rw e (p.0, p.1, omega (arith, p.2))
+    ]

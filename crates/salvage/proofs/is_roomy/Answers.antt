@@ -1,21 +1,18 @@
 -- `salvage::is_roomy` meets its contract.
-use Rattle.salvage.proofs.Ends.{sizes-wrong, copy-wrong, row_fits, most-fits, words-fit, report-tells}
+use Rattle.salvage.proofs.Ends.{lengths-wrong, row_fits, most-fits, words-fit, report-tells}
 use Rattle.salvage.proofs.is_roomy.Goals as goal
 
 pub returns-then-not-is_sized : goal.returns-then-not-is_sized
-returns-then-not-is_sized c = search sizes-wrong
+returns-then-not-is_sized c = lengths-wrong c.args.p c.args.copy c.args.fresh c.args.buffer c.args.report _ c.is_sized.ensures c.then-not-is_sized.either
 
-pub returns-then-copy-fresh : goal.returns-then-copy-fresh
-returns-then-copy-fresh c = search copy-wrong
-
-pub overflow_add-most : goal.overflow_add-most
-overflow_add-most c = search row_fits
-
-pub overflow_mul-most : goal.overflow_mul-most
-overflow_mul-most c = search most-fits
+pub overflow_add-result : goal.overflow_add-result
+overflow_add-result c = search row_fits
 
 pub overflow_mul-result : goal.overflow_mul-result
-overflow_mul-result c = search words-fit
+overflow_mul-result c = search most-fits
+
+pub overflow_mul-result-2 : goal.overflow_mul-result-2
+overflow_mul-result-2 c = search words-fit
 
 pub returns : goal.returns
 returns c = search report-tells

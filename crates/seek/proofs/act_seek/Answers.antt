@@ -1,5 +1,5 @@
--- A bad number moves nothing; a record found goes to the workspace from the block reached; else the lookup is all.
-use Rattle.seek.proofs.Found.{found-way, found-row, missing-path, missing-least, missing-most, seek-bad, seek_found, seek-missing}
+-- A record found goes to the workspace from the block reached; else the lookup is all.
+use Rattle.seek.proofs.Found.{found-way, found-row, seek_found, seek-missing}
 use Rattle.seek.proofs.act_seek.Goals as goal
 
 pub reach-here-requires : goal.reach-here-requires
@@ -9,10 +9,7 @@ pub give-requires : goal.give-requires
 give-requires c = (search found-row, search)
 
 pub stop-requires : goal.stop-requires
-stop-requires c = (search, (search missing-path, λ on. (search missing-least, search missing-most)))
-
-pub returns-in-Bad : goal.returns-in-Bad
-returns-in-Bad c = search seek-bad
+stop-requires c = (search, rw c.in-Missing.is at c.requires.2)
 
 pub returns-in-Found : goal.returns-in-Found
 returns-in-Found c = search seek_found

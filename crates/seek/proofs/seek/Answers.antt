@@ -1,13 +1,20 @@
--- The lookup's answer fits what the act requires, and the act is the rest of the steps.
+-- What the lookup answers fits what the act requires, and the act is the rest of the steps; a refusal is the steps' own.
+use mathlib.Core.Path.{refl}
 use Rattle.drum.proofs.Sizes.{key-within}
-use Rattle.seek.proofs.Steps.{act-fits, seek-told}
+use Rattle.rules.specs.Seek.{seek_steps}
+use Rattle.lookup.proofs.Fits.{look-fits}
 use Rattle.seek.proofs.seek.Goals as goal
 
-pub look-l-requires : goal.look-l-requires
-look-l-requires c = search key-within
+pub look-requires : goal.look-requires
+look-requires c = search key-within
 
 pub act_seek-requires : goal.act_seek-requires
-act_seek-requires c = (search, search, search act-fits)
+act_seek-requires c = (search, search, look-fits _ _ _ _ c.in-Ok.ensures)
 
-pub returns : goal.returns
-returns c = search seek-told
+pub returns-in-Ok : goal.returns-in-Ok
+unfolding seek_steps
+returns-in-Ok c = rw (← c.in-Ok.ensures) c.act_seek.ensures
+
+pub returns-in-Err : goal.returns-in-Err
+unfolding seek_steps
+returns-in-Err c = rw (c.refused.ensures, ← c.in-Err.ensures) refl

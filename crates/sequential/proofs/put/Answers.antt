@@ -2,13 +2,13 @@ use Rattle.sequential.proofs.Laid.{put-lies, put-words, put-few, put_refused, pu
 use Rattle.sequential.proofs.put.Goals as goal
 
 pub lay-requires : goal.lay-requires
-lay-requires c = (search put-lies, search put-words)
+lay-requires c = (put-lies _ _ _ _ _ c.in-Ok.ensures, put-words _ _ _ _ _ c.in-Ok.ensures)
 
 pub behind_row-requires : goal.behind_row-requires
-behind_row-requires c = search put-few
+behind_row-requires c = put-few _ _ _ _ _ c.in-Ok.ensures
 
-pub returns-in-No : goal.returns-in-No
-returns-in-No c = search put_refused
+pub returns-in-Ok : goal.returns-in-Ok
+returns-in-Ok c = put-done _ _ _ _ _ _ _ c.in-Ok.ensures c.lay.ensures c.behind_row.ensures
 
-pub returns-in-At : goal.returns-in-At
-returns-in-At c = search put-done
+pub returns-in-Err : goal.returns-in-Err
+returns-in-Err c = put_refused _ _ _ _ _ _ c.in-Err.ensures c.from.ensures

@@ -3,10 +3,6 @@ use native.Mathlib.Omega.{arith}
 use Rattle.table.specs.Tables.{count}
 use Rattle.table.proofs.count_of.Goals as goal
 
-pub returns-then-word-tag : goal.returns-then-word-tag
-unfolding count
-returns-then-word-tag c = omega arith
-
 pub returns : goal.returns
 unfolding count
 returns c = omega arith

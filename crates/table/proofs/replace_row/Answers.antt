@@ -4,4 +4,4 @@ use Rattle.table.proofs.replace_row.Goals as goal
 
 pub returns : goal.returns
 unfolding replaced
-returns c = c.copy_words.ensures
+returns c = rw (← c.place.ensures) c.copy_words.ensures

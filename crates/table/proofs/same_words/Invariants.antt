@@ -1,12 +1,9 @@
 -- The words passed are the key's, and the one at which it stops is not.
 use mathlib.Core.Path.{◌≡◌}
 use mathlib.Core.Bool.{false}
-use Prim.Native.Nat.{ℕ, ◌-◌, ◌≤◌, ◌<◌}
+use Prim.Native.Nat.{ℕ, ◌<◌}
 use Rattle.table.specs.Tables.{differs}
 use Rattle.table.proofs.same_words.Given as goal
 
 abbrev pub invariant-loop-m : goal.invariant-loop-m
-invariant-loop-m l = (l.m ≤ l.width) × ((j : ℕ) → j < l.m → differs l.t l.place l.key l.at j ≡ false)
-
-abbrev pub decreases-loop-m : goal.decreases-loop-m
-decreases-loop-m l = l.width - l.m
+invariant-loop-m l = (j : ℕ) → j < l.m → differs l.t l.place l.key l.at j ≡ false

@@ -12,6 +12,6 @@ put_digits-requires c = (simp length-set (omega arith), omega arith, omega arith
 pub returns : goal.returns
 unfolding octal
 returns c =
-    let o = rw c.long.ensures at c.put_digits.ensures in
+    let o = rw c.from.ensures at c.put_digits.ensures in
     let w = written-cons c.args.out.now c.args.at 32 _ _ c.put_digits.result (omega arith) (o.0, omega (arith, length_digits 8 6 c.args.n)) in
     (w.0, w.1, omega arith)

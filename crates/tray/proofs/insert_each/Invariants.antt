@@ -1,7 +1,7 @@
 -- `tray::insert_each` meets its contract: what it has so far and what is left come to what the whole tray comes to.
 use mathlib.Core.Path.{◌≡◌}
 use mathlib.Core.List.{[]}
-use Prim.Native.Nat.{◌+◌, ◌*◌, ◌-◌, ◌≤◌}
+use Prim.Native.Nat.{◌+◌, ◌*◌, ◌≤◌}
 use lib.ListN.{length}
 use Rattle.numbers.specs.Numbers.{done}
 use Rattle.searchfile.specs.Promise.{given}
@@ -12,15 +12,10 @@ use Rattle.tray.proofs.insert_each.Given as goal
 
 abbrev pub invariant-loop-stored : goal.invariant-loop-stored
 invariant-loop-stored l =
-    (l.count ≤ 4294967295)
-    × (l.stored ≤ l.count)
-    × (l.at + (l.count - l.stored) * l.wpr ≡ length l.tray)
-    × (l.transfers ≤ 16 * l.stored)
-    × (length l.file ≡ length l.initial.file)
-    × (length l.buffer ≡ length l.initial.buffer)
+    (l.stored-end ≤ 4294967295)
+    × (1 + l.stored-end * l.wpr ≡ length l.tray)
+    × (l.done.stored ≡ l.stored)
+    × (l.done.transfers ≤ 16 * l.stored)
     × Reached
-    (counted_tray (inserts (given l.initial.held l.initial.file l.initial.buffer []) (records_at (count_of l.tray) l.wpr 1 l.tray) done))
-    l.held l.stored l.number l.transfers l.file l.buffer l.count l.wpr l.at l.tray
-
-abbrev pub decreases-loop-stored : goal.decreases-loop-stored
-decreases-loop-stored l = l.count - l.stored
+    (counted_tray (inserts (given l.fn.session l.initial.file l.initial.buffer []) (records_at (count_of l.tray) l.wpr 1 l.tray) done))
+    l.done.session l.done.stored l.done.number l.done.transfers l.file l.buffer l.stored-end l.wpr (1 + l.stored * l.wpr) l.tray

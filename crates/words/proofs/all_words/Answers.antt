@@ -1,21 +1,17 @@
 -- `words::all_words` meets its contract.
-use mathlib.Core.Path.{◌≡◌, sym, ◌∙◌}
-use Prim.Native.Nat.{◌-◌}
-use native.Mathlib.Nat.{sub-zero, add-zero}
-use native.Mathlib.Omega.{arith}
-use Rattle.words.proofs.Turns.{words-next, words-stop, words-done}
+use mathlib.Core.Path.{◌∙◌}
+use Prim.Native.Nat.{◌+◌, ◌-◌}
+use lib.Dec.{leb}
+use lib.ListN.{take, drop}
+use Rattle.std.proofs.Common.{rules, tests}
+use Rattle.std.proofs.lemmas.Iterator.{YieldsList-from_slice}
+use Rattle.std.proofs.lemmas.Iterator.Search.{all_from_yields_List}
+use Rattle.words.proofs.All.{all_words-range}
 use Rattle.words.proofs.all_words.Goals as goal
-
-pub loop-i-init : goal.loop-i-init
-loop-i-init c = (omega arith, simp (add-zero, sub-zero))
-
-pub returns-then-t-a-gt262143 : goal.returns-then-t-a-gt262143
-returns-then-t-a-gt262143 c = sym (c.loop-i.invariant.1 ∙ words-stop _ _ _ _ (omega arith) (omega arith) c.if-t-a-gt262143.true)
-
-pub loop-i-preserved : goal.loop-i-preserved
-loop-i-preserved c = (omega arith, c.loop-i.invariant.1 ∙ words-next _ _ _ _ (omega arith) (omega arith) c.if-t-a-gt262143.false)
 
 pub returns : goal.returns
 returns c =
-    let e : c.args.n - c.loop-i.i ≡ 0 = omega arith in
-    sym (rw (e, words-done) at c.loop-i.invariant.1)
+    let a = c.args.a in
+    let range = take (a + c.args.n - a) (drop a c.args.t.now) in
+    all_from_yields_List (λ x. leb x 262143) _ _ c.all.result c.all.ensures.ran (YieldsList-from_slice range cc) (λ x b q k. search (rules, tests))
+    ∙ all_words-range a c.args.n c.args.t.now

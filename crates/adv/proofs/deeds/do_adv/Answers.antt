@@ -1,6 +1,6 @@
--- A bad number moves nothing; else the block is reached or brought, and the record handed over.
+-- The block is reached or brought, and the record handed over.
 use Rattle.drum.proofs.Sizes.{key-in-row}
-use Rattle.adv.proofs.Given.{adv-bad, at-way, at_row, adv-at-told}
+use Rattle.adv.proofs.Given.{at-way, at_row, adv-at-told}
 use Rattle.adv.proofs.Given.{beyond-least, beyond-most, current-least, current-most, beyond-row, adv-beyond-told, transfers-few}
 use Rattle.adv.proofs.deeds.do_adv.Goals as goal
 
@@ -18,9 +18,6 @@ overflow_add-here c = search transfers-few
 
 pub hand_over-requires-in-Beyond : goal.hand_over-requires-in-Beyond
 hand_over-requires-in-Beyond c = (search beyond-row, search, search key-in-row)
-
-pub returns-in-Bad : goal.returns-in-Bad
-returns-in-Bad c = search adv-bad
 
 pub returns-in-At : goal.returns-in-At
 returns-in-At c = search adv-at-told

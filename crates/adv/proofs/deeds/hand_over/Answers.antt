@@ -1,7 +1,11 @@
 -- The row is in the workspace, and its key decides number and position.
+use mathlib.Core.Path.{◌≡◌}
+use mathlib.Core.Bool.{cond}
 use native.Mathlib.Omega.{arith}
+use Rattle.numbers.specs.Numbers.{done, at_end}
 use Rattle.drum.specs.Params.{detail_shape}
 use Rattle.adv.proofs.Given.{hands}
+use Rattle.adv.proofs.deeds.hand_over.Goals.{then-end, else-end}
 use Rattle.adv.proofs.deeds.hand_over.Goals as goal
 
 pub overflow_mul-i : goal.overflow_mul-i
@@ -17,4 +21,7 @@ unfolding detail_shape
 all_are-end-requires c = omega arith
 
 pub returns : goal.returns
-returns c = (search hands, search)
+returns c =
+    let n : c.if-end.number ≡ cond c.all_are-end.result at_end done =
+    elim c.if-end.branch [ then-end w ↦ rw w.if-end.true w.number-is | else-end w ↦ rw w.if-end.false w.number-is ] in
+    (search (hands, n), search)

@@ -7,6 +7,6 @@ pub returns-then-x-w : goal.returns-then-x-w
 unfolding adv_reads
 returns-then-x-w c = simp (eq-eqb _ _ c.if-x-w.true)
 
-pub returns : goal.returns
+pub returns-else-x-w : goal.returns-else-x-w
 unfolding adv_reads
-returns c = simp (ne_eqb _ _ c.if-x-w.false)
+returns-else-x-w c = simp (ne_eqb _ _ c.if-x-w.false)

@@ -1,23 +1,21 @@
 -- The test is made where a block is buffered; every other answer is the definition's.
-use native.Mathlib.Omega.{arith}
-use Rattle.drum.proofs.Sizes.{block-wide}
-use Rattle.adv.proofs.Rows.{held-least, held-most, held-bad, held-no, held-yes}
+use mathlib.Core.Path.{refl}
+use Rattle.numbers.proofs.Exits.{handed}
+use Rattle.rules.specs.Adv.{next_in_buffer}
+use Rattle.lookup.proofs.Fits.{held_fits, test-and}
 use Rattle.adv.proofs.plan.next_in_buffer.Goals as goal
 
-pub on_buffer-held-requires : goal.on_buffer-held-requires
-on_buffer-held-requires c = omega (arith, block-wide)
+pub returns-in_err-on_buffer : goal.returns-in_err-on_buffer
+unfolding next_in_buffer
+returns-in_err-on_buffer c = handed _ _ _ c.from_residual.ensures.1 (rw (test-and _ _, ← c.in_err-on_buffer.ensures) refl)
 
 pub spans-requires : goal.spans-requires
-spans-requires c = (search, search, search held-least, search held-most, search)
+spans-requires c = (held_fits _ _ c.in_ok-on_buffer.ensures c.if-branch.true, search)
 
-pub returns-then-spans : goal.returns-then-spans
-returns-then-spans c = search held-yes
+pub returns-then-branch : goal.returns-then-branch
+unfolding next_in_buffer
+returns-then-branch c = rw (test-and _ _, ← c.in_ok-on_buffer.ensures, c.if-branch.true, c.spans.ensures) refl
 
-pub returns-in-Bad : goal.returns-in-Bad
-returns-in-Bad c = search held-bad
-
-pub returns-in-No : goal.returns-in-No
-returns-in-No c = search held-no
-
-pub returns-else-spans : goal.returns-else-spans
-returns-else-spans c = search held-yes
+pub returns-else-branch : goal.returns-else-branch
+unfolding next_in_buffer
+returns-else-branch c = rw (test-and _ _, ← c.in_ok-on_buffer.ensures, c.if-branch.false) refl

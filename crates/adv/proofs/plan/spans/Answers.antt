@@ -4,14 +4,17 @@ use Rattle.drum.proofs.Sizes.{block-wide, key-short, last_within, last-span, las
 use Rattle.adv.proofs.Rows.{not-spans, spans-by}
 use Rattle.adv.proofs.plan.spans.Goals as goal
 
-pub key_below-requires : goal.key_below-requires
-key_below-requires c = omega (arith, key-short)
-
-pub returns-then-key_below : goal.returns-then-key_below
-returns-then-key_below c = search not-spans
-
 pub records_in-last-requires : goal.records_in-last-requires
-records_in-last-requires c = omega (arith, block-wide)
+records_in-last-requires c =
+    let w = block-wide _ c.args.v.fits.good in
+    let l = c.args.v.fits.buffer-is in
+    omega arith
+
+pub key_below-requires : goal.key_below-requires
+key_below-requires c =
+    let s = key-short _ c.args.v.fits.good in
+    let l = c.args.v.fits.buffer-is in
+    omega arith
 
 pub overflow_mul-last : goal.overflow_mul-last
 overflow_mul-last c = search last-span
@@ -19,8 +22,11 @@ overflow_mul-last c = search last-span
 pub overflow_add-last : goal.overflow_add-last
 overflow_add-last c = search last-place
 
-pub key_below-requires-2 : goal.key_below-requires-2
-key_below-requires-2 c = (omega arith, search last_within)
+pub key_below-requires-then-not-key_below : goal.key_below-requires-then-not-key_below
+key_below-requires-then-not-key_below c = (omega arith, search last_within)
 
-pub returns : goal.returns
-returns c = search spans-by
+pub returns-then-not-key_below : goal.returns-then-not-key_below
+returns-then-not-key_below c = search spans-by
+
+pub returns-else-not-key_below : goal.returns-else-not-key_below
+returns-else-not-key_below c = search not-spans

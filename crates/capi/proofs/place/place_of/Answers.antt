@@ -12,5 +12,5 @@ returns-then-b-s c = search place-buffer
 pub in_file-requires : goal.in_file-requires
 in_file-requires c = (search shown-good, search shown-least, search shown-most)
 
-pub returns : goal.returns
-returns c = search place-file
+pub returns-else-b-s : goal.returns-else-b-s
+returns-else-b-s c = search place-file

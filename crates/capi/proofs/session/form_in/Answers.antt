@@ -5,5 +5,5 @@ use Rattle.capi.proofs.session.form_in.Goals as goal
 pub returns-then-words-le-FORM_PLACE : goal.returns-then-words-le-FORM_PLACE
 returns-then-words-le-FORM_PLACE c = search form-none
 
-pub returns : goal.returns
-returns c = search form-read
+pub returns-else-words-le-FORM_PLACE : goal.returns-else-words-le-FORM_PLACE
+returns-else-words-le-FORM_PLACE c = search form-read

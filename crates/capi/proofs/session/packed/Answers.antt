@@ -6,4 +6,4 @@ use Rattle.capi.proofs.session.packed.Goals as goal
 
 pub returns : goal.returns
 unfolding packed
-returns c = ap (λ (n : ℕ). c.args.transfers * 4294967296 + n) c.wide.ensures
+returns c = ap (λ (n : ℕ). c.args.transfers * 4294967296 + n) c.from.ensures

@@ -1,7 +1,7 @@
 -- The parameters are tested first; after that the file has a size.
 use mathlib.Core.Path.{◌≡◌, sym, ◌∙◌}
-use borrow.Author.Tests.{eq-eqb, ne_eqb}
 use mathlib.Core.Bool.{Bool, true, and-true}
+use borrow.Author.Tests.{eq-eqb, ne_eqb}
 use Rattle.drum.specs.Params.{sized, every}
 use Rattle.drum.proofs.Description.is_sized.Goals as goal
 
@@ -18,8 +18,8 @@ file_words-requires c = kept c.is_good.ensures c.if-not-is_good.false
 
 pub returns-then-file-file_words : goal.returns-then-file-file_words
 unfolding sized every
-returns-then-file-file_words c = simp (kept c.is_good.ensures c.if-not-is_good.false, ← c.file_words.ensures, ne_eqb _ _ c.if-file-file_words.true)
+returns-then-file-file_words c = simp (kept c.is_good.ensures c.if-not-is_good.false, ← c.file_words.ensures, eq-eqb _ _ c.if-file-file_words.true, and-true)
 
-pub returns : goal.returns
+pub returns-else-file-file_words : goal.returns-else-file-file_words
 unfolding sized every
-returns c = simp (kept c.is_good.ensures c.if-not-is_good.false, ← c.file_words.ensures, eq-eqb _ _ c.if-file-file_words.false, and-true)
+returns-else-file-file_words c = simp (kept c.is_good.ensures c.if-not-is_good.false, ← c.file_words.ensures, ne_eqb _ _ c.if-file-file_words.false)

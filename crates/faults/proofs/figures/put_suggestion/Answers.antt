@@ -7,13 +7,13 @@ use Rattle.faults.specs.Sentences.{suggestion}
 use Rattle.faults.proofs.Three.{three-written}
 use Rattle.faults.proofs.figures.put_suggestion.Goals as goal
 
-pub returns-in-Nothing : goal.returns-in-Nothing
+pub returns-in-None : goal.returns-in-None
 unfolding suggestion
-returns-in-Nothing c = rw c.in-Nothing.is (sym (put-none _ _), omega arith, omega arith)
+returns-in-None c = rw c.in-None.is (sym (put-none _ _), omega arith, omega arith)
 
-pub returns-in-Kind : goal.returns-in-Kind
+pub returns-in-Some : goal.returns-in-Some
 unfolding suggestion bytes
-returns-in-Kind c =
+returns-in-Some c =
     let n = c.put_name-named.ensures in
     let w = three-written _ _ _ _ _ _ _ _ _ _ _ c.put_bytes-mark.ensures (n.0, n.1) c.put_bytes.ensures (omega arith) in
-    rw c.in-Kind.is (w.0, w.1, omega arith)
+    rw c.in-Some.is (w.0, w.1, omega arith)

@@ -1,20 +1,19 @@
 -- `nearest::agreeing` meets its contract: what agrees from here on and what was counted come to the whole.
-use Prim.Native.Nat.{◌-◌}
 use native.Mathlib.Omega.{arith}
-use Rattle.faults.proofs.Turns.{agree-word, agree-text, agree-turn}
+use Rattle.faults.proofs.Turns.{agree-over, agree-turn}
 use Rattle.faults.proofs.nearest.agreeing.Goals as goal
 
-pub returns-then-text-j : goal.returns-then-text-j
-returns-then-text-j c =
-    let e = agree-text c.args.word.now c.args.text.now c.loop-i.i c.loop-i.j (omega arith) in
-    (omega (arith, c.loop-i.invariant), omega (arith, c.loop-i.invariant))
+pub overflow_add-count : goal.overflow_add-count
+overflow_add-count c = omega (arith, c.same-count.ensures.1, c.loop-i.invariant.1)
 
 pub loop-i-preserved : goal.loop-i-preserved
 loop-i-preserved c =
-    let e = agree-turn c.args.word.now c.args.text.now c.loop-i.i c.loop-i.j (omega arith) (omega arith) in
-    (omega (arith, c.loop-i.invariant, c.same-count.ensures), omega (arith, c.loop-i.invariant, c.same-count.ensures), omega (arith, c.loop-i.invariant, c.same-count.ensures))
+    let l = c.loop-i in
+    let e = agree-turn c.args.word.now c.args.text.now l.i l.i (omega arith) (omega arith) in
+    (omega (arith, e, l.invariant.0, c.same-count.ensures.0), omega (arith, l.invariant.1, c.same-count.ensures.1))
 
 pub returns : goal.returns
 returns c =
-    let e = agree-word c.args.word.now c.args.text.now c.loop-i.i c.loop-i.j (omega arith) in
-    (omega (arith, c.loop-i.invariant), omega (arith, c.loop-i.invariant))
+    let l = c.loop-i in
+    let e = agree-over c.args.word.now c.args.text.now l.i (omega arith) in
+    (omega (arith, e, l.invariant.0), omega (arith, l.invariant.1))

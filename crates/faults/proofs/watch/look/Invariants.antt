@@ -1,12 +1,8 @@
 -- `watch::look` meets its contract: what is to be looked at from here on comes to what the whole comes to.
-use Prim.Native.Nat.{◌≤◌, ◌-◌}
 use mathlib.Core.Path.{◌≡◌}
-use lib.ListN.{length, drop}
+use lib.ListN.{drop}
 use Rattle.faults.specs.Watching.{watched}
 use Rattle.faults.proofs.watch.look.Given as goal
 
-abbrev pub invariant-loop-at : goal.invariant-loop-at
-invariant-loop-at l = (l.at ≤ length l.bytes) × (watched l.initial.seen (drop l.from l.bytes) ≡ watched l.seen (drop l.at l.bytes))
-
-abbrev pub decreases-loop-at : goal.decreases-loop-at
-decreases-loop-at l = length l.bytes - l.at
+abbrev pub invariant-loop-i : goal.invariant-loop-i
+invariant-loop-i l = watched l.initial.seen (drop l.from l.bytes) ≡ watched l.seen (drop l.i l.bytes)

@@ -1,24 +1,10 @@
--- What is left of the entries gives what all of them give.
-use mathlib.Core.Path.{refl}
+-- The entries of the master lie in the file.
 use native.Mathlib.Omega.{arith}
-use Rattle.layout.proofs.CodeSizes.{entry_key, row_inside, row-rest, row_fits, first_key}
-use Rattle.layout.proofs.CodeSteps.{through-done, through-stop, through-next}
+use Rattle.layout.proofs.CodeSizes.{key-short, file-short}
 use Rattle.layout.proofs.blocks.sections_held.Goals as goal
 
-pub loop-left-init : goal.loop-left-init
-loop-left-init c = (search, search first_key, search, refl)
+pub overflow_add-p : goal.overflow_add-p
+overflow_add-p c = omega (arith, key-short)
 
-pub index_held-requires : goal.index_held-requires
-index_held-requires c = record { fit = search; marks_len = (search, search, search row_inside) }
-
-pub returns-then-not-index_held : goal.returns-then-not-index_held
-returns-then-not-index_held c = search through-stop
-
-pub overflow_add-at-in-loop-left : goal.overflow_add-at-in-loop-left
-overflow_add-at-in-loop-left c = search row_fits
-
-pub loop-left-preserved : goal.loop-left-preserved
-loop-left-preserved c = (omega arith, search entry_key, search row-rest, search through-next)
-
-pub returns : goal.returns
-returns c = search through-done
+pub through-requires-clause-fits : goal.through-requires-clause-fits
+through-requires-clause-fits c = omega (arith, file-short)

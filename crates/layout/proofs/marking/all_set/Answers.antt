@@ -1,17 +1,14 @@
--- What is left of the marks gives what all of them give.
-use Prim.Native.Nat.{◌-◌}
-use native.Mathlib.Omega.{arith}
-use Rattle.layout.proofs.CodeMarks.{set-start, set_next, set-stop, set-done}
+-- Each mark is asked.
+use mathlib.Core.Path.{◌∙◌}
+use mathlib.Core.Bool.{not}
+use lib.Dec.{eqb}
+use Rattle.std.proofs.Common.{rules, tests}
+use Rattle.std.proofs.lemmas.Iterator.{YieldsList-from_slice}
+use Rattle.std.proofs.lemmas.Iterator.Search.{all_from_yields_List}
+use Rattle.layout.proofs.CodeMarks.{none-listed}
 use Rattle.layout.proofs.marking.all_set.Goals as goal
 
-pub loop-i-init : goal.loop-i-init
-loop-i-init c = (omega arith, search set-start)
-
-pub returns-then-marks-i-eq0 : goal.returns-then-marks-i-eq0
-returns-then-marks-i-eq0 c = search set-stop
-
-pub loop-i-preserved : goal.loop-i-preserved
-loop-i-preserved c = (omega arith, search set_next)
-
 pub returns : goal.returns
-returns c = search set-done
+returns c =
+    all_from_yields_List {all = c.args.marks.now} (λ y. not (eqb y 0)) _ _ c.all.result c.all.ensures.ran (YieldsList-from_slice _ cc) (λ y b q k. search (rules, tests))
+    ∙ none-listed c.args.marks.now

@@ -1,17 +1,13 @@
--- What is left of the marks gives what all of them give.
-use mathlib.Core.Path.{refl}
-use Prim.Native.Nat.{◌-◌}
-use Rattle.layout.proofs.CodeMarks.{unset-next, unset-stop, unset-done}
+-- Each mark is asked.
+use mathlib.Core.Path.{◌∙◌}
+use lib.Dec.{eqb}
+use Rattle.std.proofs.Common.{rules, tests}
+use Rattle.std.proofs.lemmas.Iterator.{YieldsList-from_slice}
+use Rattle.std.proofs.lemmas.Iterator.Search.{all_from_yields_List}
+use Rattle.layout.proofs.CodeMarks.{all-listed}
 use Rattle.layout.proofs.marking.none_set.Goals as goal
 
-pub loop-i-init : goal.loop-i-init
-loop-i-init c = refl
-
-pub returns-then-marks-i-ne0 : goal.returns-then-marks-i-ne0
-returns-then-marks-i-ne0 c = search unset-stop
-
-pub loop-i-preserved : goal.loop-i-preserved
-loop-i-preserved c = search unset-next
-
 pub returns : goal.returns
-returns c = search unset-done
+returns c =
+    all_from_yields_List {all = c.args.marks.now} (λ y. eqb y 0) _ _ c.all.result c.all.ensures.ran (YieldsList-from_slice _ cc) (λ y b q k. search (rules, tests))
+    ∙ all-listed c.args.marks.now

@@ -11,5 +11,5 @@ returns c =
     let steps =
     set-up c.new.result _ _ _ _ _ _ _ _ _ _ _ _ c.with_n.ensures c.with_control.ensures c.with_space.ensures
     c.with_k.ensures c.with_wpr.ensures c.with_wpb.ensures in
-    described-by _ _ _ _ _ _ _ _ _ steps (ap (λ (d : Description). d.form) c.new.ensures) c.word_at-wpb.ensures c.word_at-wpr.ensures c.word_at-k.ensures c.word_at-space.ensures
-    c.word_at-control.ensures c.word_at-n.ensures
+    described-by _ _ _ _ _ _ _ _ _ steps (ap (λ (d : Description). d.form) c.new.ensures) c.word_at.ensures c.word_at-2.ensures c.word_at-3.ensures c.word_at-4.ensures
+    c.word_at-5.ensures c.word_at-6.ensures

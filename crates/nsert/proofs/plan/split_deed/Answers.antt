@@ -1,19 +1,30 @@
 -- The new block is bad, or lacking; then the number is bad, or the split is planned.
+use mathlib.Core.Path.{refl}
 use native.Mathlib.Omega.{arith}
-use Rattle.nsert.proofs.Planning.{few-records, split-refused, split-none, split-bad, split-is}
+use borrow.Author.Tests.{eq-eqb, ne_eqb}
+use Rattle.numbers.proofs.Exits.{handed}
+use Rattle.rules.specs.Nsert.{split_deed}
+use Rattle.nsert.proofs.Planning.{few-records}
 use Rattle.nsert.proofs.plan.split_deed.Goals as goal
 
-pub returns-in_default : goal.returns-in_default
-returns-in_default c = search split-refused
+pub returns-in_err-d : goal.returns-in_err-d
+unfolding split_deed
+returns-in_err-d c = handed _ _ _ c.from_residual.ensures.1 (rw (← c.in_err-d.ensures) refl)
 
 pub returns-then-d-eq0 : goal.returns-then-d-eq0
-returns-then-d-eq0 c = search split-none
+unfolding split_deed
+returns-then-d-eq0 c = rw (← c.in_ok-d.ensures, eq-eqb _ _ c.if-d-eq0.true) refl
 
 pub half_count-n-requires : goal.half_count-n-requires
-half_count-n-requires c = omega (arith, few-records)
+half_count-n-requires c = let m = few-records _ _ _ c.args.v.fits in omega arith
 
-pub returns-in_default-stored : goal.returns-in_default-stored
-returns-in_default-stored c = search split-bad
+pub returns-in_err-number : goal.returns-in_err-number
+unfolding split_deed
+returns-in_err-number c =
+    handed _ _ _ c.from_residual-in_err-number.ensures.1
+    (rw (← c.in_ok-d.ensures, ne_eqb _ _ c.if-d-eq0.false, ← c.d.ensures, ← c.half_count-n.ensures, ← c.in_err-number.ensures) refl)
 
 pub returns : goal.returns
-returns c = search split-is
+unfolding split_deed
+returns c =
+    rw (← c.in_ok-d.ensures, ne_eqb _ _ c.if-d-eq0.false, ← c.d.ensures, ← c.half_count-n.ensures, ← c.in_ok-number.ensures) refl

@@ -4,7 +4,7 @@ use Rattle.nsert.proofs.Splitting.{key-short, number_small, split-enters, split-
 use Rattle.nsert.proofs.splits.write_split.Goals as goal
 
 pub cut-moved-requires : goal.cut-moved-requires
-cut-moved-requires c = (search, record { whole = search; roomy = omega (arith, key-short) }, search)
+cut-moved-requires c = (search, omega (arith, key-short), search)
 
 pub enter_in-requires : goal.enter_in-requires
 enter_in-requires c = (search split-enters, omega (arith, key-short), omega (arith, number_small))

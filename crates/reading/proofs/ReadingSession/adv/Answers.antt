@@ -1,23 +1,23 @@
 -- The refusals in the table's order, then the steps of the call.
 use mathlib.Core.Path.{refl}
-use Rattle.rules.specs.Adv.{adv}
 use Rattle.face.proofs.Lent.{plain-call}
 use Rattle.face.proofs.Chains.{adv-chain}
 use Rattle.reading.proofs.Kept.{adv-off}
-use Rattle.reading.proofs.Profile.{read-many, read-refused, read_told}
+use Rattle.reading.proofs.Profile.{behind, read-refused, read_told}
 use Rattle.reading.proofs.ReadingSession.adv.Goals as goal
 
-pub returns-then-p-ne1 : goal.returns-then-p-ne1
-returns-then-p-ne1 c = search (read-many adv)
-
-pub returns-then-number-ne0 : goal.returns-then-number-ne0
-returns-then-number-ne0 c = search (read-refused adv-chain)
-
 pub adv-done-requires : goal.adv-done-requires
-adv-done-requires c = (refl, search plain-call, search plain-call, search plain-call)
+adv-done-requires c =
+    let h = behind c.args.self.desc _ c.in-Ok.ensures in
+    rw c.at.ensures (refl, search (plain-call, h), search (plain-call, h), search (plain-call, h))
 
 pub after-requires : goal.after-requires
-after-requires c = (search plain-call, search plain-call, search adv-off)
+after-requires c =
+    let h = behind c.args.self.desc _ c.in-Ok.ensures in
+    (search (plain-call, h), search (plain-call, h), search (adv-off, rw c.at.ensures at c.adv-done.ensures))
 
-pub returns : goal.returns
-returns c = search (read_told adv-chain)
+pub returns-in-Ok : goal.returns-in-Ok
+returns-in-Ok c = search (read_told adv-chain, c.in-Ok.ensures, rw c.at.ensures at c.adv-done.ensures)
+
+pub returns-in-Err : goal.returns-in-Err
+returns-in-Err c = search (read-refused adv-chain, c.in-Err.ensures)

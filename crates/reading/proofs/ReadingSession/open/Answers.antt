@@ -1,22 +1,15 @@
 -- Each return is one way through OPEN.
-use Rattle.reading.proofs.Opened.{open-sizes, open-marks, open_twice, open-bad, open_done_lem, inspect-fit}
-use Rattle.std.proofs.lemmas.Bool.{not_from_true}
+use Rattle.reading.proofs.Opened.{open_early, open-bad, open_done_lem, inspect-fit, marks_whole}
 use Rattle.reading.proofs.ReadingSession.open.Goals as goal
 
-pub returns-then-not-is_fitting : goal.returns-then-not-is_fitting
-returns-then-not-is_fitting c = search open-sizes
-
-pub returns-then-marks-p : goal.returns-then-marks-p
-returns-then-marks-p c = search open-marks
-
-pub returns-then-self : goal.returns-then-self
-returns-then-self c = search open_twice
-
 pub inspect-requires : goal.inspect-requires
-inspect-requires c = (search (inspect-fit, c.is_fitting.ensures, not_from_true _ c.if-not-is_fitting.false), search)
+inspect-requires c = (inspect-fit _ _ _ _ c.in-Ok.ensures, marks_whole _ _ _ _ c.in-Ok.ensures)
 
 pub returns-then-not-inspect : goal.returns-then-not-inspect
-returns-then-not-inspect c = search open-bad
+returns-then-not-inspect c = open-bad _ _ _ _ c.in-Ok.ensures _ _ c.inspect.ensures _ c.refused.ensures c.if-not-inspect.true
 
-pub returns : goal.returns
-returns c = search open_done_lem
+pub returns-else-not-inspect : goal.returns-else-not-inspect
+returns-else-not-inspect c = open_done_lem _ _ _ _ c.in-Ok.ensures _ _ c.inspect.ensures _ c.at_rest.ensures c.if-not-inspect.false
+
+pub returns-in-Err : goal.returns-in-Err
+returns-in-Err c = open_early _ _ _ _ _ _ c.refused-in-Err.ensures c.in-Err.ensures

@@ -1,25 +1,23 @@
 -- The refusals in the table's order, then the steps of the call.
-use Rattle.rules.specs.Seek.{seek}
-use Rattle.face.proofs.Lent.{key-in-record, keyed-call}
+use mathlib.Core.Path.{refl}
+use Rattle.face.proofs.Lent.{keyed-call}
 use Rattle.face.proofs.Chains.{seek-chain}
 use Rattle.reading.proofs.Kept.{seek-off}
-use Rattle.reading.proofs.Profile.{read-many, read-refused, read_told}
+use Rattle.reading.proofs.Profile.{behind, read-refused, read_told}
 use Rattle.reading.proofs.ReadingSession.seek.Goals as goal
 
-pub returns-then-p-ne1 : goal.returns-then-p-ne1
-returns-then-p-ne1 c = search (read-many seek)
-
-pub refused_key-number-requires : goal.refused_key-number-requires
-refused_key-number-requires c = search key-in-record
-
-pub returns-then-number-ne0 : goal.returns-then-number-ne0
-returns-then-number-ne0 c = search (read-refused seek-chain)
-
 pub seek-done-requires : goal.seek-done-requires
-seek-done-requires c = (search keyed-call, search keyed-call)
+seek-done-requires c =
+    let h = behind c.args.self.desc _ c.in-Ok.ensures in
+    rw c.at.ensures (refl, search (keyed-call, h), search (keyed-call, h))
 
 pub after-requires : goal.after-requires
-after-requires c = (search keyed-call, search keyed-call, search seek-off)
+after-requires c =
+    let h = behind c.args.self.desc _ c.in-Ok.ensures in
+    (search (keyed-call, h), search (keyed-call, h), search (seek-off, rw c.at.ensures at c.seek-done.ensures))
 
-pub returns : goal.returns
-returns c = search (read_told seek-chain)
+pub returns-in-Ok : goal.returns-in-Ok
+returns-in-Ok c = search (read_told seek-chain, c.in-Ok.ensures, rw c.at.ensures at c.seek-done.ensures)
+
+pub returns-in-Err : goal.returns-in-Err
+returns-in-Err c = search (read-refused seek-chain, c.in-Err.ensures)

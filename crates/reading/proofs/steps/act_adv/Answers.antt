@@ -1,6 +1,6 @@
--- A bad number moves nothing; else the block is reached or brought, and the record handed over.
+-- The block is reached or brought, and the record handed over.
 use Rattle.drum.proofs.Sizes.{key-in-row}
-use Rattle.adv.proofs.Given.{adv-bad, at-way, at_row, adv-at-told, beyond-least, beyond-most, beyond-row}
+use Rattle.adv.proofs.Given.{at-way, at_row, adv-at-told, beyond-least, beyond-most, beyond-row}
 use Rattle.reading.proofs.Reached.{beyond-told}
 use Rattle.reading.proofs.steps.act_adv.Goals as goal
 
@@ -15,9 +15,6 @@ load-requires c = (search, (search beyond-least, search beyond-most))
 
 pub hand_over-requires-in-Beyond : goal.hand_over-requires-in-Beyond
 hand_over-requires-in-Beyond c = (search beyond-row, search, search key-in-row)
-
-pub returns-in-Bad : goal.returns-in-Bad
-returns-in-Bad c = search adv-bad
 
 pub returns-in-At : goal.returns-in-At
 returns-in-At c = search adv-at-told

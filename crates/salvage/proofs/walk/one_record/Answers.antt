@@ -9,7 +9,7 @@ pub insert-tried-requires : goal.insert-tried-requires
 insert-tried-requires c = search spare-sum
 
 pub settle-requires : goal.settle-requires
-settle-requires c = (search line_after, search, search)
+settle-requires c = search line_after
 
 pub returns : goal.returns
 returns c = search one-done

@@ -11,19 +11,12 @@ use Rattle.salvage.proofs.walk.take_records.Given as goal
 
 abbrev pub invariant-loop-i : goal.invariant-loop-i
 invariant-loop-i l =
-    (l.i ≤ l.count)
-    × (l.count ≤ 4096)
+    (l.i-end ≤ 4096)
     × (l.b ≤ 262143)
-    × (l.wpr ≡ l.initial.next.session.desc.wpr)
     × (good_params l.initial.next.session.desc ≡ true)
+    × (l.wpr ≡ l.initial.next.session.desc.wpr)
     × (l.next.session.desc ≡ l.initial.next.session.desc)
-    × (l.at + (l.count - l.i) * l.wpr ≤ length l.text)
-    × Spare l.next (l.count - l.i) (length l.initial.report)
-    × (length l.file ≡ length l.initial.file)
-    × (length l.buffer ≡ length l.initial.buffer)
-    × (length l.report ≡ length l.initial.report)
+    × (1 + l.i * l.wpr + (l.i-end - l.i) * l.wpr ≤ length l.text)
+    × Spare l.next (l.i-end - l.i) (length l.initial.report)
     × (run (walking l.initial.next l.initial.file l.initial.buffer l.initial.report) (places l.b 1 (records_in l.initial.next.session.desc l.text))
-    ≡ run (walking l.next l.file l.buffer l.report) (places l.b (l.i + 1) (rows_from l.wpr l.at (l.count - l.i) l.text)))
-
-abbrev pub decreases-loop-i : goal.decreases-loop-i
-decreases-loop-i l = l.count - l.i
+    ≡ run (walking l.next l.file l.buffer l.report) (places l.b (l.i + 1) (rows_from l.wpr (1 + l.i * l.wpr) (l.i-end - l.i) l.text)))

@@ -5,5 +5,5 @@ use Rattle.salvage.proofs.walk.why_not.Goals as goal
 pub returns-then-number-eq-NOT_FOUND : goal.returns-then-number-eq-NOT_FOUND
 returns-then-number-eq-NOT_FOUND c = search why-second
 
-pub returns : goal.returns
-returns c = search why-room
+pub returns-else-number-eq-NOT_FOUND : goal.returns-else-number-eq-NOT_FOUND
+returns-else-number-eq-NOT_FOUND c = search why-room

@@ -1,21 +1,15 @@
--- `searchfile::Session::open_file` meets its contract: each return is one way through OPEN.
-use Rattle.searchfile.proofs.Opening.{open-sizes, open-marks, open_twice, open-bad, open_done_lem, inspect-fit}
+-- Each return is one way through OPEN.
+use Rattle.searchfile.proofs.Opening.{open_early, open-bad, open_done_lem, inspect-fit, marks_whole}
 use Rattle.searchfile.proofs.Session.open_file.Goals as goal
 
-pub returns-then-not-is_sized : goal.returns-then-not-is_sized
-returns-then-not-is_sized c = search open-sizes
-
-pub returns-then-marks-p : goal.returns-then-marks-p
-returns-then-marks-p c = search open-marks
-
-pub returns-then-self : goal.returns-then-self
-returns-then-self c = search open_twice
-
 pub inspect-requires : goal.inspect-requires
-inspect-requires c = record { fit = search inspect-fit; marks_len = search }
+inspect-requires c = record { fit = inspect-fit _ _ _ _ c.in-Ok.ensures; marks_len = marks_whole _ _ _ _ c.in-Ok.ensures }
 
 pub returns-then-not-inspect : goal.returns-then-not-inspect
-returns-then-not-inspect c = search open-bad
+returns-then-not-inspect c = open-bad _ _ _ _ c.in-Ok.ensures _ _ c.inspect.ensures _ c.refused.ensures c.if-not-inspect.true
 
-pub returns : goal.returns
-returns c = search open_done_lem
+pub returns-else-not-inspect : goal.returns-else-not-inspect
+returns-else-not-inspect c = open_done_lem _ _ _ _ c.in-Ok.ensures _ _ c.inspect.ensures _ c.at_rest.ensures c.if-not-inspect.false
+
+pub returns-in-Err : goal.returns-in-Err
+returns-in-Err c = open_early _ _ _ _ _ _ c.refused-in-Err.ensures c.in-Err.ensures

@@ -1,20 +1,20 @@
--- `searchfile::Session::seek` meets its contract: the refusals in the table's order, then the steps of the call.
+-- The refusals in the table's order, then the steps of the call.
 use Rattle.face.proofs.Lent.{key-in-record, keyed-call}
-use Rattle.searchfile.proofs.Answers.{call-refused, call-told}
 use Rattle.face.proofs.Chains.{seek-chain}
+use Rattle.searchfile.proofs.Answers.{call-refused, call-told}
 use Rattle.searchfile.proofs.Session.seek.Goals as goal
 
-pub refused_key-number-requires : goal.refused_key-number-requires
-refused_key-number-requires c = search key-in-record
-
-pub returns-then-number-ne0 : goal.returns-then-number-ne0
-returns-then-number-ne0 c = search (call-refused seek-chain)
+pub refused_key-requires : goal.refused_key-requires
+refused_key-requires c = search key-in-record
 
 pub seek-done-requires : goal.seek-done-requires
-seek-done-requires c = (search keyed-call, search keyed-call)
+seek-done-requires c = rw c.at.ensures (search (keyed-call, c.in-Ok.ensures), search (keyed-call, c.in-Ok.ensures))
 
 pub after-requires : goal.after-requires
-after-requires c = (search keyed-call, search keyed-call)
+after-requires c = (search (keyed-call, c.in-Ok.ensures), search (keyed-call, c.in-Ok.ensures))
 
-pub returns : goal.returns
-returns c = search (call-told seek-chain)
+pub returns-in-Ok : goal.returns-in-Ok
+returns-in-Ok c = search (call-told seek-chain, c.in-Ok.ensures, rw c.at.ensures at c.seek-done.ensures)
+
+pub returns-in-Err : goal.returns-in-Err
+returns-in-Err c = search (call-refused seek-chain, c.in-Err.ensures)

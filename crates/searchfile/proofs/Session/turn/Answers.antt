@@ -2,5 +2,8 @@
 use Rattle.searchfile.proofs.TurnTold.{turn-told}
 use Rattle.searchfile.proofs.Session.turn.Goals as goal
 
-pub returns : goal.returns
-returns c = search turn-told
+pub returns-in-Ok : goal.returns-in-Ok
+returns-in-Ok c = turn-told _ _ _ _ _ _ _ c.in-Ok.ensures
+
+pub returns-in-Err : goal.returns-in-Err
+returns-in-Err c = rw c.refused.ensures (turn-told _ _ _ _ _ _ _ c.in-Err.ensures)

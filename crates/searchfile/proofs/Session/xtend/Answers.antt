@@ -1,17 +1,17 @@
--- `searchfile::Session::xtend` meets its contract: the refusals in the table's order, then the steps of the call.
+-- The refusals in the table's order, then the steps of the call.
 use Rattle.face.proofs.Lent.{keyed-call}
-use Rattle.searchfile.proofs.Answers.{call-refused, call-told}
 use Rattle.face.proofs.Chains.{xtend-chain}
+use Rattle.searchfile.proofs.Answers.{call-refused, call-told}
 use Rattle.searchfile.proofs.Session.xtend.Goals as goal
 
-pub returns-then-number-ne0 : goal.returns-then-number-ne0
-returns-then-number-ne0 c = search (call-refused xtend-chain)
-
 pub xtend-done-requires : goal.xtend-done-requires
-xtend-done-requires c = (search keyed-call, search keyed-call)
+xtend-done-requires c = rw c.at.ensures (search (keyed-call, c.in-Ok.ensures), search (keyed-call, c.in-Ok.ensures))
 
 pub after-requires : goal.after-requires
-after-requires c = (search keyed-call, search keyed-call)
+after-requires c = (search (keyed-call, c.in-Ok.ensures), search (keyed-call, c.in-Ok.ensures))
 
-pub returns : goal.returns
-returns c = search (call-told xtend-chain)
+pub returns-in-Ok : goal.returns-in-Ok
+returns-in-Ok c = search (call-told xtend-chain, c.in-Ok.ensures, rw c.at.ensures at c.xtend-done.ensures)
+
+pub returns-in-Err : goal.returns-in-Err
+returns-in-Err c = search (call-refused xtend-chain, c.in-Err.ensures)

@@ -1,19 +1,13 @@
-use mathlib.Core.Path.{sym}
-use native.Mathlib.Omega.{arith}
-use Rattle.sequential.proofs.Good.{good-no, good-last}
+use Rattle.std.proofs.Common.{arith}
+use Rattle.std.proofs.lemmas.Bool.Decides.{nat_tests}
+use Rattle.std.proofs.lemmas.Grind.{common_steps}
+use Rattle.sequential.specs.Rows.{good_layout}
 use Rattle.sequential.proofs.plan.is_good.Goals as goal
 
-pub returns-then-wpb-ne0 : goal.returns-then-wpb-ne0
-returns-then-wpb-ne0 c = sym (good-no _ λ g. omega arith)
+pub returns-then-l-le63 : goal.returns-then-l-le63
+unfolding good_layout
+returns-then-l-le63 c = grind (arith, nat_tests)
 
-pub returns-then-wpb-lt6 : goal.returns-then-wpb-lt6
-returns-then-wpb-lt6 c = sym (good-no _ λ g. omega arith)
-
-pub returns-then-wpb-gt4096 : goal.returns-then-wpb-gt4096
-returns-then-wpb-gt4096 c = sym (good-no _ λ g. omega arith)
-
-pub returns-then-l-gt63 : goal.returns-then-l-gt63
-returns-then-l-gt63 c = sym (good-no _ λ g. omega arith)
-
-pub returns : goal.returns
-returns c = search good-last
+pub returns-else-l-le63 : goal.returns-else-l-le63
+unfolding good_layout
+returns-else-l-le63 c = grind (arith, common_steps)

@@ -1,24 +1,20 @@
-use Rattle.std.proofs.lemmas.Bool.{not_from_true}
-use native.Mathlib.Omega.{arith}
-use Rattle.sequential.proofs.Spots.{sized-bad, sized-least, sized-leaders, sized-part, sized-fixed, sized-variable}
+use mathlib.Core.Path.{sym, ◌∙◌}
+use Rattle.std.proofs.Common.{arith}
+use Rattle.std.proofs.lemmas.Bool.Decides.{nat_tests}
+use Rattle.sequential.specs.Rows.{sized, whole}
+use Rattle.sequential.proofs.Good.{good-facts}
 use Rattle.sequential.proofs.plan.is_sized.Goals as goal
 
-pub returns-then-not-is_good : goal.returns-then-not-is_good
-returns-then-not-is_good c = search sized-bad
-
 pub nonzero_rem-file : goal.nonzero_rem-file
-nonzero_rem-file c = let h = sized-least _ 0 0 _ c.is_good.ensures (not_from_true _ c.if-not-is_good.false) in omega arith
+nonzero_rem-file c = let g = good-facts _ (sym c.is_good.ensures ∙ c.if-is_good.true) in omega arith
 
-pub returns-then-file-wpb-ne0 : goal.returns-then-file-wpb-ne0
-returns-then-file-wpb-ne0 c = search sized-part
+pub work_words-requires : goal.work_words-requires
+work_words-requires c = record { good = grind (arith, nat_tests) }
 
-pub overflow_sub-result : goal.overflow_sub-result
-overflow_sub-result c =
-    let h = sized-leaders _ 0 0 _ c.is_good.ensures (not_from_true _ c.if-not-is_good.false) in
-    omega arith
+pub returns-then-file-l-eq0 : goal.returns-then-file-l-eq0
+unfolding sized whole
+returns-then-file-l-eq0 c = grind (arith, nat_tests)
 
-pub returns-in-Fixed : goal.returns-in-Fixed
-returns-in-Fixed c = search sized-fixed
-
-pub returns-in-Variable : goal.returns-in-Variable
-returns-in-Variable c = search sized-variable
+pub returns-else-file-l-eq0 : goal.returns-else-file-l-eq0
+unfolding sized whole
+returns-else-file-l-eq0 c = grind (arith, nat_tests)

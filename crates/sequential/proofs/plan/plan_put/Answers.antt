@@ -1,31 +1,77 @@
-use Rattle.std.proofs.lemmas.Bool.{not_from_true}
+-- The steps of the definition, one after the other.
+use mathlib.Core.Path.{refl, sym, ◌∙◌}
 use native.Mathlib.Omega.{arith}
-use Rattle.sequential.proofs.Spots.{put-size, get-leaders, put-empty, put-none, put-large, put-past, put-block, put_full, put-found}
+use borrow.Author.Tests.{ltb-true}
+use Rattle.numbers.proofs.Exits.{handed}
+use Rattle.numbers.proofs.Passed.{required}
+use Rattle.sequential.specs.Rows.{blocks}
+use Rattle.sequential.specs.Calls.{put_spot}
+use Rattle.sequential.proofs.Good.{good-facts}
+use Rattle.sequential.proofs.Spots.{sized-fine, sized-block}
 use Rattle.sequential.proofs.plan.plan_put.Goals as goal
 
-pub returns-then-not-is_sized : goal.returns-then-not-is_sized
-returns-then-not-is_sized c = search put-size
+pub returns-in_err-require : goal.returns-in_err-require
+unfolding put_spot
+returns-in_err-require c = handed _ _ _ c.from_residual.ensures.1 (rw (← c.is_sized.ensures, ← c.in_err-require.ensures) refl)
 
-pub overflow_sub-area : goal.overflow_sub-area
-overflow_sub-area c = let b = get-leaders _ _ _ _ c.is_sized.ensures (not_from_true _ c.if-not-is_sized.false) in omega arith
+pub is_right-requires : goal.is_right-requires
+is_right-requires c = sized-fine c.args.l _ _ (sym c.is_sized.ensures ∙ required _ _ _ (sym c.in_ok-require.ensures))
 
-pub returns-then-work-eq0 : goal.returns-then-work-eq0
-returns-then-work-eq0 c = search put-empty
+pub returns-in_err-require-2 : goal.returns-in_err-require-2
+unfolding put_spot
+returns-in_err-require-2 c =
+    handed _ _ _ c.from_residual-in_err-require-2.ensures.1
+    (rw (← c.is_sized.ensures, ← c.in_ok-require.ensures, ← c.size_at-n.ensures, ← c.is_right.ensures, ← c.in_err-require-2.ensures) refl)
 
-pub returns-then-n-lt1 : goal.returns-then-n-lt1
-returns-then-n-lt1 c = search put-none
+pub nonzero_div-blocks : goal.nonzero_div-blocks
+nonzero_div-blocks c =
+    let f = sized-fine c.args.l _ _ (sym c.is_sized.ensures ∙ required _ _ _ (sym c.in_ok-require.ensures)) in
+    let g = good-facts c.args.l f.good in
+    omega arith
 
-pub returns-then-area-n : goal.returns-then-area-n
-returns-then-area-n c = search put-large
-
-pub returns-then-blocks-place : goal.returns-then-blocks-place
-returns-then-blocks-place c = search put-past
+pub returns-in_err-require-3 : goal.returns-in_err-require-3
+unfolding put_spot blocks
+returns-in_err-require-3 c =
+    handed _ _ _ c.from_residual-in_err-require-3.ensures.1
+    (rw (
+      ← c.is_sized.ensures,
+      ← c.in_ok-require.ensures,
+      ← c.size_at-n.ensures,
+      ← c.is_right.ensures,
+      ← c.in_ok-require-2.ensures,
+      ← c.in_err-require-3.ensures,
+    ) refl)
 
 pub put_place-q-requires : goal.put_place-q-requires
-put_place-q-requires c = search put-block
+put_place-q-requires c =
+    let b = ltb-true _ _ (required _ _ _ (sym c.in_ok-require-3.ensures)) in
+    sized-block c.args.l _ _ _ (sym c.is_sized.ensures ∙ required _ _ _ (sym c.in_ok-require.ensures)) b
 
-pub returns-then-blocks-q : goal.returns-then-blocks-q
-returns-then-blocks-q c = search put_full
+pub returns-in_err-require-4 : goal.returns-in_err-require-4
+unfolding put_spot blocks
+returns-in_err-require-4 c =
+    handed _ _ _ c.from_residual-in_err-require-4.ensures.1
+    (rw (
+      ← c.is_sized.ensures,
+      ← c.in_ok-require.ensures,
+      ← c.size_at-n.ensures,
+      ← c.is_right.ensures,
+      ← c.in_ok-require-2.ensures,
+      ← c.in_ok-require-3.ensures,
+      ← c.put_place-q.ensures,
+      ← c.in_err-require-4.ensures,
+    ) refl)
 
 pub returns : goal.returns
-returns c = search put-found
+unfolding put_spot blocks
+returns c =
+    rw (
+      ← c.is_sized.ensures,
+      ← c.in_ok-require.ensures,
+      ← c.size_at-n.ensures,
+      ← c.is_right.ensures,
+      ← c.in_ok-require-2.ensures,
+      ← c.in_ok-require-3.ensures,
+      ← c.put_place-q.ensures,
+      ← c.in_ok-require-4.ensures,
+    ) refl

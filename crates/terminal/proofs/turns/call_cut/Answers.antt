@@ -3,7 +3,7 @@ use native.Mathlib.Omega.{arith}
 use lib.ListN.{length-take}
 use borrow.Author.Rules.{rules}
 use Rattle.terminal.proofs.Rooms.{block-most, record-most, blocks-most, key-numbers, record-numbers, key-work, record-work, marks-long, out-room}
-use Rattle.terminal.proofs.Rooms.{printed-within, still-playable, size_small}
+use Rattle.terminal.proofs.Rooms.{turned-within, size_small}
 use Rattle.terminal.proofs.turns.call_cut.Goals as goal
 
 pub slice_bounds-call_line-end-3 : goal.slice_bounds-call_line-end-3
@@ -43,5 +43,5 @@ call_line-requires c = (
 pub returns : goal.returns
 returns c =
     let p = c.requires in
-    let e = c.call_line.ensures.desc_value in
-    (still-playable _ _ e.0 p.1, printed-within _ _ _ _ _ _ e.1 p.2 p.1 p.0)
+    let e = c.call_line.ensures in
+    turned-within _ _ _ _ _ _ e.desc_value e.at_bound p.2 p.1 p.0

@@ -2,14 +2,14 @@
 use Rattle.turn.proofs.Changes.{index-turns, detail-turns, link-turns, none-turns}
 use Rattle.turn.proofs.blocks.turn_block.Goals as goal
 
-pub returns-then-mark-eq-INDEX : goal.returns-then-mark-eq-INDEX
-returns-then-mark-eq-INDEX c = search index-turns
+pub returns-in-3 : goal.returns-in-3
+returns-in-3 c = search index-turns
 
-pub returns-then-mark-eq-REACHED : goal.returns-then-mark-eq-REACHED
-returns-then-mark-eq-REACHED c = search detail-turns
+pub returns-in-1 : goal.returns-in-1
+returns-in-1 c = search detail-turns
 
-pub returns-then-mark-eq-CHAINED : goal.returns-then-mark-eq-CHAINED
-returns-then-mark-eq-CHAINED c = search link-turns
+pub returns-in-2 : goal.returns-in-2
+returns-in-2 c = search link-turns
 
-pub returns-else-mark-eq-CHAINED : goal.returns-else-mark-eq-CHAINED
-returns-else-mark-eq-CHAINED c = search none-turns
+pub returns-in_default : goal.returns-in_default
+returns-in_default c = search none-turns

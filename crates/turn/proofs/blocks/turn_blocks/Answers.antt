@@ -1,6 +1,5 @@
 -- What is left to turn gives the whole, and the blocks not yet turned are as they were.
 use mathlib.Core.Path.{refl}
-use Prim.Native.Nat.{◌-◌}
 use native.Mathlib.Omega.{arith}
 use Rattle.turn.proofs.Steps.{first-turn, turn-ready, turn-next, rest-next, turn_end}
 use Rattle.turn.proofs.blocks.turn_blocks.Goals as goal

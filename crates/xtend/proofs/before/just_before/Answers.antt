@@ -1,28 +1,28 @@
 -- In the same index block, or in the section before.
-use Rattle.xtend.proofs.Decided.{index-some}
-use Rattle.xtend.proofs.Behind.{entry_other, entry-same, section-other, section-same, entry_next, section-next}
+use borrow.Author.Tests.{eq-eqb, ne_eqb}
+use Rattle.rules.specs.Xtend.{just_before}
+use Rattle.lookup.proofs.Sizes.{text-some}
+use Rattle.xtend.proofs.Rows.{entry_next}
 use Rattle.xtend.proofs.before.just_before.Goals as goal
 
+pub entries_in-n-requires : goal.entries_in-n-requires
+entries_in-n-requires c = search text-some
+
 pub returns-then-q-w : goal.returns-then-q-w
-returns-then-q-w c = search entry_other
+unfolding just_before
+returns-then-q-w c = simp (eq-eqb _ _ c.if-w-eq0.true, eq-eqb _ _ c.if-q-w.true, ← c.text_of.ensures, ← c.entries_in-n.ensures)
 
-pub overflow_add-result : goal.overflow_add-result
-overflow_add-result c = search entry_next
+pub returns-else-q-w : goal.returns-else-q-w
+unfolding just_before
+returns-else-q-w c = simp (eq-eqb _ _ c.if-w-eq0.true, ne_eqb _ _ c.if-q-w.false)
 
-pub returns-then-w-ne0 : goal.returns-then-w-ne0
-returns-then-w-ne0 c = search entry-same
-
-pub overflow_add-q : goal.overflow_add-q
-overflow_add-q c = search section-next
+pub overflow_add-result-then-q-w-2 : goal.overflow_add-result-then-q-w-2
+overflow_add-result-then-q-w-2 c = search entry_next
 
 pub returns-then-q-w-2 : goal.returns-then-q-w-2
-returns-then-q-w-2 c = search section-other
+unfolding just_before
+returns-then-q-w-2 c = simp (ne_eqb _ _ c.if-w-eq0.false, eq-eqb _ _ c.if-q-w-2.true)
 
-pub overflow_add-result-2 : goal.overflow_add-result-2
-overflow_add-result-2 c = search entry_next
-
-pub entries_in-requires : goal.entries_in-requires
-entries_in-requires c = search index-some
-
-pub returns : goal.returns
-returns c = search section-same
+pub returns-else-q-w-2 : goal.returns-else-q-w-2
+unfolding just_before
+returns-else-q-w-2 c = simp (ne_eqb _ _ c.if-w-eq0.false, ne_eqb _ _ c.if-q-w-2.false)

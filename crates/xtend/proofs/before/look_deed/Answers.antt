@@ -1,21 +1,24 @@
 -- The path, what it shows, and else the plan of NSERT.
-use Rattle.xtend.proofs.Behind.{look-lost, look-path, look_stop, look-insert}
+use mathlib.Core.Path.{refl}
+use Rattle.numbers.proofs.Exits.{handed}
+use Rattle.rules.specs.Xtend.{look_deed}
+use Rattle.xtend.proofs.Ways.{by-key}
 use Rattle.xtend.proofs.before.look_deed.Goals as goal
 
-pub returns-in_default : goal.returns-in_default
-returns-in_default c = search look-lost
+pub returns-in_err-q : goal.returns-in_err-q
+unfolding look_deed
+returns-in_err-q c = handed _ _ _ c.from_residual.ensures.1 (rw (← c.in_err-q.ensures) refl)
 
 pub not_behind-requires : goal.not_behind-requires
-not_behind-requires c = (search, search, search look-path)
+not_behind-requires c = (search, by-key _ _ _ _ _ _ c.in_ok-q.ensures)
 
 pub returns-then-not_behind : goal.returns-then-not_behind
-returns-then-not_behind c = search look_stop
+unfolding look_deed
+returns-then-not_behind c = rw (← c.in_ok-q.ensures, ← c.not_behind.ensures, c.if-not_behind.true) refl
 
-pub place_of-i-requires : goal.place_of-i-requires
-place_of-i-requires c = (search, search, search look-path)
-
-pub insert_at-d-requires : goal.insert_at-d-requires
-insert_at-d-requires c = (search, search look-path)
+pub insert_before-requires : goal.insert_before-requires
+insert_before-requires c = (search, by-key _ _ _ _ _ _ c.in_ok-q.ensures)
 
 pub returns : goal.returns
-returns c = search look-insert
+unfolding look_deed
+returns c = rw (← c.in_ok-q.ensures, ← c.not_behind.ensures, c.if-not_behind.false) c.insert_before.ensures

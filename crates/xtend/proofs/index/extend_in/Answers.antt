@@ -1,13 +1,20 @@
--- The count stays while the bound changes, so the entry goes behind the last row.
+-- The block's own words are lent, and come back with the bound and the entry.
 use native.Mathlib.Omega.{arith}
-use Rattle.xtend.proofs.Sections.{key-most, number-most, entry-most, bound-takes, extended-told}
+use Rattle.drum.proofs.Lent.{lies-end}
+use Rattle.xtend.proofs.Sections.{room-lent, extended-back}
 use Rattle.xtend.proofs.index.extend_in.Goals as goal
 
-pub ones_entry-entry-requires : goal.ones_entry-entry-requires
-ones_entry-entry-requires c = (omega (arith, key-most), omega (arith, number-most))
+pub overflow_add-end : goal.overflow_add-end
+overflow_add-end c = omega (arith, lies-end)
 
-pub insert_in-requires : goal.insert_in-requires
-insert_in-requires c = (record { good = search; file-is = omega arith; least = search; most = search }, search bound-takes, search entry-most)
+pub offset_bounds-file-start : goal.offset_bounds-file-start
+offset_bounds-file-start c = omega (arith, lies-end)
+
+pub slice_bounds-extend-end : goal.slice_bounds-extend-end
+slice_bounds-extend-end c = omega (arith, lies-end)
+
+pub extend-requires : goal.extend-requires
+extend-requires c = search room-lent
 
 pub returns : goal.returns
-returns c = search extended-told
+returns c = search extended-back

@@ -1,9 +1,6 @@
 -- The first word of that text.
-use Rattle.xtend.proofs.Ways.{at_some, count-told}
+use Rattle.xtend.proofs.Ways.{at_some}
 use Rattle.xtend.proofs.last.count_at.Goals as goal
 
 pub records_in-requires : goal.records_in-requires
 records_in-requires c = search at_some
-
-pub returns : goal.returns
-returns c = search count-told

@@ -1,23 +1,28 @@
 -- Whether a block is buffered, and what its last key is, decides where the way begins.
-use native.Mathlib.Omega.{arith}
-use Rattle.xtend.proofs.Rows.{buffer-long}
-use Rattle.xtend.proofs.Ways.{held-records, way-here, way-bad, way-none, way-other}
+use mathlib.Core.Path.{refl}
+use Rattle.numbers.proofs.Exits.{handed}
+use Rattle.rules.specs.Xtend.{last_way}
+use Rattle.lookup.proofs.Fits.{test-and}
+use Rattle.xtend.proofs.Ways.{held-records}
 use Rattle.xtend.proofs.last.last_way.Goals as goal
+use Rattle.xtend.proofs.last.last_way.Goals.{else-branch-via-then-branch+else-ends_in_ones, else-branch-via-else-branch}
 
-pub on_buffer-held-requires : goal.on_buffer-held-requires
-on_buffer-held-requires c = omega (arith, buffer-long)
+pub returns-in_err-on_buffer : goal.returns-in_err-on_buffer
+unfolding last_way
+returns-in_err-on_buffer c = handed _ _ _ c.from_residual.ensures.1 (rw (test-and _ _, ← c.in_err-on_buffer.ensures) refl)
 
 pub ends_in_ones-requires : goal.ends_in_ones-requires
-ends_in_ones-requires c = search held-records
+ends_in_ones-requires c = held-records _ _ _ _ _ c.in_ok-on_buffer.ensures c.if-branch.true c.args.v.fits
 
 pub returns-then-ends_in_ones : goal.returns-then-ends_in_ones
-returns-then-ends_in_ones c = search way-here
+unfolding last_way
+returns-then-ends_in_ones c = rw (test-and _ _, ← c.in_ok-on_buffer.ensures, c.if-branch.true, ← c.if-ends_in_ones.ensures) refl
 
-pub returns-in-Bad : goal.returns-in-Bad
-returns-in-Bad c = search way-bad
-
-pub returns-in-No : goal.returns-in-No
-returns-in-No c = search way-none
-
-pub returns-else-ends_in_ones : goal.returns-else-ends_in_ones
-returns-else-ends_in_ones c = search way-other
+pub returns : goal.returns
+unfolding last_way
+returns c =
+    elim c.else-branch.branch [
+      | else-branch-via-then-branch+else-ends_in_ones w ↦
+          rw (test-and _ _, ← c.in_ok-on_buffer.ensures, w.if-branch.true, ← w.if-ends_in_ones.ensures) c.last_outside.ensures
+      | else-branch-via-else-branch w ↦ rw (test-and _ _, ← c.in_ok-on_buffer.ensures, w.if-branch.false) c.last_outside.ensures
+    ]

@@ -1,15 +1,21 @@
 -- The path, and the bound before its block.
-use Rattle.xtend.proofs.Decided.{last-path, alone-look, alone-lost, alone-room}
+use mathlib.Core.Path.{refl}
+use Rattle.numbers.proofs.Exits.{handed}
+use Rattle.rules.specs.Xtend.{alone_deed}
+use Rattle.xtend.proofs.Ways.{to-last}
 use Rattle.xtend.proofs.plan.alone_deed.Goals as goal
 
-pub returns-in_default : goal.returns-in_default
-returns-in_default c = search alone-lost
+pub returns-in_err-w : goal.returns-in_err-w
+unfolding alone_deed
+returns-in_err-w c = handed _ _ _ c.from_residual.ensures.1 (rw (← c.in_err-w.ensures) refl)
 
 pub not_above_before-requires : goal.not_above_before-requires
-not_above_before-requires c = (search, search, search last-path)
+not_above_before-requires c = (search, to-last _ _ _ _ _ _ c.in_ok-w.ensures c.requires.1)
 
 pub returns-then-not_above_before : goal.returns-then-not_above_before
-returns-then-not_above_before c = search alone-look
+unfolding alone_deed
+returns-then-not_above_before c = rw (← c.in_ok-w.ensures, ← c.not_above_before.ensures, c.if-not_above_before.true) c.look_deed.ensures
 
 pub returns : goal.returns
-returns c = search alone-room
+unfolding alone_deed
+returns c = rw (← c.in_ok-w.ensures, ← c.not_above_before.ensures, c.if-not_above_before.false) c.last_room.ensures

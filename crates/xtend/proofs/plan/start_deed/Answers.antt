@@ -1,15 +1,23 @@
 -- The new block, if there is one, and the number that goes with it.
-use Rattle.xtend.proofs.Decided.{start-bad, start_none, start-lost, start_is}
+use mathlib.Core.Path.{refl}
+use borrow.Author.Tests.{eq-eqb, ne_eqb}
+use Rattle.numbers.proofs.Exits.{handed}
+use Rattle.rules.specs.Xtend.{start_deed}
 use Rattle.xtend.proofs.plan.start_deed.Goals as goal
 
-pub returns-in_default : goal.returns-in_default
-returns-in_default c = search start-bad
+pub returns-in_err-d : goal.returns-in_err-d
+unfolding start_deed
+returns-in_err-d c = handed _ _ _ c.from_residual.ensures.1 (rw (← c.in_err-d.ensures) refl)
 
 pub returns-then-d-eq0 : goal.returns-then-d-eq0
-returns-then-d-eq0 c = search start_none
+unfolding start_deed
+returns-then-d-eq0 c = rw (← c.in_ok-d.ensures, eq-eqb _ _ c.if-d-eq0.true) refl
 
-pub returns-in_default-stored : goal.returns-in_default-stored
-returns-in_default-stored c = search start-lost
+pub returns-in_err-number : goal.returns-in_err-number
+unfolding start_deed
+returns-in_err-number c =
+    handed _ _ _ c.from_residual-in_err-number.ensures.1 (rw (← c.in_ok-d.ensures, ne_eqb _ _ c.if-d-eq0.false, ← c.in_err-number.ensures) refl)
 
 pub returns : goal.returns
-returns c = search start_is
+unfolding start_deed
+returns c = rw (← c.in_ok-d.ensures, ne_eqb _ _ c.if-d-eq0.false, ← c.in_ok-number.ensures) refl
