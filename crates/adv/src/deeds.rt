@@ -1,4 +1,5 @@
 // The record that ADV comes to, brought to the workspace.
+// What a call holds, the file and the buffer stay three parameters (why: crate acts).
 ghost use Rattle.std.specs.Prelude.{◌≡◌, ◌+◌, ◌≤◌, length};
 ghost use Rattle.table.specs.Tables.{place, row};
 ghost use Rattle.drum.specs.Params.{detail_shape};

@@ -1,4 +1,5 @@
 // ADV, once the session and the workspace are checked.
+// What a call holds, the file and the buffer stay three parameters (why: crate acts).
 #![tactic(auto)]
 
 mod deeds;
@@ -16,6 +17,7 @@ pub use plan::plan_adv;
 use rules::{Done, Held};
 
 // Brings the record with the least key above position: planned from current texts, then done.
+// `placed` and `position` stay two (why: `plan_adv`).
 pub fn adv(
     at: Held,
     placed: bool,

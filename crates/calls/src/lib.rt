@@ -37,6 +37,7 @@ fn stage(call: Call, p: Description, words: &[u32], work: &mut [u32]) -> bool
 
 // Performs one call: its key or record is put into the workspace, and the session's method of its kind is called. A key or record that has no
 // room, in the words or in the workspace, is refused before anything is changed.
+// File, buffer, workspace and marks are lent one by one, as the session's methods take them; the refusal is made by hand, as searchfile's own is private.
 pub fn perform(
     call: Call,
     words: &[u32],

@@ -1,4 +1,5 @@
 // The copying call for programs in other languages.
+// Why the equal bodies are not one function over a closure: lib.rt.
 ghost use Rattle.std.specs.Prelude.{◌≡◌};
 ghost use Rattle.capi.specs.Copying.{returned_copy, called_copy};
 

@@ -1,4 +1,5 @@
 // The name register for programs in other languages: the register's calls, with the session as words. A listing is `nasturakh_adv`.
+// Why the equal bodies are not one function over a closure: lib.rt.
 ghost use Rattle.std.specs.Prelude.{◌≡◌};
 ghost use Rattle.register.specs.Register.{enter, ask, romanise, hold, free};
 ghost use Rattle.capi.specs.Calls.{returned, called};

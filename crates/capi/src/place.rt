@@ -1,4 +1,4 @@
-// Where the current text of a block lies, as one 64-bit number: 0 nowhere, 2^32 plus a word offset in the file, 2^33 in the buffer.
+// Where the current text of a block lies, as one 64-bit number (the C interface): 0 nowhere, 2^32 plus a word offset in the file, 2^33 in the buffer.
 ghost use Rattle.std.specs.Prelude.{◌≡◌, true, [], ◌+◌, ◌≤◌};
 ghost use Rattle.drum.specs.Params.{good_params, start};
 ghost use Rattle.searchfile.specs.Promise.{given};

@@ -10,7 +10,7 @@ use drum::Description;
 
 pub const PLAN_WORDS: usize = 8;
 
-// Says that there is no plan: more than any plan can cost.
+// Says that there is no plan, and no Option (the C interface): more than any plan can cost.
 pub const NO_PLAN: u64 = u64::MAX;
 
 // The parameters to plan by: those of a session's words, where they are in range.

@@ -1,5 +1,6 @@
 // Salvage, for programs in other languages. The sum of the transfers may need more than 32 bits, so the number is returned alone and the two figures go to
 // words that are lent for them.
+// Why the equal bodies are not one function over a closure: lib.rt.
 ghost use Rattle.std.specs.Prelude.{◌≡◌};
 ghost use Rattle.capi.specs.Salvage.{returned_salvage, called_salvage};
 

@@ -1,4 +1,5 @@
 // The space of so many names for programs in other languages: what a planner asks before a file is made.
+// Why the equal bodies are not one function over a closure: lib.rt.
 ghost use Rattle.std.specs.Prelude.{◌≡◌};
 ghost use Rattle.demands.specs.Space.{most_sections, most_blocks};
 ghost use Rattle.capi.specs.Space.{space_in};

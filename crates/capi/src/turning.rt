@@ -1,4 +1,5 @@
 // The turning call for programs in other languages.
+// Why the equal bodies are not one function over a closure: lib.rt.
 ghost use Rattle.std.specs.Prelude.{◌≡◌};
 ghost use Rattle.capi.specs.Turning.{returned_turn, called_turn};
 

@@ -1,5 +1,6 @@
 // The archive of the calls for programs in other languages: each function is the one of `capi` that has its name, with that one's clauses. A session is
 // lent as 73 or 74 words, every slice is a pointer and a length, and a call's answer is one number: its transfers times 2^32, plus its number.
+// Said again here: a crate is a library or a static library, and `creading` stands on `capi` (the C interface).
 #![tactic(auto)]
 
 mod copying;

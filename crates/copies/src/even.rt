@@ -22,6 +22,7 @@ fn description() -> Description {
         .with_n(3)
 }
 
+// Made and opened here, as in each such program: one function in `said` would have to promise again what `create` and `open_file` promise.
 pub fn run(out: &impl Print) -> io::Result<()> {
     let mut file = [0u32; 30];
     let mut buffer = [0u32; 8];

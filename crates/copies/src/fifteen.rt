@@ -1,4 +1,5 @@
 // The fifteen calls of the printed session; their file copied to CONTROL 5, then copies into the same words that are refused.
+// File and buffer stay two parameters, the calls functions of each program: a struct of lent words, as in `plays`, is longer than what it spares here.
 use super::shown::copied;
 use drum::Description;
 use said::told;
@@ -43,13 +44,13 @@ fn changed(
     file: &mut [u32; 40],
     buffer: &mut [u32; 8],
 ) -> io::Result<Session> {
-    let mut s = nsert(out, start, file, buffer, [10, 1, 2])?;
-    s = nsert(out, s, file, buffer, [20, 3, 4])?;
-    s = nsert(out, s, file, buffer, [5, 7, 7])?;
-    s = nsert(out, s, file, buffer, [15, 6, 6])?;
-    s = nsert(out, s, file, buffer, [12, 0, 0])?;
-    s = dlete(out, s, file, buffer, 5)?;
-    s = dlete(out, s, file, buffer, 10)?;
+    let mut s = start;
+    for record in [[10, 1, 2], [20, 3, 4], [5, 7, 7], [15, 6, 6], [12, 0, 0]] {
+        s = nsert(out, s, file, buffer, record)?;
+    }
+    for key in [5, 10] {
+        s = dlete(out, s, file, buffer, key)?;
+    }
     s = xtend(out, s, file, buffer, [30, 8, 9])?;
     xtend(out, s, file, buffer, [25, 0, 0])
 }
@@ -97,6 +98,7 @@ fn description() -> Description {
         .with_n(4)
 }
 
+// Made and opened here, as in each such program: one function in `said` would have to promise again what `create` and `open_file` promise.
 pub fn run(out: &impl Print) -> io::Result<()> {
     let mut file = [0u32; 40];
     let mut buffer = [0u32; 8];

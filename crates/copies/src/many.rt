@@ -80,6 +80,7 @@ fn enough(out: &impl Print, s: Session, file: &[u32]) -> io::Result<()> {
     used(out, &mut second)
 }
 
+// Made and opened here, as in each such program: one function in `said` would have to promise again what `create` and `open_file` promise.
 pub fn run(out: &impl Print) -> io::Result<()> {
     let mut file = [0u32; 130004];
     let mut buffer = [0u32; 6];

@@ -41,6 +41,7 @@ fn entries_end(p: Description, file: &[u32]) -> usize
 }
 
 // The words of the master, of good parameters.
+// Kept for its promise: of good parameters the size is the formula, with no case for others.
 fn master_of(p: Description) -> usize
     requires { good_params p ≡ true }
     ensures { result ≡ master_size p }
@@ -49,6 +50,7 @@ fn master_of(p: Description) -> usize
 }
 
 // The words of the master with the new CONTROL.
+// Kept for its promise, likewise.
 fn new_master(p: Description, control: usize) -> usize
     requires { good_params (under_control control p) ≡ true }
     ensures { result ≡ master_size (under_control control p) }

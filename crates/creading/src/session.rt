@@ -21,6 +21,7 @@ pub fn unflagged_in(words: &[u32]) -> Option<Session>
 }
 
 // The reading session that the words are, where they are one's.
+// By hand, as the next: neither of the two types is this crate's, so no From can stand here.
 pub fn reading_in(words: &[u32]) -> Option<ReadingSession>
     ensures yes { IfSome result (λ s. is_reading words.now ≡ true) }
     ensures same { IfSome result (λ s. as_session s ≡ session_of words.now) }

@@ -1,4 +1,5 @@
 // The reading set's archive for programs in other languages: each function is the one of `creading` that has its name, with that one's clauses.
+// Said again here: a crate is a library or a static library, and the functions are those of a library (the C interface).
 #![tactic(auto)]
 
 ghost use Rattle.std.specs.Prelude.{◌≡◌, []};

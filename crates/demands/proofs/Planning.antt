@@ -14,17 +14,17 @@ use Rattle.demands.specs.Space.{most_details, most_sections, most_blocks}
 
 module _ (p : Description) (plan : Plan) where
   -- the detail blocks: the records by the larger half of D, and by FD
-  pub details-by : (a b records half d d₀ fd fd₀ : ℕ) → a ≡ records / half → b ≡ records / fd → records ≡ plan.records
-      → half ≡ (d + 1) / 2 → d ≡ d₀ → d₀ ≡ D p → fd ≡ fd₀ → fd₀ ≡ FD p → a + b ≡ plan_details p plan
+  pub details-by : (r records d d₀ fd fd₀ : ℕ) → r ≡ records / ((d + 1) / 2) + records / fd → records ≡ plan.records
+      → d ≡ d₀ → d₀ ≡ D p → fd ≡ fd₀ → fd₀ ≡ FD p → r ≡ plan_details p plan
   unfolding plan_details h_d
-  details-by a b records half d d₀ fd fd₀ ea eb er eh ed e₀ ef e₁ = rw (ea, eb, eh, er, ed, e₀, ef, e₁)
+  details-by r records d d₀ fd fd₀ e er ed e₀ ef e₁ = rw (e, er, ed, e₀, ef, e₁)
 
   -- all transfers: the shares, 4 for each detail block, 1 for each index block
-  pub transfers-by : (shares details a b half i i₀ fi fi₀ : ℕ) → a ≡ details / half → b ≡ details / fi → shares ≡ plan_shares plan
-      → details ≡ plan_details p plan → half ≡ (i + 1) / 2 → i ≡ i₀ → i₀ ≡ I p → fi ≡ fi₀ → fi₀ ≡ FI p
-      → shares + 4 * details + (a + b) ≡ planned p plan
+  pub transfers-by : (shares details r i i₀ fi fi₀ : ℕ) → r ≡ details / ((i + 1) / 2) + details / fi → shares ≡ plan_shares plan
+      → details ≡ plan_details p plan → i ≡ i₀ → i₀ ≡ I p → fi ≡ fi₀ → fi₀ ≡ FI p
+      → shares + 4 * details + r ≡ planned p plan
   unfolding planned plan_indexes h_i
-  transfers-by shares details a b half i i₀ fi fi₀ ea eb es ed eh ei e₀ ef e₁ = rw (ea, eb, es, ed, eh, ei, e₀, ef, e₁)
+  transfers-by shares details r i i₀ fi fi₀ e es ed ei e₀ ef e₁ = rw (e, es, ed, ei, e₀, ef, e₁)
 
 -- ---- the space of so many names
 

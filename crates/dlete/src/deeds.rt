@@ -1,4 +1,5 @@
 // What DLETE does once it is planned.
+// What a call holds, the file and the buffer stay three parameters (why: crate acts).
 ghost use Rattle.std.specs.Prelude.{◌≡◌, true, false, [], length};
 ghost use Rattle.numbers.specs.Numbers.{done};
 ghost use Rattle.numbers.specs.Checked.{passed};
@@ -49,6 +50,7 @@ fn gone_in(p: Description, file: &mut [u32], buffer: &mut [u32], b: usize, j: us
 
 // The stores up to the index block: a flagged buffer, the index block's current text, which may stand in the buffer alone, and the emptied
 // block with its link.
+// Way, path and link stay three, here and below, with no struct as in nsert: the definitions take them one by one, from the variants of `Delete`.
 fn free_detail(at: Held, file: &mut [u32], buffer: &[u32], way: Way, w: Path, link: usize) -> usize
     requires { Fitting at.desc file.old buffer.now × EmptyFits (seen_by at file.old buffer.now) at.flag way w link }
     ensures { (result ≡ length (reached (seen_by at file.old buffer.now) at.flag way).moves)

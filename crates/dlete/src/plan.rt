@@ -1,4 +1,6 @@
 // What DLETE will do, decided from current texts alone.
+// Key and path stay plain, and what they must be stays a clause: as ghost fields both would name v, and each would hold for one v alone.
+// The flag stands beside v: it is no part of a Seen, whose texts have none.
 ghost use Rattle.std.specs.Prelude.{◌≡◌, [], ◌≤◌, length};
 ghost use Rattle.words.specs.Words.{part};
 ghost use Rattle.numbers.specs.Refused.{checked};

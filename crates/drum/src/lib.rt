@@ -65,6 +65,7 @@ impl Description {
         }
     }
 
+    // One for each field: users set a description up by these names.
     pub fn with_wpb(mut self, x: usize) -> Self
         ensures { result
             ≡ record
@@ -149,6 +150,7 @@ impl Description {
     }
 
     // I: entries that an index block holds.
+    // 0 where it holds none, and no Option: what callers use may not change.
     pub fn i(self) -> usize
         ensures { result ≡ I self }
     {
@@ -175,6 +177,7 @@ impl Description {
     }
 
     // Where a free block has its link.
+    // Beside `tag`: a place, where that is a kind.
     pub fn link_place(self) -> usize
         ensures { result ≡ link_place self }
     {
@@ -227,6 +230,7 @@ impl Description {
     }
 
     // The words of the master; 0 where the parameters are not good. It and the file's stay two functions, each of its own definition.
+    // 0 and no Option, here and for the file: what callers use may not change.
     pub fn master_size(self) -> usize
         ensures { result ≡ size_if self (master_size self) }
     {

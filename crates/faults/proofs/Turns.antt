@@ -20,19 +20,19 @@ use Rattle.faults.specs.Nearest.{same, agreeing, nearer, nearest_in}
 use Rattle.faults.specs.Sentences.{visible, visibles}
 
 -- what is to be looked at from here on comes to what the whole comes to
-module _ (w₀ w : Watch) (from at : ℕ) (bytes : List ℕ) (e : watched w₀ (drop from bytes) ≡ watched w (drop at bytes)) where
-  pub look-out : length bytes ≤ at → w ≡ watched w₀ (drop from bytes)
+module _ (w₀ w : Watch) (from at : ℕ) (bytes items : List ℕ) (e : watched w₀ (drop from bytes) ≡ watched w (drop at items)) where
+  pub look-out : length items ≤ at → w ≡ watched w₀ (drop from bytes)
   unfolding watched
-  look-out h = sym (e ∙ rw (drop_of_length-le bytes h))
+  look-out h = sym (e ∙ rw (drop_of_length-le items h))
 
-  pub look-over : at < length bytes → get_or bytes at 0 ≡ 10 → w ≡ watched w₀ (drop from bytes)
+  pub look-over : at < length items → get_or items at 0 ≡ 10 → w ≡ watched w₀ (drop from bytes)
   unfolding watched is_line_feed
-  look-over h q = sym (e ∙ rw (drop-cons bytes at 0 h, eq-eqb _ _ q))
+  look-over h q = sym (e ∙ rw (drop-cons items at 0 h, eq-eqb _ _ q))
 
-  pub look-more : (v : Watch) → at < length bytes → (get_or bytes at 0 ≡ 10 → ⊥) → v ≡ seen w (get_or bytes at 0)
-      → watched w₀ (drop from bytes) ≡ watched v (drop (at + 1) bytes)
+  pub look-more : (v : Watch) → at < length items → (get_or items at 0 ≡ 10 → ⊥) → v ≡ seen w (get_or items at 0)
+      → watched w₀ (drop from bytes) ≡ watched v (drop (at + 1) items)
   unfolding watched is_line_feed
-  look-more v h q g = e ∙ (rw (add-one at, drop-cons bytes at 0 h, ne_eqb _ _ q)) ∙ ap (λ (x : Watch). watched x (drop (at + 1) bytes)) (sym g)
+  look-more v h q g = e ∙ (rw (add-one at, drop-cons items at 0 h, ne_eqb _ _ q)) ∙ ap (λ (x : Watch). watched x (drop (at + 1) items)) (sym g)
 
 -- what agrees from here on and what was counted come to the whole
 agree-none : (w : List ℕ) → agreeing w [] ≡ 0

@@ -1,4 +1,4 @@
-// The parts that sentences are made of, put into lent bytes one after the other, as in `texts`: each from byte `at` on.
+// The parts that sentences are made of, put into lent bytes one after the other, as in `texts` (and why not Display: there): each from byte `at` on.
 ghost use Rattle.std.specs.Prelude.{◌≡◌, ◌+◌, ◌≤◌, length};
 ghost use Rattle.faults.specs.Sentences.{visible as visible_of, visibles, figure, takes_text, is_text, suggestion};
 ghost use Rattle.faults.specs.Promise.{Wrote, room};
@@ -11,13 +11,10 @@ use rules::Call;
 fn visible(b: u8) -> u8
     ensures { result ≡ visible_of b }
 {
-    match b {
-        33..=126 => b,
-        _ => b'?',
-    }
+    if b.is_ascii_graphic() { b } else { b'?' }
 }
 
-// A word that was read.
+// A word that was read. By number: byte i of it stands at byte at + i.
 pub fn put_visible(out: &mut [u8], at: usize, word: &[u8]) -> usize
     requires { at + length word.now ≤ length out.old }
     ensures { Wrote result out at (visibles word.now) (length word.now) }

@@ -43,6 +43,7 @@ fn most_space(p: Description) -> usize
     p.d().min(p.i()).saturating_sub(2)
 }
 
+// What, value, least and most stay four, as in the definitions of specs/First and in the fields of Fault::OutOfRange.
 #[tactic(auto, unfolding(crate::specs::First::out_fault))]
 fn out_fault(what: Parameter, value: usize, least: usize, most: usize) -> Fault
     ensures { result ≡ out_fault what value least most }

@@ -21,10 +21,7 @@ pub struct Near {
 fn upper(b: u8) -> u8
     ensures { result ≡ upper_of b }
 {
-    match b {
-        b'a'..=b'z' => b - 32,
-        _ => b,
-    }
+    b.to_ascii_uppercase()
 }
 
 // 1 where `a`, as a capital, is b.

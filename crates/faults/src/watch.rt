@@ -84,11 +84,11 @@ pub fn look(w: Watch, bytes: &[u8], from: usize) -> Watch
     ensures { result ≡ watched w (drop from bytes.now) }
 {
     let mut seen = w;
-    for i in from..bytes.len() {
-        if bytes[i] == b'\n' {
+    for b in &bytes[from..] {
+        if *b == b'\n' {
             return seen;
         }
-        seen = seen.push(bytes[i]);
+        seen = seen.push(*b);
     }
     seen
 }

@@ -1,4 +1,5 @@
 // The file and the buffer made ready for new blocks.
+// What a call holds, the file and the buffer stay three parameters (why: crate acts).
 ghost use Rattle.std.specs.Prelude.{◌≡◌, length};
 ghost use Rattle.drum.specs.Blocks.{Fitting};
 ghost use Rattle.acts.specs.Reach.{seen_by};

@@ -1,4 +1,5 @@
 // A finished list read on a handset: the list is made by XTEND, read by the reading set's calls, and other files are offered to it.
+// File and buffer stay two parameters, the calls functions of each program: a struct of lent words, as in `plays`, is longer than what it spares here.
 #![tactic(auto)]
 
 mod shown;
@@ -20,6 +21,7 @@ fn description() -> Description {
 }
 
 // A new file, open.
+// Made and opened here, as in each such program: one function in `said` would have to promise again what `create` and `open_file` promise.
 fn begun(out: &impl Print, file: &mut [u32; 54], buffer: &[u32; 8]) -> io::Result<Session> {
     let mut marks = [0u8; 6];
     let s = made(out, "CREATE", &[], Session::new(description()).create(file))?;
@@ -69,12 +71,9 @@ fn closed(out: &impl Print, s: Session, file: &mut [u32; 54], buffer: &[u32; 8])
 fn extended(out: &impl Print, file: &mut [u32; 54]) -> io::Result<()> {
     let mut buffer = [0u32; 8];
     let mut s = begun(out, file, &buffer)?;
-    s = xtend(out, s, file, &mut buffer, 10, 1)?;
-    s = xtend(out, s, file, &mut buffer, 20, 2)?;
-    s = xtend(out, s, file, &mut buffer, 30, 3)?;
-    s = xtend(out, s, file, &mut buffer, 40, 4)?;
-    s = xtend(out, s, file, &mut buffer, 50, 5)?;
-    s = xtend(out, s, file, &mut buffer, 60, 6)?;
+    for (key, data) in [(10, 1), (20, 2), (30, 3), (40, 4), (50, 5), (60, 6)] {
+        s = xtend(out, s, file, &mut buffer, key, data)?;
+    }
     closed(out, s, file, &buffer)?;
     println!(out; "  file{}", Row(file))
 }
@@ -123,11 +122,9 @@ fn read(
     work: &mut [u32; 3],
 ) -> io::Result<ReadingSession> {
     let mut s = seek(out, start, file, buffer, work, 20)?;
-    s = adv(out, s, file, buffer, work)?;
-    s = adv(out, s, file, buffer, work)?;
-    s = adv(out, s, file, buffer, work)?;
-    s = adv(out, s, file, buffer, work)?;
-    s = adv(out, s, file, buffer, work)?;
+    for _ in 0..5 {
+        s = adv(out, s, file, buffer, work)?;
+    }
     s = seek(out, s, file, buffer, work, 10)?;
     seek(out, s, file, buffer, work, 11)
 }
@@ -204,22 +201,22 @@ fn out_of_order(out: &impl Print) -> io::Result<()> {
     let mut file = [0u32; 54];
     let mut buffer = [0u32; 8];
     let mut s = begun(out, &mut file, &buffer)?;
-    s = nsert(out, s, &mut file, &mut buffer, 10)?;
-    s = nsert(out, s, &mut file, &mut buffer, 20)?;
-    s = nsert(out, s, &mut file, &mut buffer, 15)?;
+    for key in [10, 20, 15] {
+        s = nsert(out, s, &mut file, &mut buffer, key)?;
+    }
     offered(out, s, &mut file, &buffer)
 }
 
-// Three records loaded, and some taken out.
-fn taken_out(out: &impl Print, first: u32, second: u32, then: u32) -> io::Result<()> {
+// Three records loaded, the first key taken out; then perhaps a second, with one more record loaded.
+fn taken_out(out: &impl Print, first: u32, more: Option<(u32, u32)>) -> io::Result<()> {
     let mut file = [0u32; 54];
     let mut buffer = [0u32; 8];
     let mut s = begun(out, &mut file, &buffer)?;
-    s = xtend(out, s, &mut file, &mut buffer, 10, 0)?;
-    s = xtend(out, s, &mut file, &mut buffer, 20, 0)?;
-    s = xtend(out, s, &mut file, &mut buffer, 30, 0)?;
+    for key in [10, 20, 30] {
+        s = xtend(out, s, &mut file, &mut buffer, key, 0)?;
+    }
     s = dlete(out, s, &mut file, &mut buffer, first)?;
-    if second != 0 {
+    if let Some((second, then)) = more {
         s = dlete(out, s, &mut file, &mut buffer, second)?;
         s = xtend(out, s, &mut file, &mut buffer, then, 0)?;
     }
@@ -231,8 +228,9 @@ fn in_order(out: &impl Print) -> io::Result<()> {
     let mut file = [0u32; 54];
     let mut buffer = [0u32; 8];
     let mut s = begun(out, &mut file, &buffer)?;
-    s = nsert(out, s, &mut file, &mut buffer, 10)?;
-    s = nsert(out, s, &mut file, &mut buffer, 20)?;
+    for key in [10, 20] {
+        s = nsert(out, s, &mut file, &mut buffer, key)?;
+    }
     offered(out, s, &mut file, &buffer)
 }
 
@@ -241,8 +239,8 @@ fn main(rt: HostRuntime) -> io::Result<()> {
     extended(&rt, &mut file)?;
     reader(&rt, &file)?;
     out_of_order(&rt)?;
-    taken_out(&rt, 10, 0, 0)?;
-    taken_out(&rt, 30, 0, 0)?;
-    taken_out(&rt, 10, 20, 40)?;
+    taken_out(&rt, 10, None)?;
+    taken_out(&rt, 30, None)?;
+    taken_out(&rt, 10, Some((20, 40)))?;
     in_order(&rt)
 }

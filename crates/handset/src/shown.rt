@@ -3,13 +3,6 @@ use reading::{Answer, ReadingSession};
 use said::{Outcome, Row};
 use std::io;
 
-fn outcome_of(answer: Answer) -> Outcome {
-    Outcome {
-        number: answer.number,
-        transfers: answer.transfers,
-    }
-}
-
 // What a reading call answered, and what it left: the workspace, the current block, the position (0 none); the session to go on with.
 pub fn told(
     out: &impl Print,
@@ -22,7 +15,7 @@ pub fn told(
     print!(out;
         "{name}{}{} work{}",
         Row(asked),
-        outcome_of(answer),
+        Outcome::from(answer),
         Row(work)
     )?;
     let key = s.position[0];
@@ -32,6 +25,6 @@ pub fn told(
 
 // Whether a file opens: the number, and the marks.
 pub fn opened(out: &impl Print, answer: Answer, marks: &[u8; 6]) -> io::Result<ReadingSession> {
-    println!(out; "READING OPEN{} marks{}", outcome_of(answer), Row(marks))?;
+    println!(out; "READING OPEN{} marks{}", Outcome::from(answer), Row(marks))?;
     Ok(answer.session)
 }

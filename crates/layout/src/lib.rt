@@ -1,4 +1,5 @@
 // What a good file is: the words of a new one, and the inspection behind OPEN, with its marks. One walk; the first fault ends it.
+// Parameters and file stay two beside `Fit`: a Seen would ask for a buffer, and the walk changes nothing but the marks.
 #![tactic(auto)]
 
 mod blocks;
@@ -22,6 +23,7 @@ use numbers::{Refusal, require, within};
 use rows::last_row;
 
 // Whether the file is as under Layout; the marks if so, and all 0 if not.
+// A bool: what it refuses has one number.
 pub fn inspect(p: Description, f: &[u32], marks: &mut [u8]) -> bool
     requires fit { Fit p f.now }
     requires marks_len { length marks.old ≡ p.n }

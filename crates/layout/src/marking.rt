@@ -1,4 +1,5 @@
 // The marks: one for each block, 0 before the walk comes to it.
+// u8 and no enum: the marks are the caller's bytes (the C interface).
 ghost use Rattle.std.specs.Prelude.{◌≡◌, length};
 ghost use Rattle.words.specs.Words.{zeros, all_are, none_is};
 ghost use Rattle.layout.specs.Inspect.{marked};

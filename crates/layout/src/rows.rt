@@ -16,6 +16,7 @@ pub fn last_row(f: &[u32], a: usize, stride: usize, n: usize) -> usize
 }
 
 // Whether the key at place a is above the one at low, if there is one.
+// Place 0 for none, as the definitions have it.
 pub fn above(p: Description, f: &[u32], low: usize, a: usize) -> bool
     requires { (low + p.k ≤ length f.now) × (a + p.k ≤ length f.now) }
     ensures { result ≡ is_above p f.now low a }

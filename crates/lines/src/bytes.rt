@@ -13,5 +13,5 @@ pub fn is_blank(b: u8) -> bool
 pub fn is_digit(b: u8) -> bool
     ensures { result ≡ is_digit b }
 {
-    matches!(b, b'0'..=b'9')
+    b.is_ascii_digit()
 }

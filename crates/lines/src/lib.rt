@@ -14,6 +14,8 @@ pub use names::{KINDS, call_named, call_of, carries, is_name, parameters_of};
 
 // What is kept of the bytes of a line: whether there were any; whether a word is being read; whether it is a number so far, and its value;
 // how many words were no numbers (2 stands for more), how many were, and how many bytes of the first one are kept.
+// Flags, counts and value stay as the definitions of specs/Reading have them (they keep the value of a word that is none); name and numbers are lent
+// anew for each part of the input.
 #[derive(Clone, Copy)]
 pub struct Reading {
     pub begun: bool,
@@ -154,6 +156,7 @@ pub fn take(r: Reading, bytes: &[u8], from: usize, name: &mut [u8], numbers: &mu
         ≡ to_line_feed (read r name.old numbers.old) from (drop from bytes.now) }
 {
     let mut reading = r;
+    // By number: the place behind the line feed is answered.
     for i in from..bytes.len() {
         if bytes[i] == b'\n' {
             return Taken {

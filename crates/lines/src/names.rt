@@ -44,6 +44,7 @@ fn call_spelled(word: &[u8]) -> Option<Call>
 }
 
 // The call that the first n bytes of `name` name, or all of them if there are no n.
+// The length stands beside the slice: n may pass the room of the name, and then all of it counts (specs/Reading: spelled).
 pub fn call_named(name: &[u8], n: usize) -> Option<Call>
     ensures { result ≡ named (part 0 n name.now) }
 {

@@ -1,5 +1,7 @@
 // What a call looks at before it stores anything: ways to blocks, and where a key is. Every number on the way is checked, in current
 // texts; the places come back beside the block numbers.
+// Key and path stay plain, and what they must be stays a clause: as ghost fields both would name v, and each would hold for one v alone.
+// The flag stands beside v: it is no part of a Seen, whose texts have none.
 #![tactic(auto)]
 
 ghost use Rattle.std.specs.Prelude.{◌≡◌, true, ◌+◌, ◌≤◌, ◌<◌, length};

@@ -1,4 +1,5 @@
 // What NSERT does once it is planned.
+// What a call holds, the file and the buffer stay three parameters (why: crate acts).
 ghost use Rattle.std.specs.Prelude.{◌≡◌, true, false, ◌≤◌, length};
 ghost use Rattle.table.specs.Tables.{inserted};
 ghost use Rattle.drum.specs.Params.{D, detail_shape};

@@ -1,5 +1,7 @@
 // What NSERT will do, decided from current texts alone: where the record goes, what it takes (room there, one new block, or two and a
 // section), and the number that goes with it.
+// Key and path stay plain, and what they must be stays a clause: as ghost fields both would name v, and each would hold for one v alone.
+// The flag stands beside v: it is no part of a Seen, whose texts have none.
 ghost use Rattle.std.specs.Prelude.{◌≡◌, ◌≤◌, length};
 ghost use Rattle.numbers.specs.Refused.{checked};
 ghost use Rattle.words.specs.Words.{part};
@@ -36,6 +38,7 @@ fn room_deed(v: Seen, w: Path, i: usize) -> Result<Insert, Refusal>
 }
 
 // The block is full: one new block is needed.
+// Block 0 for none: see `Taken` in rules.
 fn split_deed(v: Seen, flag: bool, w: Path, i: usize) -> Result<Insert, Refusal>
     ensures { checked result ≡ split_deed (texts v.entry) flag w i }
 {
@@ -49,6 +52,7 @@ fn split_deed(v: Seen, flag: bool, w: Path, i: usize) -> Result<Insert, Refusal>
 }
 
 // The index block is full too: two new blocks are needed, and a section.
+// Detail block 0 for none: see `Pair` in rules. One form with `split_deed` would be no plainer: other blocks are taken, and another plan made of them.
 fn both_deed(v: Seen, flag: bool, w: Path, i: usize) -> Result<Insert, Refusal>
     ensures { checked result ≡ both_deed (texts v.entry) flag w i }
 {

@@ -96,6 +96,7 @@ pub fn within(least: usize, most: usize, x: usize) -> Result<usize, Refusal>
 }
 
 // The number x if it is one of 0..most, else it is a bad number.
+// Beside `within`: the definitions have both steps.
 pub fn up_to(most: usize, x: usize) -> Result<usize, Refusal>
     ensures step { checked result ≡ up_to_of most x }
     ensures range { IfOk result (λ y. (y ≡ x) × (y ≤ most)) }

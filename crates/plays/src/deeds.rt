@@ -52,6 +52,7 @@ impl Lent<'_> {
     }
 
     // A call, its key or record in the workspace.
+    // Not `perform` of crate calls: that refuses a key that has no room, and a line of a list may give fewer words.
     fn call(&mut self, s: Session, call: Call) -> Answer {
         let file = &mut *self.file;
         let buffer = &mut *self.buffer;

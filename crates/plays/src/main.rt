@@ -22,6 +22,7 @@ fn read_full<R: Read>(list: &mut R, text: &mut [u8; 65536]) -> usize
     ensures { result ≤ 65536 }
 {
     let mut done = 0;
+    // A while: how far it is, only the reads say.
     while done < 65536 {
         match list.read(&mut text[done..]) {
             Ok(n) if n != 0 => done += n,
@@ -58,6 +59,7 @@ fn play_named(rt: &HostRuntime, name: &[u8]) -> io::Result<()> {
 // A name above 4,096 bytes is taken for none.
 fn main(rt: HostRuntime) -> io::Result<()> {
     let mut name = [0; 4096];
+    // A bound and no `loop`: every loop is proved to end. One by one into fixed memory: `env::args` takes a heap.
     for i in 1..usize::MAX {
         match rt.arg(i, &mut name) {
             Ok(length) => play_named(&rt, &name[..length])?,

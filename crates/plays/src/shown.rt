@@ -43,11 +43,7 @@ fn print_session(out: &impl Print, s: Session) -> io::Result<()> {
 // An answer, and the words as they are then; the session to go on with.
 pub fn told(out: &impl Print, answer: Answer, lent: &Lent) -> io::Result<Session> {
     let s = answer.session;
-    let outcome = Outcome {
-        number: answer.number,
-        transfers: answer.transfers,
-    };
-    print!(out; "{outcome}")?;
+    print!(out; "{}", Outcome::from(answer))?;
     print_session(out, s)?;
     println!(out; "  workspace{}", Row(lent.work))?;
     println!(out; "  buffer{}", Row(lent.buffer))?;

@@ -1,4 +1,7 @@
 // The calls of a reading session. None has a condition on what it is given.
+// Each ends a refusal by its own match: one function over a closure of the steps learns nothing of the slices it captures (tried in capi).
+// OPEN and VIEW stay beside those of searchfile: the session is another, and OPEN inspects a finished file. The test of CONTROL stands first in each
+// test, as the definition `profile_checks` has it.
 ghost use Rattle.std.specs.Prelude.{◌≡◌, [], length};
 ghost use Rattle.numbers.specs.Refused.{tested};
 ghost use Rattle.drum.specs.Parts.{part_of};

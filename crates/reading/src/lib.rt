@@ -17,6 +17,7 @@ use numbers::Refusal;
 use rules::{Done, Held};
 
 // The parameters, open or closed, the current block (0 none), and the position: a key in its first K words, which means nothing unless `placed`.
+// `placed` and 0 stay as the words of a session for C have them.
 #[derive(Clone, Copy)]
 pub struct ReadingSession {
     pub desc: Description,
@@ -44,6 +45,7 @@ impl ReadingSession {
     }
 
     // What the steps of a call work with: nothing is flagged.
+    // It stays beside the one of searchfile, which hands its flag on.
     fn at(self) -> Held
         ensures { result ≡ record { desc = self.desc; current = self.current; flag = false } }
     {
@@ -55,6 +57,7 @@ impl ReadingSession {
     }
 
     // "all unchanged", no transfers.
+    // Its own, beside those of searchfile and register: the sessions differ in the flag, and one form for all, in crate face, would be no plainer than this.
     fn refused(self, refusal: Refusal) -> Answer
         ensures { result ≡ record { number = number_of refusal; transfers = 0; session = self } }
     {
@@ -79,6 +82,7 @@ impl ReadingSession {
     }
 
     // The answer of a call whose steps are done, which flag nothing; position is the key that stands first in the workspace, where they say so.
+    // It stays beside the one of searchfile, which sets a flag.
     fn after(self, done: Done, work: &[u32]) -> Answer
         requires { (self.desc.k ≤ 63) × (self.desc.k ≤ length work.now) × (done.flag ≡ false) }
         ensures { (result.number ≡ done.number)

@@ -1,5 +1,6 @@
 // The steps of SEEK and ADV where nothing is flagged: blocks are brought, and none is written.
 // They stay beside those of acts, seek and adv: those take a file that they may write, and this set promises that its file is lent to be read alone.
+// What a call holds, the file and the buffer stay three parameters (why: crate acts).
 ghost use Rattle.std.specs.Prelude.{◌≡◌, false, ◌≤◌, length};
 ghost use Rattle.words.specs.Words.{part};
 ghost use Rattle.drum.specs.Blocks.{Fitting};
@@ -100,6 +101,7 @@ fn act_adv(s: Step, at: Held, file: &[u32], buffer: &mut [u32], work: &mut [u32]
 }
 
 // ADV.
+// `placed` and `position` stay two (why: adv's `plan_adv`).
 pub fn adv(
     at: Held,
     placed: bool,

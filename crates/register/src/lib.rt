@@ -63,6 +63,7 @@ pub fn ask(session: Session, file: &mut [u32], buffer: &mut [u32], work: &mut [u
 }
 
 // The next name of the list to the workspace; no record is changed.
+// Beside `ask`: one function over a closure of the call learns nothing of the slices that it captures (tried in capi).
 pub fn next(session: Session, file: &mut [u32], buffer: &mut [u32], work: &mut [u32]) -> Answer
     ensures { answered result file.new buffer.new work.new
         ≡ counted (listed (given session file.old buffer.old work.old)) }

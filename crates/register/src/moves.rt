@@ -13,6 +13,7 @@ use numbers::{DONE, NOT_ALLOWED, WRONG_KEY};
 use searchfile::{Answer, Session};
 
 // Another number for what SEEK did.
+// An Answer and no Result, here and below: both sides would hold the same, a session and a number that SEEK gave.
 fn stopped(found: Answer, number: u32) -> Answer
     ensures { result ≡ stopped_by number found }
 {

@@ -64,7 +64,7 @@ pub struct Taken {
 }
 
 // Two new blocks, the detail block before the index block, whose words 1 and 2 are the master's then (detail 0: too few are free, or no
-// section is left).
+// section is left; 0 as the definitions of specs/ have it).
 #[derive(Clone, Copy)]
 pub struct Pair {
     pub detail: usize,
@@ -92,6 +92,7 @@ pub enum Delete {
 
 // What XTEND will do, with its number: stop, or store in the last block (the index block that was read for it, or 0); start a new block;
 // start a new index block and section too; or, from a last block with only the end record, do what NSERT does on another path, or stop there.
+// (0 as the definitions of specs/ have it.)
 #[derive(Clone, Copy)]
 pub enum Extend {
     Stop(Way, usize, u32),
@@ -101,7 +102,7 @@ pub enum Extend {
     Before(Way, Path, Insert),
 }
 
-// What a call works with beside the lent words: the description, the current block and the flag.
+// What a call works with beside the lent words: the description, the current block (0 for none, as the definitions of specs/ have it) and the flag.
 #[derive(Clone, Copy)]
 pub struct Held {
     pub desc: Description,

@@ -41,6 +41,7 @@ fn play_named(rt: &HostRuntime, name: &[u8]) -> io::Result<()> {
 // A name above 4,096 bytes is taken for none.
 fn main(rt: HostRuntime) -> io::Result<()> {
     let mut name = [0; 4096];
+    // A bound and no `loop`: every loop is proved to end. One by one into fixed memory: `env::args` takes a heap.
     for i in 1..usize::MAX {
         match rt.arg(i, &mut name) {
             Ok(length) => play_named(&rt, &name[..length])?,

@@ -32,14 +32,22 @@ impl fmt::Display for Outcome {
     }
 }
 
+impl<S: Copy> From<face::Answer<S>> for Outcome {
+    fn from(answer: face::Answer<S>) -> Self
+        ensures { (result.number ≡ answer.number) × (result.transfers ≡ answer.transfers) }
+    {
+        Self {
+            number: answer.number,
+            transfers: answer.transfers,
+        }
+    }
+}
+
 // A call's name and key, and what it answered; the session to go on with.
 pub fn told(out: &impl Print, name: &str, key: &[u32], answer: Answer) -> io::Result<Session>
     ensures { IfOk result (λ s. s ≡ answer.session) }
 {
-    let outcome = Outcome {
-        number: answer.number,
-        transfers: answer.transfers,
-    };
+    let outcome = Outcome::from(answer);
     println!(out; "{name}{}{outcome}", Row(key))?;
     Ok(answer.session)
 }

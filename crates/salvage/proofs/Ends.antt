@@ -72,9 +72,9 @@ module _ (p : Description) (copy fresh buffer report : ℕ) (x : Bool) (is : x �
           let s : eqb copy (file_size p) ≡ true = eq-eqb copy (file_size p) (q ∙ facts.file-is) in
           sym λ j. (sym is ∙ h) j && (s j && leb (3 * (p.n * (1 + sym e j))) report)
 
-  pub lengths-wrong : (x ≡ false) ⊎ ((x ≡ true) × (copy ≡ fresh → ⊥)) → false ≡ roomy p copy fresh buffer report
-  lengths-wrong (inl h) = sizes-wrong h
-  lengths-wrong (inr h) = copy-wrong h.0 h.1
+  pub lengths-wrong : ((x ≡ true) × (copy ≡ fresh → ⊥)) ⊎ (x ≡ false) → false ≡ roomy p copy fresh buffer report
+  lengths-wrong (inl h) = copy-wrong h.0 h.1
+  lengths-wrong (inr h) = sizes-wrong h
 
 -- what the test tells
 pub roomy-facts : (p : Description) (copy fresh buffer report : ℕ) → roomy p copy fresh buffer report ≡ true → Roomy p copy fresh buffer report

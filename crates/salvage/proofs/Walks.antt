@@ -5,18 +5,15 @@ use mathlib.Core.List.{List, [], ◌∷◌}
 use Prim.Native.Nat.{ℕ, zero, suc, ◌+◌, ◌*◌, ◌-◌, ◌≤◌, ◌<◌}
 use native.Mathlib.Nat.{mul-le-mul_right}
 use native.Mathlib.Omega.{arith}
-use mir.Syntax.{w64}
-use mir.Val.{Fits}
 use borrow.Author.Tests.{eq-eqb, ne_eqb, eqb-true}
 use lib.Dec.{eqb}
 use lib.ListN.{length, length-append, get_or, take, drop}
-use Rattle.words.specs.Words.{part, put}
+use Rattle.words.specs.Words.{put}
 use Rattle.words.proofs.Parts.{length_part}
 use Rattle.drum.specs.declared.Description.{Description}
-use Rattle.drum.specs.Params.{D, file_size, start, good_params}
+use Rattle.drum.specs.Params.{D, file_size, good_params}
 use Rattle.drum.specs.Blocks.{block_at}
 use Rattle.drum.proofs.Good.{caps}
-use Rattle.drum.proofs.Blocks.{block_within}
 use Rattle.salvage.specs.declared.Going.{Going}
 use Rattle.salvage.specs.Met.{Met, over, found, count_in, rows_from, records_in, missed, places, met_in, met_from, met}
 use Rattle.salvage.specs.Salvage.{Walk, lined, step, run}
@@ -129,39 +126,17 @@ records-end whole w b i v at count t q l =
 
 -- ---- a block
 
--- its text lies in the copy
-module _ (g : Going) (copy : List ℕ) (b at : ℕ) (is : at ≡ start g.session.desc b) where
-  abbrev p : Description
-  p = g.session.desc
+-- its text is a part of the copy
+module _ (g : Going) (copy text : List ℕ) (b : ℕ) (is : text ≡ block_at g.session.desc copy b) where
+  pub block_walked : (v w : Walk) → v ≡ run w (met_in g.session.desc b text) → v ≡ run w (met_in g.session.desc b (block_at g.session.desc copy b))
+  block_walked v w e = e ∙ ap (λ (t : List ℕ). run w (met_in g.session.desc b t)) is
 
-  pub block_walked : (v w : Walk) → v ≡ run w (met_in p b (take (at + p.wpb - at) (drop at copy))) → v ≡ run w (met_in p b (block_at p copy b))
-  unfolding block_at
-  block_walked v w e =
-      e ∙ ap (λ (t : List ℕ). run w (met_in p b t)) (part-lent at p.wpb copy ∙ ap (λ (a : ℕ). part a p.wpb copy) is)
-
-  module _ (h : Copied g copy) (least : 1 ≤ b) (most : b ≤ g.session.desc.n) where
-    lies : at + p.wpb ≤ length copy
-    lies = let w = block_within p b (least, most) in omega (arith, h.copy_is)
-
-    pub text-end : Fits w64 (length copy) → Fits w64 (at + p.wpb)
-    text-end f = omega (arith, lies)
-
-    pub text-bytes : Fits w64 (at * 4)
-    text-bytes = let c = caps p h.good in omega (arith, lies, h.copy_is)
-
-    pub text-within : at + p.wpb ≤ length copy
-    text-within = lies
-
-    pub block-ready : (n : ℕ) → Spare g (1 + D p) n → Ready g (take (at + p.wpb - at) (drop at copy)) b n
-    block-ready n s =
-        let c = caps p h.good in
-        let f = c.facts in
-        record {
-          good = h.good;
-          text-is = ap length (part-lent at p.wpb copy) ∙ length_part at p.wpb copy lies;
-          block = omega arith;
-          spare = s;
-        }
+pub block-ready : (g : Going) (copy text : List ℕ) (b n : ℕ) → Copied g copy → b ≤ g.session.desc.n → length text ≡ g.session.desc.wpb
+    → Spare g (1 + D g.session.desc) n → Ready g text b n
+block-ready g copy text b n h most l s =
+    let c = caps g.session.desc h.good in
+    let f = c.facts in
+    record { good = h.good; text-is = l; block = omega arith; spare = s }
 
 -- what its text gives: m is the first test that it misses, as the code has it
 module _ (g : Going) (t : List ℕ) (b m : ℕ) (told : m ≡ missed g.session.desc t) where
@@ -209,18 +184,18 @@ met-most p copy b (suc n) =
 -- ---- all blocks: b of n are done
 
 module _ (g : Going) (copy : List ℕ) (h : Copied g copy) where
-  pub blocks-first : (w : Walk) → run w (met g.session.desc copy) ≡ run w (met_from g.session.desc copy (0 + 1) (g.session.desc.n - 0))
+  pub blocks-first : (w : Walk) → run w (met g.session.desc copy) ≡ run w (met_from g.session.desc copy 1 (g.session.desc.n + 1 - 1))
   blocks-first w =
-      let z : g.session.desc.n ≡ g.session.desc.n - 0 = omega arith in
+      let z : g.session.desc.n ≡ g.session.desc.n + 1 - 1 = omega arith in
       ap (λ (k : ℕ). run w (met_from g.session.desc copy 1 k)) z
 
   -- the same of the walk further on, whose parameters are the same
   pub copied_on : (k : Going) → k.session.desc ≡ g.session.desc → Copied k copy
   copied_on k e = record { good = ap good_params e ∙ h.good; copy_is = h.copy_is ∙ ap file_size (sym e) }
 
-pub spare-first : (g : Going) (k n : ℕ) → Spare g (g.session.desc.n * k) n → Spare g ((g.session.desc.n - 0) * k) n
+pub spare-first : (g : Going) (k n : ℕ) → Spare g (g.session.desc.n * k) n → Spare g ((g.session.desc.n + 1 - 1) * k) n
 spare-first g k n s =
-    let z : g.session.desc.n ≡ g.session.desc.n - 0 = omega arith in
+    let z : g.session.desc.n ≡ g.session.desc.n + 1 - 1 = omega arith in
     subst (λ (m : ℕ). Spare g (m * k) n) z s
 
 module _ (p : Description) (g : Going) (e : g.session.desc ≡ p) (b n : ℕ) (more : b < n) where
@@ -236,35 +211,35 @@ module _ (p : Description) (g : Going) (e : g.session.desc ≡ p) (b n : ℕ) (m
       let d : 1 + D g.session.desc ≡ 1 + D p = ap (λ (q : Description). 1 + D q) e in
       record { lines = omega (arith, blocks-less); transfers = omega (arith, blocks-less) }
 
-  pub number-most : n ≡ p.n → b + 1 ≤ g.session.desc.n
+  pub number-most : n ≡ p.n + 1 → b ≤ g.session.desc.n
   number-most q = let d : g.session.desc.n ≡ p.n = ap (λ (z : Description). z.n) e in omega arith
 
-  module _ (k : Going) (f d x f' d' x' copy : List ℕ) (q : walking k f' d' x' ≡ run (walking g f d x) (met_in g.session.desc (b + 1) (block_at g.session.desc copy (b + 1)))) where
+  module _ (k : Going) (f d x f' d' x' copy : List ℕ) (q : walking k f' d' x' ≡ run (walking g f d x) (met_in g.session.desc b (block_at g.session.desc copy b))) where
     abbrev here : Description → List Met
-    here z = met_in z (b + 1) (block_at z copy (b + 1))
+    here z = met_in z b (block_at z copy b)
 
     pub spare-next : (r : ℕ) → Spare g ((n - b) * (1 + D p)) r → Spare k ((n - (b + 1)) * (1 + D p)) r
     spare-next r s =
         let few : length (here g.session.desc) ≤ 1 + D p =
-        subst (λ (z : Description). length (here g.session.desc) ≤ 1 + D z) e (met-few g.session.desc (b + 1) (block_at g.session.desc copy (b + 1))) in
+        subst (λ (z : Description). length (here g.session.desc) ≤ 1 + D z) e (met-few g.session.desc b (block_at g.session.desc copy b)) in
         spare-after g k f d x f' d' x' _ q (1 + D p) ((n - (b + 1)) * (1 + D p)) r few (subst (λ (m : ℕ). Spare g m r) blocks-less s)
 
     pub desc-next : k.session.desc ≡ p
     desc-next = desc-after g k f d x f' d' x' _ q ∙ e
 
-    pub block-turn : (whole : Walk) → whole ≡ run (walking g f d x) (met_from p copy (b + 1) (n - b))
-        → whole ≡ run (walking k f' d' x') (met_from p copy (b + 1 + 1) (n - (b + 1)))
+    pub block-turn : (whole : Walk) → whole ≡ run (walking g f d x) (met_from p copy b (n - b))
+        → whole ≡ run (walking k f' d' x') (met_from p copy (b + 1) (n - (b + 1)))
     unfolding met_from
     block-turn whole w =
         let m : n - b ≡ suc (n - (b + 1)) = omega arith in
-        let rest = met_from p copy (b + 1 + 1) (n - (b + 1)) in
-        w ∙ ap (λ (j : ℕ). run (walking g f d x) (met_from p copy (b + 1) j)) m
+        let rest = met_from p copy (b + 1) (n - (b + 1)) in
+        w ∙ ap (λ (j : ℕ). run (walking g f d x) (met_from p copy b j)) m
         ∙ run_more (here p) rest (walking g f d x)
         ∙ ap (λ (z : Description). run (run (walking g f d x) (here z)) rest) (sym e)
         ∙ ap (λ (v : Walk). run v rest) (sym q)
 
-pub blocks_end : (whole w : Walk) (p : Description) (copy : List ℕ) (b n : ℕ) → whole ≡ run w (met_from p copy (b + 1) (n - b)) → n ≤ b → w ≡ whole
+pub blocks_end : (whole w : Walk) (p : Description) (copy : List ℕ) (b n : ℕ) → whole ≡ run w (met_from p copy b (n - b)) → n ≤ b → w ≡ whole
 unfolding run met_from
 blocks_end whole w p copy b n q l =
     let m : n - b ≡ 0 = omega arith in
-    sym (q ∙ ap (λ (k : ℕ). run w (met_from p copy (b + 1) k)) m)
+    sym (q ∙ ap (λ (k : ℕ). run w (met_from p copy b k)) m)

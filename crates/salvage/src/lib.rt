@@ -51,10 +51,7 @@ fn begin(desc: Description, fresh: &mut [u32]) -> Going
 fn is_roomy(p: Description, copy: usize, fresh: usize, buffer: usize, report: usize) -> bool
     ensures { result ≡ roomy p copy fresh buffer report }
 {
-    if !p.is_sized(fresh, buffer) || copy != fresh {
-        return false;
-    }
-    3 * (p.n * (1 + p.d())) <= report
+    p.is_sized(fresh, buffer) && copy == fresh && 3 * (p.n * (1 + p.d())) <= report
 }
 
 // CLOSE, and what the call answers.

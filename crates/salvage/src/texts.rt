@@ -44,7 +44,7 @@ pub fn count_in(t: &[u32]) -> usize
     words::word_at(t, 0) - Description::DETAIL
 }
 
-// Whether the keys of the n records of a text ascend, each below the next.
+// Whether the keys of the n records of a text ascend, each below the next. By number: two rows that follow each other are compared, in a part of the text.
 fn keys_ascend(p: Description, t: &[u32], n: usize) -> bool
     requires { (p.k ≤ p.wpr) × (1 + n * p.wpr ≤ length t.now) }
     ensures { result ≡ ascending (keys_of p (rows_from p.wpr 1 n t.now)) }

@@ -174,10 +174,8 @@ fn block_of(
     ensures { walking result file.new buffer.new report.new
         ≡ run (walking going file.old buffer.old report.old) (met_in going.session.desc b (block_at going.session.desc copy.now b)) }
 {
-    let p = going.session.desc;
-    let start = p.start(b);
-    let end = start + p.wpb;
-    one_block(going, &copy[start..end], file, buffer, report, b)
+    let text = layout::block_of(going.session.desc, copy, b);
+    one_block(going, text, file, buffer, report, b)
 }
 
 // All blocks, in number order.
@@ -195,8 +193,8 @@ pub fn every_block(
 {
     let n = going.session.desc.n;
     let mut next = going;
-    for b in 0..n {
-        next = block_of(next, copy, file, buffer, report, b + 1);
+    for b in 1..n + 1 {
+        next = block_of(next, copy, file, buffer, report, b);
     }
     next
 }

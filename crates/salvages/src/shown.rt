@@ -13,6 +13,7 @@ pub fn told(
     fresh: &[u32],
     buffer: &[u32],
 ) -> io::Result<()> {
+    // By its fields: a From for this answer would make `said` need crate `salvage`.
     let outcome = Outcome {
         number: done.number,
         transfers: done.transfers,

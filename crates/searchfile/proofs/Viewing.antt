@@ -1,9 +1,9 @@
 -- VIEW: one law for each return of the test whether a block is shown, and of the code that lends its part.
-use Prim.Native.Nat.{ℕ, ◌≤◌, ◌<◌}
-use mathlib.Core.Path.{◌≡◌, sym, ap, ◌∙◌}
-use mathlib.Core.Bool.{Bool, true, false, cond, not}
+use Prim.Native.Nat.{ℕ, ◌≤◌}
+use mathlib.Core.Path.{◌≡◌, refl, sym, ap, ◌∙◌}
+use mathlib.Core.Bool.{Bool, true, false, cond, not, ◌&&◌}
 use mathlib.Core.List.{List, []}
-use borrow.Author.Tests.{not-true, not-false, lt-leb, le-leb, leb-true}
+use borrow.Author.Tests.{not-true, not-false, leb-true}
 use lib.Dec.{leb}
 use lib.ListN.{length}
 use Rattle.numbers.specs.Checked.{between}
@@ -16,25 +16,29 @@ use Rattle.searchfile.specs.declared.Session as code
 use Rattle.searchfile.specs.Promise.{held}
 use Rattle.searchfile.specs.Parts.{Borrowed, Part, part_of, part_text, text_part, shown, view_at, view_part}
 
--- ---- whether a block is shown: t is the test of the sizes
+-- ---- whether a block is shown: a test that is made only where the one before it holds
 
-module _ (s : code.Session) (file buffer b : ℕ) where
-  pub shows-closed : not s.opened ≡ true → false ≡ shown (held s) file buffer b
-  unfolding shown
-  shows-closed h = simp (not-true s.opened h)
+pub then_and : (x y v : Bool) → x ≡ true → v ≡ y → v ≡ (x && y)
+then_and x y v e h = h ∙ rw e refl
 
-  module _ (t : Bool) (o : not s.opened ≡ false) (e : t ≡ sized s.desc file buffer) where
-    pub shows-sizes : not t ≡ true → false ≡ shown (held s) file buffer b
-    unfolding shown
-    shows-sizes h = simp (not-false s.opened o, sym e ∙ not-true t h)
+pub else-and : (x y v : Bool) → x ≡ false → v ≡ x → v ≡ (x && y)
+else-and x y v e h = h ∙ rw e refl
 
-    pub shows-below : not t ≡ false → b < 1 → false ≡ shown (held s) file buffer b
-    unfolding shown
-    shows-below h l = simp (not-false s.opened o, sym e ∙ not-false t h, lt-leb 1 b l)
+regrouped : (o z l m : Bool) → (((o && z) && l) && m) ≡ (o && (z && (l && m)))
+regrouped false z l m = refl
+regrouped true false l m = refl
+regrouped true true l m = refl
 
-    pub shows-last : not t ≡ false → 1 ≤ b → leb b s.desc.n ≡ shown (held s) file buffer b
-    unfolding shown
-    shows-last h l = simp (not-false s.opened o, sym e ∙ not-false t h, le-leb 1 b l)
+-- u and v are what the first two and three tests came to
+module _ (o z l m u v : Bool) (eu : u ≡ (o && z)) (ev : v ≡ (u && l)) where
+  four : (v && m) ≡ (o && (z && (l && m)))
+  four = (λ j. (ev ∙ ap (λ (x : Bool). x && l) eu) j && m) ∙ regrouped o z l m
+
+  pub shown-when : v ≡ true → m ≡ (o && (z && (l && m)))
+  shown-when h = sym (ap (λ (x : Bool). x && m) h) ∙ four
+
+  pub shown_not : v ≡ false → v ≡ (o && (z && (l && m)))
+  shown_not h = h ∙ sym (ap (λ (x : Bool). x && m) h) ∙ four
 
 -- ---- what a block that is shown is: t is the test above
 

@@ -1,4 +1,5 @@
 // The copying call of a session: its file into a second one with another CONTROL.
+// (Why it ends a refusal by its own match: records.rt.)
 ghost use Rattle.std.specs.Prelude.{◌≡◌, []};
 ghost use Rattle.rules.specs.Copy.{copy_file};
 ghost use Rattle.searchfile.specs.Promise.{given};

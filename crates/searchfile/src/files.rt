@@ -1,4 +1,5 @@
 // The calls on a whole file, and VIEW: no workspace is lent.
+// (Why each ends a refusal by its own match: records.rt.)
 ghost use Rattle.std.specs.Prelude.{◌≡◌, []};
 ghost use Rattle.rules.specs.Open.{open_file, open_checks};
 ghost use Rattle.rules.specs.Close.{close as closed, close_checks};
@@ -16,10 +17,7 @@ impl Session {
         ensures { answered result file.new [] [] ≡ counted (creating (given self file.old [] [])) }
     {
         let p = self.desc;
-        if !p.is_good() {
-            return self.refused(Refusal::WrongSize);
-        }
-        if file.len() != p.file_size() {
+        if !p.is_good() || file.len() != p.file_size() {
             return self.refused(Refusal::WrongSize);
         }
         layout::lay_out(p, file);
@@ -102,16 +100,7 @@ impl Session {
         ensures { result ≡ shown (held self) file buffer b }
     {
         let p = self.desc;
-        if !self.opened {
-            return false;
-        }
-        if !p.is_sized(file, buffer) {
-            return false;
-        }
-        if b < 1 {
-            return false;
-        }
-        b <= p.n
+        self.opened && p.is_sized(file, buffer) && 1 <= b && b <= p.n
     }
 
     // VIEW: the current text of block b, a part of the buffer or of the file, or else an empty part.

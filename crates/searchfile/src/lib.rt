@@ -74,13 +74,14 @@ impl Session {
     fn at_rest(self, opened: bool) -> Self
         ensures { held result ≡ at_rest opened (held self) }
     {
-        let mut rest = self;
-        rest.opened = opened;
-        rest.current = 0;
-        rest.flag = false;
-        rest.placed = false;
-        rest.position = [0; 63];
-        rest
+        Self {
+            opened,
+            current: 0,
+            flag: false,
+            placed: false,
+            position: [0; 63],
+            ..self
+        }
     }
 
     // The answer of a call whose steps are done; position is the key that stands first in the workspace, where they say so. The answer is

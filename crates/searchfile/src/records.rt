@@ -1,5 +1,6 @@
 // The calls on records: each is lent a workspace, and is its refusals and then its steps. They stay six bodies: a function that took the steps as a
 // parameter would have to say what becomes of three lent slices under any steps, which is more than the three lines it spares.
+// Each ends a refusal by its own match, as the calls on a whole file do: a closure of the steps learns nothing of the slices it captures (tried in capi).
 ghost use Rattle.std.specs.Prelude.{◌≡◌};
 ghost use Rattle.rules.specs.Adv.{adv as advanced};
 ghost use Rattle.rules.specs.NsertDone.{nsert as inserted};

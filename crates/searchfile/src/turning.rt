@@ -1,4 +1,5 @@
 // The turning call of a session: its file from one block form to the other, where it lies.
+// (Why it ends a refusal by its own match: records.rt.)
 ghost use Rattle.std.specs.Prelude.{◌≡◌, []};
 ghost use Rattle.rules.specs.Turning.{turn_file};
 ghost use Rattle.searchfile.specs.Promise.{given};

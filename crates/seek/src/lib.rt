@@ -1,4 +1,5 @@
 // SEEK and UPDAT, once the session and the workspace are checked.
+// What a call holds, the file and the buffer stay three parameters (why: crate acts).
 #![tactic(auto)]
 
 ghost use Rattle.std.specs.Prelude.{◌≡◌, length};

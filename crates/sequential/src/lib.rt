@@ -42,6 +42,7 @@ pub struct Row {
 }
 
 // PUT's number, and the place behind what is put so far.
+// Two kinds of answers, with numbers in them: README names `put` and `get`, whose answers they are, and what callers use may not change.
 #[derive(Clone, Copy)]
 pub struct PutAnswer {
     pub number: u32,

@@ -8,7 +8,7 @@ ghost use Rattle.sequential.specs.Lent.{Fine, InBlock, InArea, Inside};
 use super::{Kind, Layout, Place, Row};
 use numbers::{Refusal, require};
 
-// Whether the layout keeps its ranges.
+// Whether the layout keeps its ranges. The words of a data area are reckoned where they are asked: a method of two fields less one another is no plainer.
 fn is_good(l: Layout) -> bool
     ensures { result ≡ good_layout l }
 {

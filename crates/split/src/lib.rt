@@ -1,5 +1,6 @@
 // A full table split in two, and an entry that becomes two in the table above: detail block and index block, index block and master,
 // alike.
+// Places of rows are reckoned here: table's function for them is its own.
 #![tactic(auto)]
 
 ghost use Rattle.std.specs.Prelude.{◌≡◌, [], ◌∷◌, ◌++◌, ◌+◌, ◌≤◌, ◌<◌, length};

@@ -48,6 +48,7 @@ fn is_wanted(w: Want, o: Ordering) -> bool
 
 // How many rows at the front begin with a word below the key's first: their keys are below it, so no search wants them. Where names differ
 // early, most rows of a search are passed here.
+// The searches stay functions of table, count, key and place: a struct would be built once, to be taken apart again. By number: the place is answered.
 fn low_rows(h: Shape, t: &[u32], n: usize, key: &[u32], at: usize) -> usize
     requires { (place h n ≤ length t.now) × (h.width ≤ h.stride) × (at + h.width ≤ length key.now) }
     ensures { (result ≤ n) × AllBelow h (part at h.width key.now) t.now result }
@@ -81,6 +82,7 @@ fn pair_at(t: &[u32], i: usize) -> u64
 
 // How many rows at the front are below the key, the first `from` being so: those too that begin with the key's first word and go on with two
 // words below its next two. Where names share their first words, most rows of a search are passed here.
+// By number: the place is answered.
 fn low_after(h: Shape, t: &[u32], from: usize, n: usize, key: &[u32], at: usize) -> usize
     requires { (place h n ≤ length t.now)
         × (h.width ≤ h.stride)
@@ -118,6 +120,7 @@ fn find_row(w: Want, h: Shape, t: &[u32], n: usize, key: &[u32], at: usize) -> u
 }
 
 // The first word in which the key of the row at word `place` differs from the key sought, else the width.
+// By number: the place is answered.
 fn same_words(t: &[u32], place: usize, key: &[u32], at: usize, width: usize) -> usize
     requires { (place + width ≤ length t.now) × (at + width ≤ length key.now) }
     ensures { result ≡ first_where (differs t.now place key.now at) width }
@@ -155,6 +158,7 @@ fn same_row(h: Shape, t: &[u32], n: usize, key: &[u32], at: usize) -> usize
 }
 
 // The first of the n rows of t that is wanted for the key at word `at`, else n.
+// A place beside the key, as the definitions' `part at` has it.
 pub fn find(w: Want, h: Shape, t: &[u32], n: usize, key: &[u32], at: usize) -> usize
     requires { (place h n ≤ length t.now) × (h.width ≤ h.stride) × (at + h.width ≤ length key.now) }
     ensures { result ≡ first_where (fits w h (part at h.width key.now) t.now) n }
@@ -192,6 +196,7 @@ pub fn count_of(h: Shape, t: &[u32]) -> usize
 }
 
 // Puts the row at word `from` of `row` in before row i, and counts it.
+// A place beside the row, as the definition's `part from` has it.
 pub fn insert_row(h: Shape, t: &mut [u32], i: usize, row: &[u32], from: usize)
     requires { (1 ≤ h.base)
         × (place h (count h t.old) + h.stride ≤ length t.old)
@@ -216,6 +221,7 @@ pub fn remove_row(h: Shape, t: &mut [u32], i: usize)
 }
 
 // Writes n words of row from word `from` on over row i: the whole row, or its key alone.
+// A place beside the row, as the definition's `part from` has it.
 pub fn replace_row(h: Shape, t: &mut [u32], i: usize, row: &[u32], from: usize, n: usize)
     requires { (place h i + n ≤ length t.old) × (from + n ≤ length row.now) }
     ensures { t.new ≡ replaced h i (part from n row.now) t.old }

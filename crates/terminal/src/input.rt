@@ -10,7 +10,7 @@ use lines::Reading;
 use std::io::{IsTerminal, Read, Write};
 
 // The bytes of the input from `at` to `end` are here and not read yet; `filled` bytes of the output are not written yet; so many lines
-// were read.
+// were read. That it is `Ready` stays a clause: a struct with a ghost field can't be made by `..` yet, and four functions make it so.
 #[derive(Clone, Copy)]
 pub struct Place {
     pub at: usize,
@@ -140,6 +140,7 @@ pub fn next_line<R: Read + IsTerminal, W: Write, E: Write>(
     ensures { IfOk result (λ o. IfSome o (λ l. Ready l.place)) }
 {
     let mut line = unread(start);
+    // A bound and no `loop`: every loop is proved to end.
     for _ in 0..u64::MAX {
         if take_here(&mut line, input, numbers) {
             return Ok(Some(line));

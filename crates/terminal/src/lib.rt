@@ -53,10 +53,7 @@ fn first_line<R: Read + IsTerminal, W: Write, E: Write>(
         filled: 0,
         line: 0,
     };
-    match next_line(start, streams, input, numbers, out)? {
-        Some(line) => Ok(line),
-        None => Ok(unread(start)),
-    }
+    Ok(next_line(start, streams, input, numbers, out)?.unwrap_or(unread(start)))
 }
 
 // Plays the session that a file holds, or what is typed.

@@ -30,6 +30,7 @@ pub fn refuse_lines<R: Read + IsTerminal, W: Write, E: Write>(
     requires { Ready start }
 {
     let mut place = start;
+    // A bound and no `loop`: every loop is proved to end.
     for _ in 0..u64::MAX {
         let Some(line) = next_line(place, streams, input, numbers, out)? else {
             return Ok(());

@@ -23,10 +23,7 @@ fn tell<R, W: Write, E: Write>(
     let written = write_filled(streams, out, filled);
     let n = faults::put_sentence(out, line, word, fault);
     say(&mut streams.errors, &out[..n]);
-    match written {
-        Ok(()) => Stop::Wrong,
-        Err(stop) => stop,
-    }
+    written.err().unwrap_or(Stop::Wrong)
 }
 
 // A first line with which no call is played.
@@ -44,7 +41,7 @@ pub fn tell_first<R, W: Write, E: Write>(
     tell(line.place.line, b"", fault, filled, streams, out)
 }
 
-// A line of calls that is no such call.
+// A line of calls that is no such call. Beside `tell_name`, since they tell other faults of the same line.
 pub fn tell_call<R, W: Write, E: Write>(
     line: Line,
     p: Description,

@@ -49,7 +49,7 @@ fn call_cut(
     )
 }
 
-// The same, with words for the largest file, block and record.
+// The same, with words for the largest file, block and record. Two functions: `call_cut` cuts the words, this one knows the sizes.
 fn call_read(
     here: Here,
     file: &mut [u32; 8192],
@@ -80,6 +80,7 @@ pub fn play_calls<R: Read + IsTerminal, W: Write, E: Write>(
     let mut work = [0; 2048];
     let mut place = start;
     let mut session = opening;
+    // A bound and no `loop`: every loop is proved to end.
     for _ in 0..u64::MAX {
         let Some(line) = next_line(place, streams, input, numbers, out)? else {
             return Ok(());

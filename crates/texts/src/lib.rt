@@ -1,6 +1,7 @@
 // What the printed session writes, as bytes put into a lent slice one after the other. Each function writes from byte `at` on and answers
 // the place behind what it wrote.
 // Bytes and place stay two parameters: callers keep the place from line to line and lend the bytes anew, so a struct of both is no plainer.
+// Not Display and write!: the promise fixes every byte.
 #![tactic(auto)]
 
 ghost use Rattle.std.specs.Prelude.{◌≡◌, ◌+◌, ◌*◌, ◌≤◌, ◌<◌, ◌∷◌, length};
@@ -20,7 +21,7 @@ pub fn put_bytes(out: &mut [u8], at: usize, text: &[u8]) -> usize
     end
 }
 
-// How many decimal digits n has.
+// How many decimal digits n has. A `while`: it goes by what is left of n, and no index is counted.
 fn places(n: u64) -> usize
     ensures { (result ≡ places_of 19 n) × (result ≤ 20) }
 {
@@ -46,6 +47,7 @@ fn put_digits(out: &mut [u8], at: usize, base: u64, k: usize, n: u64) -> usize
     at + k
 }
 
+// A count as the number that is printed: the library has no From of usize for u64.
 pub fn count(x: usize) -> u64
     ensures { result ≡ x }
 {

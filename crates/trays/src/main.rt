@@ -1,4 +1,5 @@
 // Trays played: a file of four blocks filled by one call, trays that are stopped or refused, and trays on a closed session.
+// File and buffer stay two parameters, the calls functions of each program: a struct of lent words, as in `plays`, is longer than what it spares here.
 #![tactic(auto)]
 
 mod shown;
@@ -101,6 +102,7 @@ fn description() -> Description {
         .with_n(4)
 }
 
+// Made and opened here, as in each such program: one function in `said` would have to promise again what `create` and `open_file` promise.
 fn main(rt: HostRuntime) -> io::Result<()> {
     let mut file = [0u32; 40];
     let mut buffer = [0u32; 8];

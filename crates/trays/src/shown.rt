@@ -6,6 +6,7 @@ use tray::Trayed;
 
 // A tray's words, and what it came to: stored, the number, the transfers; the session to go on with.
 pub fn told_tray(out: &impl Print, words: &[u32], trayed: Trayed) -> io::Result<Session> {
+    // By its fields: a From for this answer would make `said` need crate `tray`.
     let outcome = Outcome {
         number: trayed.number,
         transfers: trayed.transfers,

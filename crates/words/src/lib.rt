@@ -1,4 +1,5 @@
 // Words in slices of u32: copied, moved, cleared, tested and compared. Every contract is one equation between lists.
+// Place and length stand beside the slice: callers name words of one file, and a caller that cuts would say the same bounds.
 #![tactic(auto)]
 
 ghost use Rattle.std.specs.Prelude.{◌≡◌, ◌+◌, ◌≤◌, ◌<◌, length, get_or, set};
@@ -32,6 +33,7 @@ pub fn move_words(t: &mut [u32], from: usize, to: usize, n: usize)
 }
 
 // How the key of k words at word i of a stands to the one at word j of b.
+// By word: the library's comparison of slices is told by a definition of its own, which nothing here ties to `order`.
 pub fn compare_keys(a: &[u32], i: usize, b: &[u32], j: usize, k: usize) -> Ordering
     requires { (i + k ≤ length a.now) × (j + k ≤ length b.now) }
     ensures { result ≡ order (part i k a.now) (part j k b.now) }

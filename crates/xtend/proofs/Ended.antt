@@ -20,7 +20,7 @@ use Rattle.rules.specs.Told.{gave, told}
 use Rattle.rules.specs.NsertDone.{insert_done}
 use Rattle.rules.specs.XtendDone.{reading, extend_done}
 use Rattle.xtend.specs.Fits.{BeforeFits, ExtendFits}
-use Rattle.xtend.specs.Steps.{besides, lead, read_of, room_done, starting, new_all, new_left, section_all, section_left}
+use Rattle.xtend.specs.Steps.{counting, lead, read_of, room_done, starting, new_all, new_left, section_all, section_left}
 use Rattle.xtend.proofs.Stored.{stop-besides, room-besides}
 use Rattle.xtend.proofs.Led.{before-led}
 
@@ -49,13 +49,13 @@ module _ (p : Description) (cur : ℕ) (f b : List ℕ) (flag : Bool) (deed : Ex
 
   module _ (r : Done) (work : List ℕ) where
     module _ (g t : List ℕ) where
-      pub told-stop : (way : Way) (x n : ℕ) (d : Done) (m : ℕ) → deed ≡ Stop way x n → r ≡ besides m d
+      pub told-stop : (way : Way) (x n : ℕ) (d : Done) (m : ℕ) → deed ≡ Stop way x n → r ≡ counting m d
           → gave d g t [] ≡ told v flag [] (passed (stopping n [] (reached v flag way))) → m ≡ length (read_of x)
           → gave r g t work ≡ told v flag work (extend_done v flag work deed)
       unfolding extend_done
       told-stop way x n d m e er h l = rw e (ap (λ (z : Done). gave z g t work) er ∙ stop-besides v flag way n x m work d g t h l)
 
-      pub told-room : (way : Way) (x n : ℕ) (d : Done) (m : ℕ) → deed ≡ Room way x n → r ≡ besides m d
+      pub told-room : (way : Way) (x n : ℕ) (d : Done) (m : ℕ) → deed ≡ Room way x n → r ≡ counting m d
           → gave d g t work ≡ told v flag work (room_done v flag work way n) → m ≡ length (read_of x)
           → gave r g t work ≡ told v flag work (extend_done v flag work deed)
       unfolding extend_done reading
@@ -76,7 +76,7 @@ module _ (p : Description) (cur : ℕ) (f b : List ℕ) (flag : Bool) (deed : Ex
       unfolding extend_done section_all section_left
       told-both way w c x n m e er et em eg = rw e (landed v flag work n m c _ _ g t r er et em eg)
 
-      pub told-before : (way : Way) (w : Path) (d : Insert) (x : Done) (m : ℕ) → deed ≡ Before way w d → r ≡ besides m x
+      pub told-before : (way : Way) (w : Path) (d : Insert) (x : Done) (m : ℕ) → deed ≡ Before way w d → r ≡ counting m x
           → gave x g t work ≡ told v flag work (insert_done v flag work d) → m ≡ lead way → ExtendFits v flag deed
           → gave r g t work ≡ told v flag work (extend_done v flag work deed)
       told-before way w d x m e er h l fits =

@@ -20,7 +20,7 @@ use Rattle.rules.specs.XtendDone.{reading, listed, extend_done}
 use Rattle.rules.specs.Fits.{Outside}
 use Rattle.rules.specs.Told.{gave, told}
 use Rattle.rules.proofs.Before.{insert-done, before_here, before-by}
-use Rattle.xtend.specs.Steps.{lead, besides}
+use Rattle.xtend.specs.Steps.{lead, counting}
 
 -- the list of the whole call is longer than NSERT's
 longer : (v : Texts) (flag : Bool) (work : List ℕ) (way : Way) (x : ℕ) (d : Insert) (e t : Effect) → 1 ≤ x → Outside d
@@ -41,7 +41,7 @@ module _ (way : Way) where
 module _ (v : Texts) (flag : Bool) (work : List ℕ) (way : Way) (w : Path) (d : Insert) (x : Done) (m : ℕ) (g t : List ℕ) where
   -- NSERT's effect under that list
   pub before-led : 1 ≤ w.index → Outside d → gave x g t work ≡ told v flag work (insert_done v flag work d) → m ≡ lead way
-      → gave (besides m x) g t work ≡ told v flag work (extend_done v flag work (Before way w d))
+      → gave (counting m x) g t work ≡ told v flag work (extend_done v flag work (Before way w d))
   unfolding extend_done listed
   before-led least out h r =
       let a = insert-done v work flag d out in

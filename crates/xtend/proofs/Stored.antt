@@ -27,7 +27,7 @@ use Rattle.acts.specs.Reach.{Come, came, come}
 use Rattle.acts.proofs.Moves.{reached-fits, reached-text, way-counts}
 use Rattle.acts.proofs.Ways.{moves-most}
 use Rattle.xtend.specs.Fits.{LastTakes}
-use Rattle.xtend.specs.Steps.{read_of, besides, room_done}
+use Rattle.xtend.specs.Steps.{read_of, counting, room_done}
 
 -- one block at most is read besides
 pub reads_most : (x m : ℕ) → m ≡ length (read_of x) → m ≤ 3
@@ -132,7 +132,7 @@ module _ (v : Texts) (flag : Bool) (way : Way) (n x m : ℕ) (work : List ℕ) (
   counted r e = (λ j. e j + r j) ∙ sym (length-append (reached v flag way).moves (read_of x))
 
   pub stop-besides : gave d g t [] ≡ told v flag [] (passed (stopping n [] (reached v flag way))) → m ≡ length (read_of x)
-      → gave (besides m d) g t work ≡ told v flag work (passed (stopping n work (reading x (reached v flag way))))
+      → gave (counting m d) g t work ≡ told v flag work (passed (stopping n work (reading x (reached v flag way))))
   unfolding stopping reading read_of
   stop-besides e r =
       let c = counted r (ap (λ (z : Told). z.transfers) e) in
@@ -148,7 +148,7 @@ module _ (v : Texts) (flag : Bool) (way : Way) (n x m : ℕ) (work : List ℕ) (
       }
 
   pub room-besides : gave d g t work ≡ told v flag work (room_done v flag work way n) → m ≡ length (read_of x)
-      → gave (besides m d) g t work
+      → gave (counting m d) g t work
       ≡ told v flag work (passed (storing n work (reading x (reached v flag way))
       (inserted (detail_shape v.desc) (count (detail_shape v.desc) (reached v flag way).buffer - 1) (record_in v.desc work)
       (reached v flag way).buffer)))

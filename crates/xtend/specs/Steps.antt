@@ -27,8 +27,8 @@ lead Here = 1
 lead (By w) = 3
 
 -- transfers counted besides: that read; or those of "the last block is reached as now and a lookup for the key follows" [C24, E2]
-abbrev pub besides : ℕ → Done → Done
-besides more d = record {
+abbrev pub counting : ℕ → Done → Done
+counting more d = record {
   number = d.number;
   transfers = d.transfers + more;
   current = d.current;

@@ -1,5 +1,6 @@
 // The last block holds only the end record, and the key is not above the bound before it: the key is looked up, and where all ordinary records
 // are below it NSERT is planned there.
+// (Why key, path and flag stand beside v: plan.rt.)
 ghost use Rattle.std.specs.Prelude.{◌≡◌, ◌≤◌, length};
 ghost use Rattle.numbers.specs.Refused.{checked};
 ghost use Rattle.words.specs.Words.{part};

@@ -1,4 +1,5 @@
 // What XTEND does once it is planned.
+// What a call holds, the file and the buffer stay three parameters (why: crate acts).
 ghost use Rattle.std.specs.Prelude.{◌≡◌, ◌≤◌, length};
 ghost use Rattle.drum.specs.Blocks.{Block};
 ghost use Rattle.rules.specs.Lookup.{reached};
@@ -6,7 +7,7 @@ ghost use Rattle.rules.specs.Told.{FollowsAt};
 ghost use Rattle.rules.specs.XtendDone.{extend_done};
 ghost use Rattle.acts.specs.Reach.{seen_by};
 ghost use Rattle.xtend.specs.Fits.{Given, EndIn, LastTakes, StartFits, NewFits, SectionFits, ExtendFits};
-ghost use Rattle.xtend.specs.Steps.{besides, lead, read_of, room_done, swapped, started_file, new_all, new_left, section_all, section_left};
+ghost use Rattle.xtend.specs.Steps.{counting, lead, read_of, room_done, swapped, started_file, new_all, new_left, section_all, section_left};
 
 use super::index::{extend_in, start_section};
 use drum::Description;
@@ -22,6 +23,7 @@ pub struct Start {
 }
 
 // How many reads an index block is that is read besides: 0 is no block.
+// 0 and no Option: the number comes from a plan, whose variants are the definitions'.
 #[tactic(auto, unfolding(crate::specs::Steps::read_of))]
 fn reads_of(x: usize) -> usize
     ensures { result ≡ length (read_of x) }
@@ -42,7 +44,7 @@ fn lead_of(way: Way) -> usize
 // What was done, with these transfers counted besides.
 fn count_more(d: Done, more: usize) -> Done
     requires { (d.transfers ≤ 8) × (more ≤ 3) }
-    ensures { result ≡ besides more d }
+    ensures { result ≡ counting more d }
 {
     Done {
         transfers: d.transfers + more,

@@ -1,4 +1,5 @@
 // The entry of a new block: behind the last of its index block, or in a new index block with a section of its own.
+// A block is cut out of the file here, and not in drum: drum's changes are of one row each, and one for both of these would be called here alone.
 ghost use Rattle.std.specs.Prelude.{◌≡◌, [], ◌∷◌, ◌++◌, ◌+◌, ◌≤◌, ◌<◌};
 ghost use Rattle.words.specs.Words.{part};
 ghost use Rattle.words.specs.Keys.{ones};

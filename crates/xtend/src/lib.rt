@@ -1,4 +1,5 @@
 // XTEND: a record put in behind all others, before the end record. What it will do is planned first, from current texts alone; then it is done.
+// What a call holds, the file and the buffer stay three parameters (why: crate acts).
 #![tactic(auto)]
 
 mod before;

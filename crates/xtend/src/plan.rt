@@ -1,4 +1,6 @@
 // What XTEND will do, decided from current texts alone: every number on the way to the last block is checked, and nothing is stored.
+// Key and path stay plain, and what they must be stays a clause: as ghost fields both would name v, and each would hold for one v alone.
+// The flag stands beside v: it is no part of a Seen, whose texts have none.
 ghost use Rattle.std.specs.Prelude.{◌≡◌, ◌≤◌, length};
 ghost use Rattle.numbers.specs.Refused.{checked};
 ghost use Rattle.words.specs.Words.{part};
@@ -14,6 +16,7 @@ use numbers::{NO_ROOM, OUT_OF_SEQUENCE, Refusal};
 use rules::{Extend, Path, Way};
 
 // The last block takes the record: x is the index block that was read for it, or 0.
+// 0 and no Option, here and in the plans below: the variants are the definitions', whose meaning may not change.
 fn last_room(v: Seen, way: Way, x: usize) -> Result<Extend, Refusal>
     requires { AtFits (texts v) way }
     ensures { checked result ≡ last_room (texts v.entry) way x }
@@ -50,6 +53,7 @@ fn alone_deed(v: Seen, flag: bool, key: &[u32], way: Way) -> Result<Extend, Refu
 }
 
 // The end record starts a new block: n is the number of records that the record's block keeps.
+// Block 0 for none: see `Taken` in rules.
 fn start_deed(v: Seen, flag: bool, way: Way, w: Path, n: usize) -> Result<Extend, Refusal>
     ensures { checked result ≡ start_deed (texts v.entry) flag way w n }
 {
@@ -62,6 +66,7 @@ fn start_deed(v: Seen, flag: bool, way: Way, w: Path, n: usize) -> Result<Extend
 }
 
 // And its entry a new index block and section. One form with `start_deed` would be no plainer: other blocks are taken, and another plan made of them.
+// Detail block 0 for none: see `Pair` in rules.
 fn section_deed(v: Seen, flag: bool, way: Way, w: Path, n: usize) -> Result<Extend, Refusal>
     ensures { checked result ≡ section_deed (texts v.entry) flag way w n }
 {

@@ -4,5 +4,5 @@ use lib.ListN.{drop}
 use Rattle.faults.specs.Watching.{watched}
 use Rattle.faults.proofs.watch.look.Given as goal
 
-abbrev pub invariant-loop-i : goal.invariant-loop-i
-invariant-loop-i l = watched l.initial.seen (drop l.from l.bytes) ≡ watched l.seen (drop l.i l.bytes)
+abbrev pub invariant-loop-b : goal.invariant-loop-b
+invariant-loop-b l = watched l.initial.seen (drop l.from l.bytes) ≡ watched l.seen (drop l.b-index l.b-items)
