@@ -55,7 +55,7 @@ pub enum Step {
     Beyond(Path, Path, usize),
 }
 
-// A new block (0: none is free, as the definitions of specs/Free have it), and words 1 and 2 of the master then. Word 2 may be any word while the chain is not empty.
+// A new block (0: none is free, as specs/Free has it), and words 1 and 2 of the master then. Word 2 may be any word while the chain is not empty.
 #[derive(Clone, Copy)]
 pub struct Taken {
     pub block: usize,
