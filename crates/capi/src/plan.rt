@@ -4,7 +4,7 @@ ghost use Rattle.capi.specs.Words.{parameters_in};
 ghost use Rattle.capi.specs.Space.{is_planner};
 ghost use Rattle.capi.specs.Plan.{plan_in};
 
-use super::session::session_in;
+use super::session::{is_session, parameters_in};
 use demands::Plan;
 use drum::Description;
 
@@ -14,13 +14,19 @@ pub const PLAN_WORDS: usize = 8;
 pub const NO_PLAN: u64 = u64::MAX;
 
 // The parameters to plan by: those of a session's words, where they are in range.
+// Within its callers, so that seven numbers need not pass by memory.
+#[inline(always)]
 pub fn planner_in(words: &[u32]) -> Option<Description>
     ensures yes { IfSome result (λ p. is_planner words.now ≡ true) }
     ensures same { IfSome result (λ p. p ≡ parameters_in words.now) }
     ensures no { IfNone result (is_planner words.now ≡ false) }
 {
-    let s = session_in(words)?;
-    if s.desc.is_good() { Some(s.desc) } else { None }
+    if !is_session(words) {
+        return None;
+    }
+    // The parameters alone: a planner needs no position, which would be 63 words copied.
+    let p = parameters_in(words);
+    if p.is_good() { Some(p) } else { None }
 }
 
 // The plan that eight words are.

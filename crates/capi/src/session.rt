@@ -22,7 +22,7 @@ pub const WRONG_WORDS: u64 = 0o020007;
 
 // Whether the words are a session's.
 #[tactic(auto, unfolding(crate::specs::Words::is_session))]
-fn is_session(words: &[u32]) -> bool
+pub fn is_session(words: &[u32]) -> bool
     ensures { result ≡ is_session words.now }
 {
     SESSION_WORDS <= words.len()
@@ -44,7 +44,7 @@ fn form_in(words: &[u32]) -> usize
 }
 
 // The parameters that stand in a session's words.
-fn parameters_of(words: &[u32]) -> Description
+pub fn parameters_in(words: &[u32]) -> Description
     requires { 73 ≤ length words.now }
     ensures { result ≡ parameters_in words.now }
 {
@@ -59,6 +59,23 @@ fn parameters_of(words: &[u32]) -> Description
     }
 }
 
+// The session that the words are.
+pub fn session_of(words: &[u32]) -> Session
+    requires { 73 ≤ length words.now }
+    ensures { held result ≡ session_of words.now }
+{
+    let mut position = [0; 63];
+    words::copy_words(&mut position, 0, words, 10, 63);
+    Session {
+        desc: parameters_in(words),
+        opened: words[6] == 1,
+        current: words::word_at(words, 7),
+        flag: words[8] == 1,
+        placed: words[9] == 1,
+        position,
+    }
+}
+
 // The session that the words are, where they are one's.
 pub fn session_in(words: &[u32]) -> Option<Session>
     ensures yes { IfSome result (λ s. is_session words.now ≡ true) }
@@ -68,16 +85,7 @@ pub fn session_in(words: &[u32]) -> Option<Session>
     if !is_session(words) {
         return None;
     }
-    let mut position = [0; 63];
-    words::copy_words(&mut position, 0, words, 10, 63);
-    Some(Session {
-        desc: parameters_of(words),
-        opened: words[6] == 1,
-        current: words::word_at(words, 7),
-        flag: words[8] == 1,
-        placed: words[9] == 1,
-        position,
-    })
+    Some(session_of(words))
 }
 
 // Writes a session over the words of one with the same parameters: these, the form too, stand there.

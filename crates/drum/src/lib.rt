@@ -188,29 +188,26 @@ impl Description {
     }
 
     // Whether the parameters keep document 01's table.
+    #[tactic(auto, unfolding(crate::specs::Params::good_params, crate::specs::Params::every))]
     pub fn is_good(self) -> bool
         ensures { result ≡ good_params self }
     {
-        let d = self.d();
-        let i = self.i();
-        every(&[
-            self.wpb % 2 == 0,
-            Self::LEAST_WPB <= self.wpb,
-            self.wpb <= Self::MOST_WPB,
-            1 <= self.k,
-            self.k <= Self::MOST_K,
-            self.k <= self.wpr,
-            2 <= d,
-            2 <= i,
-            self.space <= d.saturating_sub(2),
-            self.space <= i.saturating_sub(2),
-            1 <= self.control,
-            self.control <= Self::MOST_CONTROL,
-            2 <= self.n,
-            self.n <= Self::MOST_N,
-            Self::FIRST <= self.form,
-            self.form <= Self::SECOND,
-        ])
+        self.wpb % 2 == 0
+            && Self::LEAST_WPB <= self.wpb
+            && self.wpb <= Self::MOST_WPB
+            && 1 <= self.k
+            && self.k <= Self::MOST_K
+            && self.k <= self.wpr
+            && 2 <= self.d()
+            && 2 <= self.i()
+            && self.space <= self.d() - 2
+            && self.space <= self.i() - 2
+            && 1 <= self.control
+            && self.control <= Self::MOST_CONTROL
+            && 2 <= self.n
+            && self.n <= Self::MOST_N
+            && Self::FIRST <= self.form
+            && self.form <= Self::SECOND
     }
 
     // The words of the master, and of the file, of parameters that are good.
@@ -303,13 +300,6 @@ impl Description {
         }
         file == self.file_words() && buffer == self.wpb
     }
-}
-
-// Whether each of the tests holds.
-fn every(tests: &[bool]) -> bool
-    ensures { result ≡ every tests.now }
-{
-    tests.iter().all(|holds| *holds)
 }
 
 // Brings block b of the file into the buffer.

@@ -79,6 +79,8 @@ impl Watch {
 }
 
 // Looks at bytes from place `from` on, up to the first line feed.
+// Not within its caller, as `lines::take`.
+#[inline(never)]
 pub fn look(w: Watch, bytes: &[u8], from: usize) -> Watch
     requires { from ≤ length bytes.now }
     ensures { result ≡ watched w (drop from bytes.now) }

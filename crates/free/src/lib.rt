@@ -16,6 +16,7 @@ pub use ready::prepare;
 use rules::{Pair, Path, Taken};
 
 // Whether no block is free, with these words 1 and 2 of the master.
+#[tactic(auto, unfolding(rules::specs::Free::none_left))]
 fn none_left(p: Description, head: usize, lowest: u32) -> Result<bool, Refusal>
     requires { good_params p ≡ true }
     ensures { checked result ≡ none_left p head lowest }

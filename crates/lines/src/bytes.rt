@@ -2,11 +2,12 @@
 ghost use Rattle.std.specs.Prelude.{◌≡◌};
 ghost use Rattle.lines.specs.Lines.{is_blank, is_digit};
 
+// One test passes the bytes of most words.
 #[tactic(auto, unfolding(crate::specs::Lines::is_blank))]
 pub fn is_blank(b: u8) -> bool
     ensures { result ≡ is_blank b }
 {
-    matches!(b, b' ' | b'\t' | b'\r' | b'\x0c')
+    b <= b' ' && matches!(b, b' ' | b'\t' | b'\r' | b'\x0c')
 }
 
 #[tactic(auto, unfolding(crate::specs::Lines::is_digit))]

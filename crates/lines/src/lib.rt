@@ -150,6 +150,8 @@ impl Reading {
 }
 
 // Reads bytes from place `from` on, up to and with the first line feed.
+// Not within its caller, where what it keeps of a byte would lie on the stack.
+#[inline(never)]
 pub fn take(r: Reading, bytes: &[u8], from: usize, name: &mut [u8], numbers: &mut [u32]) -> Taken
     requires { from ≤ length bytes.now }
     ensures { took result name.new numbers.new

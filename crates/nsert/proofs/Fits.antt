@@ -6,8 +6,11 @@ use mathlib.Core.List.{List}
 use native.Mathlib.Omega.{arith}
 use borrow.Author.Tests.{ltb-true}
 use lib.Dec.{ltb, eqb}
+use Rattle.std.proofs.Common.{Result, Ok, Err, IfOk}
+use Rattle.numbers.specs.declared.Refusal.{Refusal}
 use Rattle.numbers.specs.Numbers.{not_found}
 use Rattle.numbers.specs.Checked.{passed}
+use Rattle.numbers.specs.Refused.{checked}
 use Rattle.table.specs.Tables.{count, row_above, fits}
 use Rattle.table.specs.declared.Want.TheVariants.{Over}
 use Rattle.table.proofs.Searches.{first-le}
@@ -87,5 +90,7 @@ module _ (v : Texts) (flag : Bool) (key : List ℕ) where
   deed-passed = by-bind (look v flag key) (λ l. insert_after v flag key l) (λ l e. after-passed l (looked l e))
 
 -- what a plan that was passed tells the code that does it
-pub plan-fits : (v : Texts) (flag : Bool) (key : List ℕ) (d : Insert) → passed d ≡ insert_deed v flag key → InsertFits v flag d
-plan-fits v flag key d e = (deed-passed v flag key).holds d (sym e)
+pub plan-fits : (v : Texts) (flag : Bool) (key : List ℕ) (plan : Result Insert Refusal) → checked plan ≡ insert_deed v flag key
+    → IfOk plan (InsertFits v flag)
+plan-fits v flag key (Ok d) e = (deed-passed v flag key).holds d (sym e)
+plan-fits v flag key (Err r) e = search

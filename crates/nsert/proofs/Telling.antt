@@ -1,5 +1,5 @@
 -- What the code tells of a record stored, of a block split and of both blocks split, is what the definition tells.
-use mathlib.Core.Path.{◌≡◌, refl, sym, ap, ◌∙◌, subst}
+use mathlib.Core.Path.{◌≡◌, sym, ap, ◌∙◌, subst}
 use mathlib.Core.Bool.{Bool, true, false, cond}
 use mathlib.Core.List.{List, [], ◌++◌}
 use Prim.Native.Nat.{ℕ, ◌+◌, ◌≤◌, ◌<◌}
@@ -9,7 +9,10 @@ use lib.Dec.{ltb}
 use mir.Syntax.{w64}
 use mir.Val.{Fits}
 use lib.ListN.{length, length-append}
-use Rattle.numbers.specs.Checked.{passed, refused}
+use Rattle.std.proofs.Common.{Result, Ok, Err}
+use Rattle.numbers.specs.declared.Refusal.{Refusal}
+use Rattle.numbers.specs.Checked.{passed}
+use Rattle.numbers.specs.Refused.{checked}
 use Rattle.words.specs.Words.{part}
 use Rattle.table.specs.declared.Shape.{Shape}
 use Rattle.table.specs.Tables.{count, place, inserted}
@@ -32,7 +35,7 @@ use Rattle.rules.specs.Lookup.{bringing, reached, storing, landing, stopping}
 use Rattle.rules.specs.Fits.{WayFits}
 use Rattle.rules.specs.Nsert.{insert_deed}
 use Rattle.rules.specs.NsertDone.{half_of, split_moves, both_split_moves, split_file, both_split_file, insert_done, nsert_steps}
-use Rattle.rules.specs.Told.{gave, told}
+use Rattle.rules.specs.Told.{Told, gave, told}
 use Rattle.rules.proofs.Rooms.{detail-row}
 use Rattle.rules.proofs.Kept.{reached-text}
 use Rattle.acts.specs.declared.Arrived.{Arrived}
@@ -41,6 +44,7 @@ use Rattle.acts.proofs.Moves.{stopped}
 use Rattle.acts.proofs.Ways.{moves-most}
 use Rattle.nsert.specs.declared.splits.Overflow.{Overflow}
 use Rattle.nsert.specs.Fits.{RoomFits, CutFits, HalfFits, SplitFits, BothFits, InsertFits, one_split, first_split}
+use Rattle.nsert.specs.Plans.{plan_done}
 
 -- a key lies in a record
 pub key-within : (p : Description) (f b : List ℕ) → Fitting p f b → p.k ≤ p.wpr
@@ -219,19 +223,10 @@ module _ (p : Description) (cur : ℕ) (f b : List ℕ) (flag : Bool) (w : Path)
   pub five-more : Fits w64 (m + 5)
   five-more = let k = moves-most (seen p cur f b) flag (By w) in omega arith
 
--- NSERT by its plan and by what was done
-module _ (p : Description) (cur : ℕ) (f b : List ℕ) (flag : Bool) (work : List ℕ) (r : Done) where
-  abbrev y : Texts
-  y = seen p cur f b
-
-  pub nsert-told : (d : Insert) (g h : List ℕ) → passed d ≡ insert_deed y flag (key_in p work)
-      → gave r g h work ≡ told y flag work (insert_done y flag work d)
-      → gave r g h work ≡ told y flag work (nsert_steps y flag work)
-  unfolding nsert_steps
-  nsert-told d g h e t = rw (← e) t
-
-  pub nsert-refused : (n : ℕ) → refused n ≡ insert_deed y flag (key_in p work)
-      → r ≡ record { number = n; transfers = 0; current = cur; flag = flag; keyed = false }
-      → gave r f b work ≡ told y flag work (nsert_steps y flag work)
-  unfolding nsert_steps
-  nsert-refused n e er = rw (← e, er) refl
+-- NSERT by its plan and by what came of it
+pub nsert-told : (u : Texts) (flag : Bool) (work : List ℕ) (plan : Result Insert Refusal) (r : Told)
+    → checked plan ≡ insert_deed u flag (key_in u.desc work) → r ≡ told u flag work (plan_done u flag work plan)
+    → r ≡ told u flag work (nsert_steps u flag work)
+unfolding nsert_steps
+nsert-told u flag work (Ok d) r e t = rw (← e) t
+nsert-told u flag work (Err x) r e t = rw (← e) t

@@ -1,6 +1,6 @@
 // What NSERT does once it is planned.
 // What a call holds, the file and the buffer stay three parameters (why: crate acts).
-ghost use Rattle.std.specs.Prelude.{◌≡◌, true, false, ◌≤◌, length};
+ghost use Rattle.std.specs.Prelude.{◌≡◌, true, false, ◌≤◌, length, IfOk};
 ghost use Rattle.table.specs.Tables.{inserted};
 ghost use Rattle.drum.specs.Params.{D, detail_shape};
 ghost use Rattle.drum.specs.Blocks.{Fitting, block_at};
@@ -11,9 +11,11 @@ ghost use Rattle.rules.specs.NsertDone.{half_of, insert_done};
 ghost use Rattle.rules.specs.State.{record_in};
 ghost use Rattle.rules.specs.Told.{FollowsAt};
 ghost use Rattle.nsert.specs.Fits.{HalfFits, Lent, RoomFits, InsertFits};
+ghost use Rattle.nsert.specs.Plans.{plan_done};
 
 use super::splits::{Overflow, write_both, write_split};
 use drum::Description;
+use numbers::Refusal;
 use rules::{Done, Held, Insert, Path, Taken, Way};
 
 // Of the two blocks of a split, the half with the record put in at place i of n.
@@ -101,5 +103,24 @@ pub fn do_nsert(deed: Insert, at: Held, file: &mut [u32], buffer: &mut [u32], wo
             let moved = write_both(at, file, buffer, work, c, x.block);
             land_half(p, file, buffer, c, number, moved + 5)
         }
+    }
+}
+
+// What a plan came to: its deed is done; what refused it is refused, and nothing changes.
+pub fn do_plan(
+    plan: Result<Insert, Refusal>,
+    at: Held,
+    file: &mut [u32],
+    buffer: &mut [u32],
+    work: &[u32],
+) -> Done
+    requires { Fitting at.desc file.old buffer.old
+        × (length work.now ≡ at.desc.wpr)
+        × IfOk plan (InsertFits (seen_by at file.old buffer.old) at.flag) }
+    ensures { FollowsAt result (λ v flag work. plan_done v flag work plan) at (file.old, file.new) (buffer.old, buffer.new) (work.now, work.now) }
+{
+    match plan {
+        Ok(deed) => do_nsert(deed, at, file, buffer, work),
+        Err(refusal) => at.refused(refusal),
     }
 }

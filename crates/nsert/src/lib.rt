@@ -24,8 +24,5 @@ pub fn nsert(at: Held, file: &mut [u32], buffer: &mut [u32], work: &[u32]) -> Do
         file,
         buffer,
     };
-    match plan::plan_nsert(v, at.flag, work) {
-        Ok(deed) => deeds::do_nsert(deed, at, file, buffer, work),
-        Err(refusal) => at.refused(refusal),
-    }
+    deeds::do_plan(plan::plan_nsert(v, at.flag, work), at, file, buffer, work)
 }

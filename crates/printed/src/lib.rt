@@ -98,6 +98,7 @@ pub fn refuse_line(r: Reading, name: &[u8], out: &mut [u8], at: usize) -> Result
 }
 
 // Whether the workspace is printed: "for SEEK and ADV answering 0 or 030002".
+#[tactic(auto, unfolding(rules::specs::Run::shows))]
 fn shows(call: Call, number: u32) -> bool
     ensures { result ≡ shows_work call number }
 {

@@ -134,19 +134,28 @@ pub enum Call {
     Xtend { at: usize },
 }
 
-impl Held {
+impl Done {
     // A refusal: "all unchanged", 0 transfers.
+    pub fn refused(number: u32, current: usize, flag: bool) -> Self
+        ensures { result ≡ record { number = number; transfers = 0; current = current; flag = flag; keyed = false } }
+    {
+        Self {
+            number,
+            transfers: 0,
+            current,
+            flag,
+            keyed: false,
+        }
+    }
+}
+
+impl Held {
+    // The same, of what is held.
     pub fn refused(self, refusal: Refusal) -> Done
         ensures { result
             ≡ record
             { number = number_of refusal; transfers = 0; current = self.current; flag = self.flag; keyed = false } }
     {
-        Done {
-            number: u32::from(refusal),
-            transfers: 0,
-            current: self.current,
-            flag: self.flag,
-            keyed: false,
-        }
+        Done::refused(u32::from(refusal), self.current, self.flag)
     }
 }

@@ -111,7 +111,8 @@ fn find_row(w: Want, h: Shape, t: &[u32], n: usize, key: &[u32], at: usize) -> u
     ensures { result ≡ first_where (fits w h (part at h.width key.now) t.now) n }
 {
     let low = low_rows(h, t, n, key, at);
-    for i in low_after(h, t, low, n, key, at)..n {
+    let first = low_after(h, t, low, n, key, at);
+    for i in first..n {
         if is_wanted(w, words::compare_keys(t, h.place(i), key, at, h.width)) {
             return i;
         }
@@ -163,9 +164,11 @@ pub fn find(w: Want, h: Shape, t: &[u32], n: usize, key: &[u32], at: usize) -> u
     requires { (place h n ≤ length t.now) × (h.width ≤ h.stride) × (at + h.width ≤ length key.now) }
     ensures { result ≡ first_where (fits w h (part at h.width key.now) t.now) n }
 {
+    // Each by a call of its own, so that each search is compiled with what it wants known.
     match w {
         Want::Equal => same_row(h, t, n, key, at),
-        Want::NotBelow | Want::Over => find_row(w, h, t, n, key, at),
+        Want::NotBelow => find_row(w, h, t, n, key, at),
+        Want::Over => find_row(w, h, t, n, key, at),
     }
 }
 

@@ -9,11 +9,14 @@ ghost use Rattle.words.specs.Keys.{order, key_lt, same_key};
 use std::cmp::Ordering;
 
 // Writes the n words of src from word `from` on over those of dst from word `at` on.
+// By number: the library's `copy_from_slice` becomes a call of `memmove`, which an archive for C would then need from outside.
 pub fn copy_words(dst: &mut [u32], at: usize, src: &[u32], from: usize, n: usize)
     requires { (at + n ≤ length dst.old) × (from + n ≤ length src.now) }
     ensures { dst.new ≡ put dst.old at (part from n src.now) }
 {
-    dst[at..at + n].copy_from_slice(&src[from..from + n]);
+    for i in 0..n {
+        dst[at + i] = src[from + i];
+    }
 }
 
 // Writes zeros over the n words of t from word `at` on.

@@ -4,7 +4,7 @@ use Rattle.table.proofs.Turns.{unwanted, found_at, found_none, passed_over_lem}
 use Rattle.table.proofs.find_row.Goals as goal
 
 pub loop-i-init : goal.loop-i-init
-loop-i-init c = unwanted _ _ _ _ _ c.low_after-i.ensures.1
+loop-i-init c = unwanted _ _ _ _ _ c.low_after-first.ensures.1
 
 pub returns-then-is_wanted : goal.returns-then-is_wanted
 returns-then-is_wanted c = search found_at

@@ -1,15 +1,16 @@
 -- `capi::plan::planner_in` meets its contract: the words are no session's, or the session's parameters are in range or not.
-use Rattle.capi.proofs.Planner.{planner-none, planner-same, planner_by}
+use Rattle.capi.proofs.Words.{asked-whole}
+use Rattle.capi.proofs.Planner.{planner-none, planner_by}
 use Rattle.capi.proofs.plan.planner_in.Goals as goal
 
-pub returns-in_err-s-clause-no : goal.returns-in_err-s-clause-no
-returns-in_err-s-clause-no c = rw c.from_residual.ensures (planner-none _ c.in_err-s.ensures.no)
+pub parameters_in-p-requires : goal.parameters_in-p-requires
+parameters_in-p-requires c = search asked-whole
+
+pub returns-then-not-is_session-clause-no : goal.returns-then-not-is_session-clause-no
+returns-then-not-is_session-clause-no c = search planner-none
 
 pub returns-then-is_good-clause-yes : goal.returns-then-is_good-clause-yes
-returns-then-is_good-clause-yes c = search (planner_by, c.in_ok-s.ensures.yes, c.in_ok-s.ensures.same)
-
-pub returns-then-is_good-clause-same : goal.returns-then-is_good-clause-same
-returns-then-is_good-clause-same c = planner-same _ _ c.in_ok-s.ensures.same
+returns-then-is_good-clause-yes c = search planner_by
 
 pub returns-else-is_good-clause-no : goal.returns-else-is_good-clause-no
-returns-else-is_good-clause-no c = search (planner_by, c.in_ok-s.ensures.yes, c.in_ok-s.ensures.same)
+returns-else-is_good-clause-no c = search planner_by

@@ -1,4 +1,6 @@
 -- `salvage::texts::missed` meets its contract: each return is the first test that fails.
+use mathlib.Core.Logic.{inl, inr}
+use native.Mathlib.Omega.{arith}
 use Rattle.salvage.proofs.Tests.{text-some, missed-marked, missed-none, missed-many, span_fits, words-within}
 use Rattle.salvage.proofs.Tests.{key-short, missed-word, missed-order, missed-nothing}
 use Rattle.salvage.proofs.texts.missed.Goals as goal
@@ -8,17 +10,17 @@ pub word_at-word-requires : goal.word_at-word-requires
 word_at-word-requires c = search text-some
 
 pub returns-then-word-lt-DETAIL : goal.returns-then-word-lt-DETAIL
-returns-then-word-lt-DETAIL c = missed-marked c.args.p c.args.t.now c.word_at-word.result c.word_at-word.ensures c.then-word-lt-DETAIL.either
+returns-then-word-lt-DETAIL c =
+    missed-marked c.args.p c.args.t.now c.word_at-word.result c.word_at-word.ensures
+    (elim c.then-word-lt-DETAIL.either [ inl low ↦ inl (omega arith) | inr high ↦ inr (omega arith) ])
 
 pub returns-then-count-lt1 : goal.returns-then-count-lt1
 returns-then-count-lt1 c =
-    let low = c.if-word-lt-DETAIL.false in
-    let high = c.if-word-ge-FREE.false in
     elim c.then-count-lt1.branch [
       | then-count-lt1-via-then-count-lt1 w ↦
-          missed-none c.args.p c.args.t.now c.word_at-word.result c.word_at-word.ensures low high w.if-count-lt1.true
+          missed-none c.args.p c.args.t.now c.word_at-word.result c.word_at-word.ensures (omega arith) (omega arith) w.if-count-lt1.true
       | then-count-lt1-via-else-count-lt1+then-d-count w ↦
-          missed-many c.args.p c.args.t.now c.word_at-word.result c.word_at-word.ensures low high w.d.result w.d.ensures w.if-d-count.true
+          missed-many c.args.p c.args.t.now c.word_at-word.result c.word_at-word.ensures (omega arith) (omega arith) w.d.result w.d.ensures w.if-d-count.true
     ]
 
 pub overflow_mul-count : goal.overflow_mul-count

@@ -1,6 +1,0 @@
--- `capi::session::parameters_of` meets its contract: six words read, and the form.
-use Rattle.capi.proofs.Words.{parameters-by}
-use Rattle.capi.proofs.session.parameters_of.Goals as goal
-
-pub returns : goal.returns
-returns c = search parameters-by
